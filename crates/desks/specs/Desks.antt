@@ -1,8 +1,7 @@
 -- What each session has under way, by number.
 use Rattle.std.specs.Prelude.{ℕ, ◌+◌, Bool, true, false, Option, Some, None, List, slice_set, slice_index_or}
-use Rattle.desks.specs.declared.desk.Desk.{Desk}
-use Rattle.desks.specs.declared.desk.Doing.{Doing}
-use Rattle.desks.specs.declared.desk.Doing.TheVariants.{Nothing, Searching}
+use Rattle.desks.specs.{declared.desk.Desk.Desk, declared.desk.Doing.Doing, declared.desk.Doing.TheVariants.Nothing}
+use Rattle.desks.specs.{declared.desk.Doing.TheVariants.Searching}
 
 -- a session that has started nothing
 abbrev pub fresh_desk : Desk

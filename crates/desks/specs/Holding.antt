@@ -1,43 +1,27 @@
 -- What holds of the lists between calls.
 use Rattle.std.specs.Prelude.{◌≡◌, ◌≢◌, ℕ, ◌+◌, ◌<◌, ◌≤◌, ◌^◌, ◌==◌, Bool, true, false, List, [], ◌∷◌, length, slice_get, Option, None, Some, is_some}
 use Rattle.std.specs.FinMap.{get}
-use Rattle.inno_db.specs.Database.{Database}
-use Rattle.inno_db.specs.declared.limits.TheConstants.{MOST_TABLES}
-use Rattle.inno_db.specs.declared.change.Change.{Change}
-use Rattle.inno_model.specs.declared.event.Event.{Event}
-use Rattle.inno_model.specs.declared.event.Event.TheVariants.{Opened}
+use Rattle.inno_db.specs.{Database.Database, declared.limits.TheConstants.MOST_TABLES, declared.change.Change.Change}
+use Rattle.inno_model.specs.{declared.event.Event.Event, declared.event.Event.TheVariants.Opened}
 use Rattle.sql_history.specs.Counts.{rows_in, most_rows}
 use Rattle.inno_model.specs.Past.{own, started, under_way, of_item, awaits_ack}
 use Rattle.store_api.specs.declared.answers.Undo.{Undo}
 use Rattle.read_view.specs.Sight.{Sight as ReadSight}
-use Rattle.row_versions.specs.declared.place.Place.{Place}
-use Rattle.row_versions.specs.Chains.{Chains, in_model, versions_at}
-use Rattle.law_past_agreement.specs.Rows.{place_in}
-use Rattle.law_past_agreement.specs.Agreement.{IsOpenedWith}
+use Rattle.row_versions.specs.{declared.place.Place.Place, Chains.Chains, Chains.in_model, Chains.versions_at}
+use Rattle.law_past_agreement.specs.{Rows.place_in, Agreement.IsOpenedWith}
 use Rattle.world.specs.State.{WorldState, Session, Work, Logged, Seen, IsSession, HasWork}
-use Rattle.world.specs.declared.undo_room.UndoRoom.{UndoRoom}
-use Rattle.world.specs.Undoing.{read_into}
+use Rattle.world.specs.{declared.undo_room.UndoRoom.UndoRoom, Undoing.read_into}
 use Rattle.law_world_agreement.specs.Agreement.{Agrees, sight_of}
-use Rattle.row_changes.specs.Told.{HasRows}
-use Rattle.row_changes.specs.Rows.{IsChangingRow}
-use Rattle.row_changes.specs.declared.keys_change.KeysChange.{KeysChange}
-use Rattle.row_changes.specs.declared.row_change.RowChange.{RowChange}
-use Rattle.row_changes.specs.declared.row_change.RowChange.TheVariants.{Record, Keys}
-use Rattle.row_search.specs.declared.sight.Sight.{Sight}
-use Rattle.row_search.specs.declared.sight.Sight.TheVariants.{View, Newest}
-use Rattle.undo_apply.specs.declared.work_room.WorkRoom.{WorkRoom}
-use Rattle.undo_apply.specs.declared.work_room.Stage.TheVariants.{Find}
-use Rattle.undo_apply.specs.Rooms.{IsWhole}
-use Rattle.undo_apply.specs.Stages.{IsPuttingBack}
+use Rattle.row_changes.specs.{Told.HasRows, Rows.IsChangingRow, declared.keys_change.KeysChange.KeysChange, declared.row_change.RowChange.RowChange}
+use Rattle.row_changes.specs.{declared.row_change.RowChange.TheVariants.Record, declared.row_change.RowChange.TheVariants.Keys}
+use Rattle.row_search.specs.{declared.sight.Sight.Sight, declared.sight.Sight.TheVariants.View, declared.sight.Sight.TheVariants.Newest}
+use Rattle.undo_apply.specs.{declared.work_room.WorkRoom.WorkRoom, declared.work_room.Stage.TheVariants.Find, Rooms.IsWhole, Stages.IsPuttingBack}
 use Rattle.shared_lists.specs.Fitting.{CanBeCoded, FitsThen}
-use Rattle.law_logged_changes.specs.Pointers.{PointersApart}
-use Rattle.law_logged_changes.specs.Logs.{LogsAgree}
+use Rattle.law_logged_changes.specs.{Pointers.PointersApart, Logs.LogsAgree}
 use Rattle.law_found_rows.specs.Finding.{IsFinding, IsFindingAnew}
-use Rattle.desks.specs.declared.desk.Desk.{Desk}
-use Rattle.desks.specs.declared.desk.Doing.{Doing}
+use Rattle.desks.specs.{declared.desk.Desk.Desk, declared.desk.Doing.Doing, declared.desk.TableSearch.TableSearch, Desks.desk_at, Desks.doing_at}
+use Rattle.desks.specs.{Desks.is_quiet_doing}
 use Rattle.desks.specs.declared.desk.Doing.TheVariants.{Nothing, Searching, Changing, Lagging, Undoing}
-use Rattle.desks.specs.declared.desk.TableSearch.{TableSearch}
-use Rattle.desks.specs.Desks.{desk_at, doing_at, is_quiet_doing}
 
 -- each place has few versions: those of this history, and not too many older ones
 abbrev pub AreFew : Chains → List Event → Type 0

@@ -3,8 +3,7 @@ use Rattle.std.specs.Prelude.{◌≡◌, ◌≢◌, ◌⊎◌, ℕ, ◌+◌, Lis
 use Rattle.inno_types.specs.declared.value.Schema.{Schema}
 use Rattle.row_versions.specs.Chains.{Chains}
 use Rattle.law_stored_rows.specs.Records.{KeepsMore}
-use Rattle.world.specs.State.{WorldState}
-use Rattle.world.specs.Told.{IsTold}
+use Rattle.world.specs.{State.WorldState, Told.IsTold}
 use Rattle.law_world_agreement.specs.Agreement.{Agrees}
 use Rattle.law_found_rows.specs.Pasts.{AddsAtMostOne}
 

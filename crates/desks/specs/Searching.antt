@@ -2,18 +2,12 @@
 use Rattle.std.specs.Prelude.{ℕ, ◌+◌, ◌-◌, ◌*◌, ◌^◌, List, [], ◌∷◌, length, Option}
 use Rattle.entries.specs.Pairs.{Pair}
 use Rattle.row_versions.specs.declared.kept.Kept.{Kept}
-use Rattle.world.specs.State.{WorldState, index_of}
-use Rattle.world.specs.Told.{pairs_of}
-use Rattle.row_search.specs.declared.phase.Phase.{Phase}
+use Rattle.world.specs.{State.WorldState, State.index_of, Told.pairs_of}
+use Rattle.row_search.specs.{declared.phase.Phase.Phase, Searches.place_in, Searches.pairs_behind, Tables.most_versions}
 use Rattle.row_search.specs.declared.phase.Phase.TheVariants.{Seek, Follow, Fetch, Look, Walk, Keep, Sort, Leave}
-use Rattle.row_search.specs.Searches.{place_in, pairs_behind}
-use Rattle.row_search.specs.Tables.{most_versions}
 use Rattle.shared_lists.specs.State.{Places, no_places}
-use Rattle.desks.specs.declared.desk.Doing.{Doing}
-use Rattle.desks.specs.declared.desk.Doing.TheVariants.{Searching}
-use Rattle.desks.specs.declared.desk.TableSearch.{TableSearch}
-use Rattle.desks.specs.declared.desk.Desk.{Desk}
-use Rattle.desks.specs.Undoing.{versions_from}
+use Rattle.desks.specs.{declared.desk.Doing.Doing, declared.desk.Doing.TheVariants.Searching, declared.desk.TableSearch.TableSearch, declared.desk.Desk.Desk}
+use Rattle.desks.specs.{Undoing.versions_from}
 
 -- the keys of the index behind the one that the search is at, and that one; all of them before the first is sought
 abbrev pub keys_left : Option Pair → List Pair → Phase → ℕ

@@ -3,9 +3,7 @@ use Rattle.std.specs.Prelude.{ℕ, zero, suc, ◌+◌, ◌*◌, ◌^◌, ◌==�
 use Rattle.inno_types.specs.declared.value.Schema.{Schema}
 use Rattle.row_versions.specs.declared.kept.Kept.{Kept}
 use Rattle.world.specs.State.{WorldState}
-use Rattle.undo_apply.specs.declared.work_room.Stage.{Stage}
-use Rattle.undo_apply.specs.declared.work_room.Stage.TheVariants.{Walk}
-use Rattle.undo_apply.specs.Rooms.{steps_left}
+use Rattle.undo_apply.specs.{declared.work_room.Stage.Stage, declared.work_room.Stage.TheVariants.Walk, Rooms.steps_left}
 
 abbrev pub one_more : Option Kept → (ℕ → ℕ) → ℕ
 one_more None further = 0

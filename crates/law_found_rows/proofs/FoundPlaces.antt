@@ -8,13 +8,11 @@ use Rattle.std.specs.FinMap.Entries.{below_all}
 use Rattle.std.specs.declared.cmp.Ordering.{Ordering}
 use Rattle.std.specs.declared.cmp.Ordering.TheVariants.{Less, Equal}
 use Rattle.std.proofs.lemmas.List.Sums.{sum_by-cons}
-use Rattle.inno_types.specs.declared.value.Value.{Value}
-use Rattle.inno_types.specs.declared.value.Schema.{Schema}
+use Rattle.inno_types.specs.{declared.value.Value.Value, declared.value.Schema.Schema}
 use Rattle.inno_db.specs.Database.{place_cmp, value_cmp, key_of}
 use Rattle.entries.specs.Pairs.{key_cmp}
 use Rattle.law_stored_rows.specs.Entries.{is_same_value}
-use Rattle.law_stored_rows.proofs.Values.{in_one_table, same_value}
-use Rattle.law_stored_rows.proofs.FirstPlaces.{keys_order}
+use Rattle.law_stored_rows.proofs.{Values.in_one_table, Values.same_value, FirstPlaces.keys_order}
 use Rattle.sql_plan.specs.Visits.{kind_at, primary_key}
 use Rattle.law_past_agreement.specs.DatabaseTables.{at_places, rows_in}
 use Rattle.row_search.specs.declared.found.FoundRow.{FoundRow}

@@ -4,8 +4,7 @@ use Rattle.std.proofs.lemmas.Bool.Decides.{nat_tests, eqb_tells}
 use Rattle.std.specs.List.{list_any}
 use Rattle.inno_types.specs.declared.value.Value.{Value}
 use Rattle.inno_db.specs.declared.change.Change.{Change}
-use Rattle.inno_model.specs.declared.event.Event.{Event}
-use Rattle.inno_model.specs.Past.{own, commits, committed}
+use Rattle.inno_model.specs.{declared.event.Event.Event, Past.own, Past.commits, Past.committed}
 use Rattle.row_versions.specs.declared.place.Place.{Place}
 use Rattle.law_past_agreement.specs.Order.{created}
 use Rattle.law_past_agreement.specs.Rows.{is_at, row_at, row_opened, row_seen, IsNewestSeen}

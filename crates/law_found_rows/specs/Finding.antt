@@ -1,15 +1,11 @@
 -- How far a search has come in a world with certain rows, and what steps of others leave to it.
 use Rattle.std.specs.Prelude.{◌≡◌, ℕ, IsTrue, Some, slice_get}
-use Rattle.inno_types.specs.declared.value.Value.{Value}
-use Rattle.inno_types.specs.declared.value.Schema.{Schema}
+use Rattle.inno_types.specs.{declared.value.Value.Value, declared.value.Schema.Schema}
 use Rattle.row_versions.specs.Chains.{Chains}
 use Rattle.law_stored_rows.specs.Tables.{in_table}
 use Rattle.world.specs.State.{WorldState}
-use Rattle.row_search.specs.declared.scan.Scan.{Scan}
-use Rattle.row_search.specs.declared.search.RowSearch.{RowSearch}
-use Rattle.row_search.specs.Sights.{rows_seen}
-use Rattle.row_search.specs.Searches.{IsSearching, Finds, place_in}
-use Rattle.row_search.specs.Others.{KeepsFound, KeepsSearching, NeedsNoVersion}
+use Rattle.row_search.specs.{declared.scan.Scan.Scan, declared.search.RowSearch.RowSearch, Sights.rows_seen, Searches.IsSearching, Searches.Finds}
+use Rattle.row_search.specs.{Searches.place_in, Others.KeepsFound, Others.KeepsSearching, Others.NeedsNoVersion}
 
 -- The session's search may go on, and has found what it came past of these rows.
 pub record IsFinding (s : ℕ) (schema : Schema) (state : WorldState) (chains : Chains) (search : RowSearch) : Type 0 where

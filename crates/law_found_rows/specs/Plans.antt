@@ -1,10 +1,7 @@
 -- Statements that search a table, and plans that hold all of it.
 use Rattle.std.specs.Prelude.{◌≡◌, false, ℕ, List, Some}
-use Rattle.inno_types.specs.declared.stmt.Bound.TheVariants.{Open}
-use Rattle.inno_types.specs.declared.stmt.Filter.{Filter}
-use Rattle.inno_types.specs.declared.stmt.Range.{Range}
-use Rattle.inno_types.specs.declared.stmt.Stmt.{Stmt}
-use Rattle.inno_types.specs.declared.stmt.Stmt.TheVariants.{Select, Update, Delete}
+use Rattle.inno_types.specs.{declared.stmt.Bound.TheVariants.Open, declared.stmt.Filter.Filter, declared.stmt.Range.Range, declared.stmt.Stmt.Stmt}
+use Rattle.inno_types.specs.{declared.stmt.Stmt.TheVariants.Select, declared.stmt.Stmt.TheVariants.Update, declared.stmt.Stmt.TheVariants.Delete}
 
 -- The statement searches this table for the rows that meet the condition.
 abbrev pub SearchesFor : Stmt → List ℕ → Filter → Type 0

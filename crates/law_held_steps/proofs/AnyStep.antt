@@ -1,7 +1,7 @@
 -- What holds of the lists after a step of one session, whatever step it is. What the others have is said here once: their
 -- desks, searches, rooms and rows.
-use Rattle.std.proofs.Common.{◌≡◌, ◌≢◌, ⊎_elim, inl, inr, ℕ, ◌==◌, Bool, false, cond, eq-eqb, ◌≤◌, true, List, ◌∷◌, length, Option, Some, None, refl}
-use Rattle.std.proofs.Common.{sym, ap, subst, ◌∙◌, arith}
+use Rattle.std.proofs.Common.{◌≡◌, ◌≢◌, ⊎_elim, inl, inr, ℕ, ◌==◌, Bool, false, cond, eq-eqb, ◌≤◌, true, List, ◌∷◌, length, Option, Some, None, refl, sym, ap}
+use Rattle.std.proofs.Common.{subst, ◌∙◌, arith}
 use Rattle.std.specs.Prelude.{slice_get, is_some}
 use Rattle.std.proofs.lemmas.Bool.{cases_eq, false≢true}
 use Rattle.inno_types.specs.declared.value.Schema.{Schema}
@@ -9,35 +9,23 @@ use Rattle.inno_model.specs.declared.event.Event.{Event}
 use Rattle.inno_model.specs.Past.{own, started, under_way, of_item, awaits_ack}
 use Rattle.inno_model.proofs.Untouched.{IsUntouched, untouched}
 use Rattle.store_api.specs.declared.answers.Undo.{Undo}
-use Rattle.row_versions.specs.Versions.{Stays}
-use Rattle.row_versions.specs.declared.place.Place.{Place}
-use Rattle.row_versions.specs.Chains.{Chains}
+use Rattle.row_versions.specs.{Versions.Stays, declared.place.Place.Place, Chains.Chains}
 use Rattle.law_past_agreement.specs.Rows.{place_in}
 use Rattle.world.specs.State.{WorldState, Session, Work, Logged, IsSession, HasWork}
-use Rattle.world.specs.Told.{IsTold, LeavesRows}
-use Rattle.world.specs.Undoing.{read_into}
-use Rattle.world.specs.declared.undo_room.UndoRoom.{UndoRoom}
+use Rattle.world.specs.{Told.IsTold, Told.LeavesRows, Undoing.read_into, declared.undo_room.UndoRoom.UndoRoom}
 use Rattle.law_world_agreement.specs.Agreement.{Agrees}
-use Rattle.row_changes.specs.Told.{HasRows}
-use Rattle.row_changes.specs.declared.row_change.RowChange.{RowChange}
-use Rattle.row_changes.specs.declared.row_change.RowChange.TheVariants.{Record, Keys}
-use Rattle.undo_apply.specs.declared.work_room.WorkRoom.{WorkRoom}
-use Rattle.undo_apply.specs.declared.work_room.Stage.TheVariants.{Find}
-use Rattle.undo_apply.specs.Rooms.{IsWhole}
+use Rattle.row_changes.specs.{Told.HasRows, declared.row_change.RowChange.RowChange, declared.row_change.RowChange.TheVariants.Record}
+use Rattle.row_changes.specs.{declared.row_change.RowChange.TheVariants.Keys}
+use Rattle.undo_apply.specs.{declared.work_room.WorkRoom.WorkRoom, declared.work_room.Stage.TheVariants.Find, Rooms.IsWhole}
 use Rattle.undo_apply.proofs.Goes.{others_leave}
 use Rattle.shared_lists.specs.Fitting.{FitsThen}
-use Rattle.law_logged_changes.specs.Logs.{IsLogOf, LogsAgree}
-use Rattle.law_logged_changes.specs.Steps.{ChangesPairsAlone}
-use Rattle.law_logged_changes.proofs.GoingOn.{work_beside, agrees_beside}
-use Rattle.law_logged_changes.proofs.ReadersLeft.{has_rows_left, change_left}
+use Rattle.law_logged_changes.specs.{Logs.IsLogOf, Logs.LogsAgree, Steps.ChangesPairsAlone}
+use Rattle.law_logged_changes.proofs.{GoingOn.work_beside, GoingOn.agrees_beside, ReadersLeft.has_rows_left, ReadersLeft.change_left}
 use Rattle.law_found_rows.specs.Pasts.{AddsAtMostOne}
 use Rattle.law_found_rows.proofs.Seen.{other_of}
-use Rattle.desks.specs.declared.desk.Desk.{Desk}
-use Rattle.desks.specs.declared.desk.Doing.{Doing}
+use Rattle.desks.specs.{declared.desk.Desk.Desk, declared.desk.Doing.Doing, Desks.desk_at, Desks.doing_at, Desks.is_quiet_doing, Leaves.LeavesOthers}
 use Rattle.desks.specs.declared.desk.Doing.TheVariants.{Nothing, Searching, Changing, Lagging, Undoing}
-use Rattle.desks.specs.Desks.{desk_at, doing_at, is_quiet_doing}
 use Rattle.desks.specs.Holding.{AreFew, IsLast, IsLastIfTold, RowsHeld, RowsHeldBy, SearchHeld, IsHeld}
-use Rattle.desks.specs.Leaves.{LeavesOthers}
 use Rattle.desks.proofs.Leaving.{search_left}
 
 pub some_same : {X : Type 0} (a b : X) → Some a ≡ Some b → a ≡ b

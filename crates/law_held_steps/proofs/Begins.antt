@@ -8,28 +8,18 @@ use Rattle.row_versions.specs.Chains.{Chains}
 use Rattle.law_stored_rows.specs.Tables.{HasItsColumns}
 use Rattle.law_past_agreement.specs.Agreement.{ViewAgrees}
 use Rattle.world.specs.State.{WorldState, Session, Work, Seen, HasWork, id_of, standing_of}
-use Rattle.world.specs.Sessions.{IsShown}
-use Rattle.world.specs.Told.{IsTold}
-use Rattle.world.specs.Undoing.{read_into}
-use Rattle.world.specs.declared.undo_room.UndoRoom.{UndoRoom}
+use Rattle.world.specs.{Sessions.IsShown, Told.IsTold, Undoing.read_into, declared.undo_room.UndoRoom.UndoRoom}
 use Rattle.law_world_agreement.specs.Agreement.{sight_of, Agrees}
 use Rattle.undo_apply.specs.declared.work_room.WorkRoom.{WorkRoom}
-use Rattle.row_search.specs.declared.sight.Sight.{Sight}
-use Rattle.row_search.specs.declared.scan.Scan.{Scan}
-use Rattle.row_search.specs.declared.search.RowSearch.{RowSearch}
-use Rattle.row_search.specs.Searches.{BeginsWithNothing, MayBegin}
+use Rattle.row_search.specs.{declared.sight.Sight.Sight, declared.scan.Scan.Scan, declared.search.RowSearch.RowSearch, Searches.BeginsWithNothing}
+use Rattle.row_search.specs.{Searches.MayBegin}
 use Rattle.law_found_rows.specs.Finding.{IsFinding}
 use Rattle.law_found_rows.proofs.Finding.{begins}
-use Rattle.desks.specs.declared.desk.Desk.{Desk}
-use Rattle.desks.specs.declared.desk.Doing.TheVariants.{Nothing, Searching}
-use Rattle.desks.specs.declared.desk.TableSearch.{TableSearch}
-use Rattle.desks.specs.Desks.{doing_at, with_doing, is_quiet_doing}
+use Rattle.desks.specs.{declared.desk.Desk.Desk, declared.desk.Doing.TheVariants.Nothing, declared.desk.Doing.TheVariants.Searching}
+use Rattle.desks.specs.{declared.desk.TableSearch.TableSearch, Desks.doing_at, Desks.with_doing, Desks.is_quiet_doing}
 use Rattle.desks.specs.Holding.{SightHolds, FindsSince, IsSearchHeld, IsOwnView, IsHeld}
 use Rattle.law_held_steps.specs.Begun.{IsNewSearch, IsBegun, HasView, ViewsHaveNext}
-use Rattle.law_held_steps.proofs.Places.{none_moves}
-use Rattle.law_held_steps.proofs.Staying.{held_stays}
-use Rattle.law_held_steps.proofs.Shows.{HasSome, some_rows_by, columns_of}
-use Rattle.law_held_steps.proofs.Keeping.{open_work}
+use Rattle.law_held_steps.proofs.{Places.none_moves, Staying.held_stays, Shows.HasSome, Shows.some_rows_by, Shows.columns_of, Keeping.open_work}
 use Rattle.law_world_agreement.proofs.Ending.{work_of}
 
 -- ---- a new search

@@ -4,28 +4,19 @@ use Rattle.std.specs.Prelude.{slice_get, IsSomeAnd}
 use Rattle.std.proofs.lemmas.Option.{slice_get_within}
 use Rattle.inno_types.specs.declared.value.Schema.{Schema}
 use Rattle.law_stored_rows.specs.Fitting.{IsKeyFor, FitsTable}
-use Rattle.world.specs.State.{WorldState}
-use Rattle.row_changes.specs.declared.row_edit.RowEdit.{RowEdit}
-use Rattle.row_changes.specs.declared.row_edit.RowEdit.TheVariants.{Put, Remove}
-use Rattle.row_changes.specs.Edits.{change_of, FitsEdit}
-use Rattle.row_changes.specs.Rows.{primary_of}
+use Rattle.world.specs.{State.WorldState, Undoing.read_into, declared.undo_room.UndoRoom.UndoRoom}
+use Rattle.row_changes.specs.{declared.row_edit.RowEdit.RowEdit, declared.row_edit.RowEdit.TheVariants.Put, declared.row_edit.RowEdit.TheVariants.Remove}
+use Rattle.row_changes.specs.{Edits.change_of, Edits.FitsEdit, Rows.primary_of}
 use Rattle.shared_lists.specs.Fitting.{FitsWell}
 use Rattle.law_held_steps.specs.Beginning.{IsEditable, IsKeyOfEdit, begun}
 use Rattle.inno_model.specs.Past.{IsOpen}
 use Rattle.law_past_agreement.specs.Order.{created}
-use Rattle.world.specs.Undoing.{read_into}
-use Rattle.world.specs.declared.undo_room.UndoRoom.{UndoRoom}
 use Rattle.law_logged_changes.proofs.Listed.{begun as begun_row}
 use Rattle.undo_apply.specs.declared.work_room.WorkRoom.{WorkRoom}
-use Rattle.desks.specs.declared.desk.Desk.{Desk}
-use Rattle.desks.specs.declared.desk.Doing.{Doing}
-use Rattle.desks.specs.declared.desk.Doing.TheVariants.{Nothing, Changing}
-use Rattle.desks.specs.Desks.{doing_at, with_doing, is_quiet_doing}
-use Rattle.desks.specs.Holding.{IsHeld, RowsHeld, SearchHeld}
-use Rattle.law_held_steps.proofs.Desks.{given, started_still}
-use Rattle.law_held_steps.proofs.AnyStep.{each}
+use Rattle.desks.specs.{declared.desk.Desk.Desk, declared.desk.Doing.Doing, declared.desk.Doing.TheVariants.Nothing, declared.desk.Doing.TheVariants.Changing}
+use Rattle.desks.specs.{Desks.doing_at, Desks.with_doing, Desks.is_quiet_doing, Holding.IsHeld, Holding.RowsHeld, Holding.SearchHeld}
+use Rattle.law_held_steps.proofs.{Desks.given, Desks.started_still, AnyStep.each, Keeping.open_work, Keeping.open_joined}
 use Rattle.law_found_rows.proofs.FittingChanges.{tables_storable}
-use Rattle.law_held_steps.proofs.Keeping.{open_work, open_joined}
 
 -- ---- one of them
 

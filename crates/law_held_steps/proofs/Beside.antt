@@ -1,47 +1,28 @@
 -- What a step of putting back leaves, how much is left after it, and what holds of a world and its desks across it: pairs and
 -- kept versions alone change.
-use Rattle.std.proofs.Common.{◌≡◌, ◌≤◌, Bool, true, false, cond, List, [], ◌∷◌, length, Some, refl, sym, ap, subst, arith, ℕ, Option, None, ◌+◌, ◌*◌, ◌^◌, ◌<◌}
-use Rattle.std.proofs.Common.{◌≢◌, inl, inr, ⊎_elim, ◌∙◌, slice_get}
-use Rattle.row_versions.specs.declared.place.Place.{Place}
-use Rattle.row_versions.specs.declared.version.Version.{Version}
+use Rattle.std.proofs.Common.{◌≡◌, ◌≤◌, Bool, true, false, cond, List, [], ◌∷◌, length, Some, refl, sym, ap, subst, arith, ℕ, Option, None, ◌+◌, ◌*◌, ◌^◌}
+use Rattle.std.proofs.Common.{◌<◌, ◌≢◌, inl, inr, ⊎_elim, ◌∙◌, slice_get}
+use Rattle.row_versions.specs.{declared.place.Place.Place, declared.version.Version.Version, declared.kept.Kept.Kept, Versions.Stays}
 use Rattle.row_versions.specs.Chains.{Chains, versions_at, older, is_same_place, Pops}
 use Rattle.inno_types.specs.declared.value.Schema.{Schema}
-use Rattle.inno_db.specs.declared.change.Change.{Change}
-use Rattle.inno_db.specs.declared.change.Change.TheVariants.{Create}
-use Rattle.law_past_agreement.specs.Order.{IsOfRow}
-use Rattle.law_past_agreement.specs.Rows.{place_in}
-use Rattle.law_past_agreement.specs.Agreement.{WriterAgrees}
-use Rattle.world.specs.State.{WorldState, Logged}
+use Rattle.inno_db.specs.{declared.change.Change.Change, declared.change.Change.TheVariants.Create}
+use Rattle.law_past_agreement.specs.{Order.IsOfRow, Rows.place_in, Agreement.WriterAgrees}
+use Rattle.world.specs.{State.WorldState, State.Logged, Undoing.ReadsLast, Undoing.CutsBack, Undoing.read_into, Memory.IsInMemory, Told.IsTold}
+use Rattle.world.specs.{declared.undo_room.UndoRoom.UndoRoom}
 use Rattle.law_world_agreement.specs.Agreement.{Agrees}
-use Rattle.law_logged_changes.specs.Logs.{IsAlone, LogsAgree}
-use Rattle.store_api.specs.declared.moves.Move.{Move}
-use Rattle.store_api.specs.declared.moves.Move.TheVariants.{Done, Step}
-use Rattle.store_api.specs.declared.answers.Undo.{Undo}
-use Rattle.world.specs.Undoing.{ReadsLast, CutsBack, read_into}
-use Rattle.undo_apply.specs.declared.work_room.Stage.{Stage}
-use Rattle.undo_apply.specs.declared.work_room.Stage.TheVariants.{Walk, Find}
+use Rattle.law_logged_changes.specs.{Logs.IsAlone, Logs.LogsAgree, Steps.ChangesPairsAlone}
+use Rattle.store_api.specs.{declared.moves.Move.Move, declared.moves.Move.TheVariants.Done, declared.moves.Move.TheVariants.Step, declared.answers.Undo.Undo}
+use Rattle.undo_apply.specs.{declared.work_room.Stage.Stage, declared.work_room.Stage.TheVariants.Walk, declared.work_room.Stage.TheVariants.Find}
+use Rattle.undo_apply.specs.{Rooms.steps_left, Rooms.IsWhole, declared.work_room.WorkRoom.WorkRoom}
 use Rattle.undo_apply.specs.Stages.{Stops, StopsAt, IsPuttingBack, GoesOn, IsHindered, IsDone, PutsBack}
-use Rattle.world.specs.Memory.{IsInMemory}
 use Rattle.world.proofs.Memory.{no_pages, not_delayed}
-use Rattle.row_versions.specs.declared.kept.Kept.{Kept}
 use Rattle.law_stored_rows.specs.Records.{LeadTo}
-use Rattle.undo_apply.specs.Rooms.{steps_left, IsWhole}
-use Rattle.desks.specs.Undoing.{left_at}
+use Rattle.desks.specs.{Undoing.left_at, declared.desk.Desk.Desk, declared.desk.Doing.Doing, Desks.doing_at, Desks.is_quiet_doing}
 use Rattle.desks.proofs.Counting.{versions_most, versions_are}
-use Rattle.row_versions.specs.Versions.{Stays}
-use Rattle.undo_apply.specs.declared.work_room.WorkRoom.{WorkRoom}
-use Rattle.law_logged_changes.specs.Steps.{ChangesPairsAlone}
 use Rattle.std.proofs.lemmas.Bool.{cases_eq}
-use Rattle.world.specs.Told.{IsTold}
-use Rattle.world.specs.declared.undo_room.UndoRoom.{UndoRoom}
-use Rattle.law_logged_changes.proofs.GoingOn.{own_beside}
-use Rattle.desks.specs.declared.desk.Desk.{Desk}
-use Rattle.desks.specs.declared.desk.Doing.{Doing}
-use Rattle.desks.specs.Desks.{doing_at, is_quiet_doing}
+use Rattle.law_logged_changes.proofs.{GoingOn.own_beside, Entering.chain_with}
 use Rattle.desks.specs.Holding.{RowsHeld, RowsHeldBy, IsLast, SearchHeld, IsHeld}
-use Rattle.law_logged_changes.proofs.Entering.{chain_with}
-use Rattle.law_held_steps.proofs.AnyStep.{some_same, last_left, held_beside}
-use Rattle.law_held_steps.proofs.Desks.{GivesDoing}
+use Rattle.law_held_steps.proofs.{AnyStep.some_same, AnyStep.last_left, AnyStep.held_beside, Desks.GivesDoing}
 
 -- ---- rows without the newest version of one place
 

@@ -3,29 +3,18 @@ use Rattle.std.proofs.Common.{◌≡◌, ℕ, ◌<◌, List, length, Option, ref
 use Rattle.inno_types.specs.declared.value.Schema.{Schema}
 use Rattle.row_versions.specs.declared.kept.Kept.{Kept}
 use Rattle.sql_plan.specs.declared.choice.Plan.{Plan}
-use Rattle.world.specs.State.{WorldState}
-use Rattle.world.specs.Told.{IsTold}
-use Rattle.row_search.specs.declared.sight.Sight.{Sight}
-use Rattle.row_search.specs.declared.search.RowSearch.{RowSearch}
-use Rattle.row_search.specs.Steps.{IsSameScan}
+use Rattle.world.specs.{State.WorldState, Told.IsTold}
+use Rattle.row_search.specs.{declared.sight.Sight.Sight, declared.search.RowSearch.RowSearch, Steps.IsSameScan}
 use Rattle.undo_apply.specs.declared.work_room.Stage.{Stage}
-use Rattle.shared_lists.specs.declared.answers.Reading.{Reading}
-use Rattle.shared_lists.specs.Tasks.{Task}
+use Rattle.shared_lists.specs.{declared.answers.Reading.Reading, Tasks.Task}
 use Rattle.shared_lists.specs.Tasks as tasks
 use Rattle.shared_lists.specs.State.{task_of, Turns}
-use Rattle.desks.specs.declared.desk.Desk.{Desk}
-use Rattle.desks.specs.declared.desk.Doing.{Doing}
-use Rattle.desks.specs.declared.desk.Doing.TheVariants.{Nothing, Searching}
-use Rattle.desks.specs.Desks.{doing_at, with_doing}
-use Rattle.desks.specs.Shown.{shown, lists_of, reading_of, seen_of}
-use Rattle.desks.specs.Undoing.{undo_left_in}
-use Rattle.desks.specs.declared.desk.TableSearch.{TableSearch}
+use Rattle.desks.specs.{declared.desk.Desk.Desk, declared.desk.Doing.Doing, declared.desk.Doing.TheVariants.Nothing}
+use Rattle.desks.specs.{declared.desk.Doing.TheVariants.Searching, Desks.doing_at, Desks.with_doing, Shown.shown, Shown.lists_of, Shown.reading_of}
+use Rattle.desks.specs.{Shown.seen_of, Undoing.undo_left_in, declared.desk.TableSearch.TableSearch}
 use Rattle.desks.proofs.Showing.{task_is, lists_stay}
-use Rattle.law_held_steps.specs.Begun.{IsBegun}
-use Rattle.law_held_steps.specs.Moving.{MovesPlaces}
-use Rattle.law_held_steps.specs.TakenUp.{IsSearchOf}
-use Rattle.law_held_steps.proofs.Places.{none_moves}
-use Rattle.law_held_steps.proofs.Desks.{doing_here, doing_elsewhere, busy_at_a_desk}
+use Rattle.law_held_steps.specs.{Begun.IsBegun, Moving.MovesPlaces, TakenUp.IsSearchOf}
+use Rattle.law_held_steps.proofs.{Places.none_moves, Desks.doing_here, Desks.doing_elsewhere, Desks.busy_at_a_desk}
 
 pub left_stays : (s table : ℕ) (stage : Stage) (old new : WorldState) → MovesPlaces s old new → IsTold new
     → undo_left_in table stage new ≡ undo_left_in table stage old

@@ -2,10 +2,8 @@
 use Rattle.std.proofs.Common.{◌≡◌, ◌≢◌, ◌⊎◌, inl, inr, ℕ, zero, suc, ◌<◌, List, [], ◌∷◌, length, set, refl, sym, ap, ◌∙◌, arith}
 use Rattle.std.proofs.lemmas.List.{length-set, set-get_or, get_or-set_same, get_or-set_other}
 use Rattle.row_changes.specs.declared.row_change.RowChange.{RowChange}
-use Rattle.desks.specs.declared.desk.Desk.{Desk}
-use Rattle.desks.specs.declared.desk.Doing.{Doing}
-use Rattle.desks.specs.declared.desk.Doing.TheVariants.{Nothing, Changing}
-use Rattle.desks.specs.Desks.{fresh_desk, desk_at, doing_at, with_doing}
+use Rattle.desks.specs.{declared.desk.Desk.Desk, declared.desk.Doing.Doing, declared.desk.Doing.TheVariants.Nothing, declared.desk.Doing.TheVariants.Changing}
+use Rattle.desks.specs.{Desks.fresh_desk, Desks.desk_at, Desks.doing_at, Desks.with_doing}
 
 pub doing_here : (s : ℕ) (doing : Doing) (desks : List Desk) → s < length desks → doing_at s (with_doing s doing desks) ≡ doing
 doing_here s doing desks within = ap (λ (desk : Desk). desk.doing) (get_or-set_same desks s (record (desk_at s desks) { doing = doing }) fresh_desk within)

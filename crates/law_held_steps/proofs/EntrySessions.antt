@@ -9,22 +9,18 @@ use Rattle.law_past_agreement.specs.Slots.{writer_without}
 use Rattle.world.specs.State.{WorldState, Session, Work, IsSession, HasWork}
 use Rattle.law_world_agreement.proofs.Opening.{set_here, set_other}
 use Rattle.law_logged_changes.specs.Steps.{LeavesLog, HasNoLog, LeavesLogs, OfAll}
-use Rattle.desks.specs.declared.desk.Desk.{Desk}
+use Rattle.desks.specs.{declared.desk.Desk.Desk, declared.desk.Doing.TheVariants.Nothing, Holding.SearchHeld, Holding.IsHeld, Leaves.LeavesOthers}
 use Rattle.desks.specs.Desks.{fresh_desk, desk_at, with_start, doing_at, is_quiet_doing}
 use Rattle.law_held_steps.specs.Entries.{IsOwnSession, LeavesDesks, HasSameRows, IsEntered}
 use Rattle.entries.specs.Index.{Index, AreKept}
 use Rattle.row_versions.specs.Versions.{Stays}
 use Rattle.row_changes.proofs.Sessions.{same_pairs, same_versions}
-use Rattle.world.specs.Told.{IsTold, LeavesRows}
-use Rattle.world.specs.declared.undo_room.UndoRoom.{UndoRoom}
+use Rattle.world.specs.{Told.IsTold, Told.LeavesRows, declared.undo_room.UndoRoom.UndoRoom}
 use Rattle.undo_apply.specs.declared.work_room.WorkRoom.{WorkRoom}
 use Rattle.law_world_agreement.specs.Agreement.{Agrees}
 use Rattle.shared_lists.specs.Fitting.{FitsThen}
 use Rattle.law_found_rows.specs.Pasts.{AddsAtMostOne}
 use Rattle.law_logged_changes.proofs.Leaving.{rows_leave, all_left}
-use Rattle.desks.specs.declared.desk.Doing.TheVariants.{Nothing}
-use Rattle.desks.specs.Holding.{SearchHeld, IsHeld}
-use Rattle.desks.specs.Leaves.{LeavesOthers}
 use Rattle.law_held_steps.proofs.AnyStep.{some_same, each, others_past, past_grows, quiet_step, held_after}
 
 -- ---- the acting session

@@ -1,20 +1,18 @@
 -- Items that start and end, commits that are acknowledged, signals, and what sessions set.
-use Rattle.std.proofs.Common.{◌≡◌, ◌≢◌, ℕ, subst, ◌+◌, ◌<◌, ◌^◌, true, false, Option, Some, None, List, [], ◌∷◌, length, refl, sym}
-use Rattle.std.proofs.Common.{ap, ◌∙◌, inl, inr, arith, eq-eqb}
+use Rattle.std.proofs.Common.{◌≡◌, ◌≢◌, ℕ, subst, ◌+◌, ◌<◌, ◌^◌, true, false, Option, Some, None, List, [], ◌∷◌, length, refl, sym, ap, ◌∙◌, inl, inr, arith}
+use Rattle.std.proofs.Common.{eq-eqb}
 use Rattle.std.proofs.lemmas.Bool.{false≢true}
 use Rattle.std.specs.Prelude.{slice_get, slice_set, is_some}
 use Rattle.std.proofs.lemmas.Bool.Decides.{nat_tests}
 use Rattle.std.proofs.lemmas.List.{length-set, set-get_or}
 use Rattle.std.proofs.lemmas.Option.{get_or_from_slice_get}
-use Rattle.inno_types.specs.declared.reply.Item.{Item}
-use Rattle.inno_types.specs.declared.reply.Reply.{Reply}
-use Rattle.inno_model.specs.declared.event.Event.{Event}
-use Rattle.inno_model.specs.declared.event.Event.TheVariants.{Started, Ended, Acked, Signal}
+use Rattle.inno_types.specs.{declared.reply.Item.Item, declared.reply.Reply.Reply}
+use Rattle.inno_model.specs.{declared.event.Event.Event, declared.event.Event.TheVariants.Started, declared.event.Event.TheVariants.Ended}
+use Rattle.inno_model.specs.{declared.event.Event.TheVariants.Acked, declared.event.Event.TheVariants.Signal}
 use Rattle.inno_model.specs.Past.{own, started, under_way, of_item, awaits_ack}
 use Rattle.law_past_agreement.specs.Order.{MayCome}
 use Rattle.world.specs.State.{WorldState, Session, Work, IsSession, HasWork}
-use Rattle.world.specs.Told.{IsTold}
-use Rattle.world.specs.declared.undo_room.UndoRoom.{UndoRoom}
+use Rattle.world.specs.{Told.IsTold, declared.undo_room.UndoRoom.UndoRoom}
 use Rattle.undo_apply.specs.declared.work_room.WorkRoom.{WorkRoom}
 use Rattle.law_world_agreement.specs.Agreement.{Agrees}
 use Rattle.law_world_agreement.specs.Steps.{IsEntered as IsSettled}
@@ -23,10 +21,7 @@ use Rattle.law_world_agreement.proofs.Entries.{started_agrees, ended_agrees, ack
 use Rattle.shared_lists.specs.Fitting.{FitsThen}
 use Rattle.world.specs.EngineCalls.{item_started, acknowledged, signalled}
 use Rattle.law_found_rows.specs.Pasts.{AddsAtMostOne}
-use Rattle.desks.specs.declared.desk.Desk.{Desk}
-use Rattle.desks.specs.declared.desk.Doing.TheVariants.{Nothing}
-use Rattle.desks.specs.Desks.{desk_at, doing_at, with_start}
-use Rattle.desks.specs.Holding.{IsHeld}
+use Rattle.desks.specs.{declared.desk.Desk.Desk, declared.desk.Doing.TheVariants.Nothing, Desks.desk_at, Desks.doing_at, Desks.with_start, Holding.IsHeld}
 use Rattle.law_held_steps.specs.Entries.{LeavesDesks}
 use Rattle.law_held_steps.proofs.AnyStep.{waits_not}
 use Rattle.law_held_steps.proofs.EntrySessions.{entered_by, same_log, same_writer, started_desks, start_here, same_works}

@@ -1,24 +1,17 @@
 -- The first world, and sessions that join.
-use Rattle.std.proofs.Common.{◌≡◌, ◌≢◌, ℕ, zero, suc, ◌+◌, ◌<◌, Bool, true, false, Option, Some, None, List, [], ◌∷◌, ◌++◌, length, refl, sym, ap, subst}
-use Rattle.std.proofs.Common.{◌∙◌, inl, arith, get_or}
+use Rattle.std.proofs.Common.{◌≡◌, ◌≢◌, ℕ, zero, suc, ◌+◌, ◌<◌, Bool, true, false, Option, Some, None, List, [], ◌∷◌, ◌++◌, length, refl, sym, ap, subst, ◌∙◌}
+use Rattle.std.proofs.Common.{inl, arith, get_or}
 use Rattle.std.specs.Prelude.{slice_get, is_some}
 use Rattle.std.proofs.lemmas.List.{length-append}
-use Rattle.inno_types.specs.declared.reply.Item.{Item}
-use Rattle.inno_types.specs.declared.lock.Level.{Level}
+use Rattle.inno_types.specs.{declared.reply.Item.Item, declared.lock.Level.Level}
 use Rattle.inno_model.specs.Past.{own, started, under_way, of_item, level, awaits_ack}
 use Rattle.law_past_agreement.specs.Agreement.{owed_by, owed_by_txn, owed_by_item}
 use Rattle.shared_lists.specs.Fitting.{FitsThen}
-use Rattle.world.specs.State.{WorldState, Session, Work}
-use Rattle.world.specs.Told.{IsTold}
-use Rattle.world.specs.declared.undo_room.UndoRoom.{UndoRoom}
-use Rattle.undo_apply.specs.declared.work_room.WorkRoom.{WorkRoom}
-use Rattle.undo_apply.specs.declared.work_room.Stage.TheVariants.{Find}
-use Rattle.undo_apply.specs.Rooms.{IsWhole}
+use Rattle.world.specs.{State.WorldState, State.Session, State.Work, Told.IsTold, declared.undo_room.UndoRoom.UndoRoom, EngineCalls.fresh_session}
+use Rattle.world.specs.{EngineCalls.joined}
+use Rattle.undo_apply.specs.{declared.work_room.WorkRoom.WorkRoom, declared.work_room.Stage.TheVariants.Find, Rooms.IsWhole}
 use Rattle.law_world_agreement.proofs.Joining.{first_agrees, joined_agrees}
-use Rattle.world.specs.EngineCalls.{fresh_session, joined}
-use Rattle.desks.specs.declared.desk.Desk.{Desk}
-use Rattle.desks.specs.Desks.{fresh_desk}
-use Rattle.desks.specs.Holding.{IsFresh, IsHeld}
+use Rattle.desks.specs.{declared.desk.Desk.Desk, Desks.fresh_desk, Holding.IsFresh, Holding.IsHeld}
 use Rattle.law_held_steps.proofs.EntrySessions.{entered, own_session}
 
 -- ---- lists with one item more

@@ -5,23 +5,14 @@ use Rattle.std.proofs.lemmas.Bool.{cases_eq}
 use Rattle.inno_types.specs.declared.value.Schema.{Schema}
 use Rattle.entries.specs.Calls.{Leaves}
 use Rattle.row_versions.specs.Chains.{Chains}
-use Rattle.world.specs.State.{WorldState, index_of}
-use Rattle.world.specs.Indexes.{Calls}
-use Rattle.world.specs.Told.{IsTold}
-use Rattle.world.specs.Undoing.{read_into}
-use Rattle.world.specs.declared.undo_room.UndoRoom.{UndoRoom}
-use Rattle.law_logged_changes.proofs.ReadersLeft.{has_rows_left}
+use Rattle.world.specs.{State.WorldState, State.index_of, Indexes.Calls, Told.IsTold, Undoing.read_into, declared.undo_room.UndoRoom.UndoRoom}
+use Rattle.law_logged_changes.proofs.{ReadersLeft.has_rows_left, Leaving.all_left, Leaving.rows_leave, GoingOn.logs_beside, GoingOn.own_beside}
+use Rattle.law_logged_changes.proofs.{GoingOn.agrees_beside}
 use Rattle.undo_apply.specs.declared.work_room.WorkRoom.{WorkRoom}
-use Rattle.law_logged_changes.proofs.Leaving.{all_left, rows_leave}
-use Rattle.law_logged_changes.proofs.GoingOn.{logs_beside, own_beside, agrees_beside}
-use Rattle.desks.specs.declared.desk.Desk.{Desk}
-use Rattle.desks.specs.declared.desk.Doing.{Doing}
-use Rattle.desks.specs.declared.desk.Doing.TheVariants.{Searching}
-use Rattle.desks.specs.Desks.{doing_at}
-use Rattle.desks.specs.Holding.{IsHeld, RowsHeldBy, SearchHeld}
+use Rattle.desks.specs.{declared.desk.Desk.Desk, declared.desk.Doing.Doing, declared.desk.Doing.TheVariants.Searching, Desks.doing_at, Holding.IsHeld}
+use Rattle.desks.specs.{Holding.RowsHeldBy, Holding.SearchHeld}
 use Rattle.row_changes.specs.Awaited.{IsOfTable}
-use Rattle.law_held_steps.specs.Leaving.{LeavesIndexes, LeavesTable, is_searching}
-use Rattle.law_held_steps.specs.Moving.{MovesPlaces}
+use Rattle.law_held_steps.specs.{Leaving.LeavesIndexes, Leaving.LeavesTable, Leaving.is_searching, Moving.MovesPlaces}
 use Rattle.law_held_steps.proofs.Places.{left_over, none_moves, moves_then, leaving_moves, moves_leave, moves_told}
 use Rattle.law_held_steps.proofs.AnyStep.{rows_left, held_beside}
 

@@ -1,46 +1,27 @@
 -- Each step of a change keeps the lists.
 use Rattle.std.proofs.Common.{◌≡◌, ℕ, ◌+◌, ◌<◌, ◌≤◌, ◌^◌, Bool, true, false, cond, List, ◌∷◌, length, Option, Some, refl, sym, ap, subst, ◌∙◌, arith}
 use Rattle.std.specs.Prelude.{slice_get}
-use Rattle.inno_types.specs.declared.value.Value.{Value}
-use Rattle.inno_types.specs.declared.value.Schema.{Schema}
-use Rattle.inno_model.specs.declared.event.Event.TheVariants.{Changed}
-use Rattle.inno_model.specs.Past.{own}
-use Rattle.row_versions.specs.declared.place.Place.{Place}
-use Rattle.row_versions.specs.declared.version.Version.{Version}
-use Rattle.row_versions.specs.Chains.{Chains, versions_at, is_same_place, Pushes}
+use Rattle.inno_types.specs.{declared.value.Value.Value, declared.value.Schema.Schema}
+use Rattle.inno_model.specs.{declared.event.Event.TheVariants.Changed, Past.own}
+use Rattle.row_versions.specs.{declared.place.Place.Place, declared.version.Version.Version, Chains.Chains, Chains.versions_at, Chains.is_same_place}
+use Rattle.row_versions.specs.{Chains.Pushes}
 use Rattle.law_past_agreement.specs.Order.{created}
-use Rattle.world.specs.State.{WorldState}
-use Rattle.world.specs.Told.{IsTold}
-use Rattle.world.specs.Undoing.{read_into}
-use Rattle.world.specs.declared.undo_room.UndoRoom.{UndoRoom}
-use Rattle.row_changes.specs.declared.row_edit.RowEdit.{RowEdit}
-use Rattle.row_changes.specs.declared.row_edit.RowEdit.TheVariants.{Put, Remove}
-use Rattle.row_changes.specs.declared.record_change.RecordChange.{RecordChange}
-use Rattle.row_changes.specs.declared.keys_change.KeysChange.{KeysChange}
-use Rattle.row_changes.specs.declared.row_change.RowChange.{RowChange}
-use Rattle.row_changes.specs.declared.row_change.RowChange.TheVariants.{Record, Keys}
-use Rattle.row_changes.specs.declared.reached.Reached.{Reached}
-use Rattle.row_changes.specs.declared.reached.Reached.TheVariants.{Went, Done, Hindered}
-use Rattle.row_changes.specs.Edits.{change_of, rows_put}
+use Rattle.world.specs.{State.WorldState, Told.IsTold, Undoing.read_into, declared.undo_room.UndoRoom.UndoRoom}
+use Rattle.row_changes.specs.{declared.row_edit.RowEdit.RowEdit, declared.row_edit.RowEdit.TheVariants.Put, declared.row_edit.RowEdit.TheVariants.Remove}
+use Rattle.row_changes.specs.{declared.record_change.RecordChange.RecordChange, declared.keys_change.KeysChange.KeysChange}
+use Rattle.row_changes.specs.{declared.row_change.RowChange.RowChange, declared.row_change.RowChange.TheVariants.Record}
+use Rattle.row_changes.specs.{declared.row_change.RowChange.TheVariants.Keys, declared.reached.Reached.Reached, declared.reached.Reached.TheVariants.Went}
+use Rattle.row_changes.specs.{declared.reached.Reached.TheVariants.Done, declared.reached.Reached.TheVariants.Hindered, Edits.change_of, Edits.rows_put}
 use Rattle.row_changes.specs.Rows.{table_of, place_of, row_steps, IsChangingRow, ChangesRow}
-use Rattle.law_logged_changes.specs.GoingOn.{KeepsBeside, StaysAgreed, EntersAgreed, EndsAgreed}
-use Rattle.law_logged_changes.proofs.Entering.{goes_on, place_there}
+use Rattle.law_logged_changes.specs.{GoingOn.KeepsBeside, GoingOn.StaysAgreed, GoingOn.EntersAgreed, GoingOn.EndsAgreed, Logs.LogsAgree}
+use Rattle.law_logged_changes.proofs.{Entering.goes_on, Entering.place_there, Logging.change_logged, Crossing.row_all}
 use Rattle.undo_apply.specs.declared.work_room.WorkRoom.{WorkRoom}
-use Rattle.shared_lists.specs.Fitting.{FitsThen}
-use Rattle.shared_lists.specs.Steps.{rows_of_change}
-use Rattle.law_logged_changes.specs.Logs.{LogsAgree}
-use Rattle.law_logged_changes.proofs.Logging.{change_logged}
-use Rattle.law_logged_changes.proofs.Crossing.{row_all}
-use Rattle.desks.specs.declared.desk.Desk.{Desk}
-use Rattle.desks.specs.declared.desk.Doing.TheVariants.{Changing}
-use Rattle.desks.specs.Desks.{doing_at}
-use Rattle.desks.specs.Undoing.{keys_if}
-use Rattle.desks.specs.Holding.{AreFew, IsHeld, IsLastOf, RowsHeld}
+use Rattle.shared_lists.specs.{Fitting.FitsThen, Steps.rows_of_change}
+use Rattle.desks.specs.{declared.desk.Desk.Desk, declared.desk.Doing.TheVariants.Changing, Desks.doing_at, Undoing.keys_if, Holding.AreFew, Holding.IsHeld}
+use Rattle.desks.specs.{Holding.IsLastOf, Holding.RowsHeld}
 use Rattle.law_world_agreement.specs.Agreement.{Agrees}
-use Rattle.law_held_steps.specs.Leaving.{is_searching}
-use Rattle.law_held_steps.specs.Making.{doing_after, Comes, MakesChange}
-use Rattle.law_held_steps.proofs.Desks.{changes_at_a_desk}
-use Rattle.law_held_steps.proofs.Begun.{edit_fits}
+use Rattle.law_held_steps.specs.{Leaving.is_searching, Making.doing_after, Making.Comes, Making.MakesChange}
+use Rattle.law_held_steps.proofs.{Desks.changes_at_a_desk, Begun.edit_fits}
 use Rattle.law_held_steps.proofs.Keeping.{goes_same, goes_changed, leaves_lists, last_of_kept, keeps}
 
 -- ---- the entry

@@ -1,28 +1,17 @@
 -- A step of a search that goes on leaves less before it.
 use Rattle.std.proofs.Common.{◌≡◌, ◌⊎◌, inl, inr, ℕ, ◌+◌, ◌*◌, ◌^◌, ◌<◌, ◌≤◌, List, [], ◌∷◌, length, Option, refl, sym, ap, subst, ◌∙◌, arith}
 use Rattle.std.specs.Prelude.{IsTrue}
-use Rattle.inno_types.specs.declared.value.Value.{Value}
-use Rattle.inno_types.specs.declared.value.Schema.{Schema}
-use Rattle.inno_types.specs.Order.{IsBelow}
+use Rattle.inno_types.specs.{declared.value.Value.Value, declared.value.Schema.Schema, Order.IsBelow}
 use Rattle.entries.specs.Pairs.{Pair}
-use Rattle.row_versions.specs.declared.kept.Kept.{Kept}
-use Rattle.row_versions.specs.declared.version.Version.{Version}
+use Rattle.row_versions.specs.{declared.kept.Kept.Kept, declared.version.Version.Version}
 use Rattle.law_stored_rows.specs.Records.{LeadTo}
-use Rattle.world.specs.State.{WorldState, index_of}
-use Rattle.world.specs.Told.{IsTold, pairs_in, pairs_of}
-use Rattle.row_search.specs.declared.scan.Scan.{Scan}
-use Rattle.row_search.specs.declared.phase.Phase.{Phase}
+use Rattle.world.specs.{State.WorldState, State.index_of, Told.IsTold, Told.pairs_in, Told.pairs_of}
+use Rattle.row_search.specs.{declared.scan.Scan.Scan, declared.phase.Phase.Phase, declared.search.RowSearch.RowSearch, Ranges.primary_part, Steps.GoesOn}
+use Rattle.row_search.specs.{Tables.most_versions, Tables.ShowsRows, Visits.phase_anew}
 use Rattle.row_search.specs.declared.phase.Phase.TheVariants.{Seek, Follow, Fetch, Look, Walk, Keep, Sort, Leave}
-use Rattle.row_search.specs.declared.search.RowSearch.{RowSearch}
-use Rattle.row_search.specs.Ranges.{primary_part}
 use Rattle.row_search.specs.Searches.{place_in, pairs_behind, PhaseHolds, IsSearching, Finds, HasToGo}
-use Rattle.row_search.specs.Steps.{GoesOn}
-use Rattle.row_search.specs.Tables.{most_versions, ShowsRows}
-use Rattle.row_search.specs.Visits.{phase_anew}
-use Rattle.desks.specs.Searching.{keys_left, visit_left}
-use Rattle.desks.specs.Undoing.{versions_from}
-use Rattle.desks.proofs.Counting.{versions_most, versions_are, as_many}
-use Rattle.desks.proofs.Showing.{same_pairs}
+use Rattle.desks.specs.{Searching.keys_left, Searching.visit_left, Undoing.versions_from}
+use Rattle.desks.proofs.{Counting.versions_most, Counting.versions_are, Counting.as_many, Showing.same_pairs}
 use Rattle.law_held_steps.specs.Newest.{left_in}
 
 -- ---- four numbers, and the two that they say

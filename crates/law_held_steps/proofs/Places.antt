@@ -2,16 +2,11 @@
 use Rattle.std.proofs.Common.{◌≡◌, ◌≢◌, ◌⊎◌, ⊎_elim, ℕ, Bool, true, false, List, Option, Some, None, refl, sym, ap, subst, ◌∙◌}
 use Rattle.std.specs.Prelude.{◌==◌, if◌then◌else◌}
 use Rattle.std.proofs.lemmas.Bool.Decides.{eqb_tells}
-use Rattle.entries.specs.Pairs.{Pair}
-use Rattle.entries.specs.Index.{AreKept}
-use Rattle.entries.specs.Calls.{Leaves, released}
+use Rattle.entries.specs.{Pairs.Pair, Index.AreKept, Calls.Leaves, Calls.released}
 use Rattle.row_versions.specs.Versions.{Versions, Stays}
 use Rattle.row_changes.proofs.Sessions.{same_pairs, same_versions}
-use Rattle.world.specs.State.{WorldState}
+use Rattle.world.specs.{State.WorldState, Told.IsTold, Told.LeavesRows, Indexes.Calls, Undoing.IsUnchanged}
 use Rattle.world.proofs.Stores.{store_stays, store_goes_on}
-use Rattle.world.specs.Told.{IsTold, LeavesRows}
-use Rattle.world.specs.Indexes.{Calls}
-use Rattle.world.specs.Undoing.{IsUnchanged}
 use Rattle.row_search.specs.Steps.{OnlyMoves}
 use Rattle.law_logged_changes.proofs.ReadersLeft.{left_told}
 use Rattle.law_held_steps.specs.Moving.{MovesPlaces}

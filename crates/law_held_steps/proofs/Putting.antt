@@ -1,31 +1,17 @@
 -- A change that is being taken back goes on, and less of it is left with each step.
 use Rattle.std.proofs.Common.{◌≡◌, ◌≢◌, ◌⊎◌, ⊎_elim, ℕ, ◌<◌, ◌≤◌, List, length, Option, Some, refl, sym, ap, subst, ◌∙◌, arith, slice_get}
 use Rattle.inno_types.specs.declared.value.Schema.{Schema}
-use Rattle.store_api.specs.declared.moves.Move.{Move}
-use Rattle.store_api.specs.declared.moves.Move.TheVariants.{Done, Step}
-use Rattle.row_versions.specs.declared.kept.Kept.{Kept}
-use Rattle.row_versions.specs.declared.place.Place.{Place}
-use Rattle.row_versions.specs.Chains.{Chains, versions_at}
+use Rattle.store_api.specs.{declared.moves.Move.Move, declared.moves.Move.TheVariants.Done, declared.moves.Move.TheVariants.Step, declared.answers.Undo.Undo}
+use Rattle.row_versions.specs.{declared.kept.Kept.Kept, declared.place.Place.Place, Chains.Chains, Chains.versions_at}
 use Rattle.law_stored_rows.specs.Records.{LeadTo}
-use Rattle.store_api.specs.declared.answers.Undo.{Undo}
-use Rattle.world.specs.State.{WorldState}
-use Rattle.world.specs.Told.{IsTold, TellsTogether}
-use Rattle.world.specs.declared.undo_room.UndoRoom.{UndoRoom}
-use Rattle.world.specs.Undoing.{read_into}
-use Rattle.undo_apply.specs.declared.work_room.WorkRoom.{WorkRoom}
-use Rattle.undo_apply.specs.declared.work_room.Stage.{Stage}
-use Rattle.undo_apply.specs.declared.work_room.Stage.TheVariants.{Walk}
-use Rattle.undo_apply.specs.Told.{Rows, rows_of}
-use Rattle.undo_apply.specs.Standing.{versions_before, HasWalked}
+use Rattle.world.specs.{State.WorldState, Told.IsTold, Told.TellsTogether, declared.undo_room.UndoRoom.UndoRoom, Undoing.read_into, Memory.IsInMemory}
+use Rattle.undo_apply.specs.{declared.work_room.WorkRoom.WorkRoom, declared.work_room.Stage.Stage, declared.work_room.Stage.TheVariants.Walk, Told.Rows}
+use Rattle.undo_apply.specs.{Told.rows_of, Standing.versions_before, Standing.HasWalked}
 use Rattle.undo_apply.specs.Stages.{StageHolds, IsPuttingBack, WalksOn, GoesOn, PutsBack}
 use Rattle.law_logged_changes.specs.Steps.{ChangesPairsAlone}
 use Rattle.law_logged_changes.proofs.GoingOn.{step_all, step_beside}
-use Rattle.world.specs.Memory.{IsInMemory}
-use Rattle.desks.specs.declared.desk.Desk.{Desk}
-use Rattle.desks.specs.declared.desk.Doing.TheVariants.{Undoing}
-use Rattle.desks.specs.Desks.{doing_at}
-use Rattle.desks.specs.Undoing.{left_at, keys_if, undo_left_in, most_versions}
-use Rattle.desks.specs.Holding.{IsGoingBack, IsHeld}
+use Rattle.desks.specs.{declared.desk.Desk.Desk, declared.desk.Doing.TheVariants.Undoing, Desks.doing_at, Undoing.left_at, Undoing.keys_if}
+use Rattle.desks.specs.{Undoing.undo_left_in, Undoing.most_versions, Holding.IsGoingBack, Holding.IsHeld}
 use Rattle.law_held_steps.specs.Undoing.{HasPutBack}
 use Rattle.law_held_steps.proofs.Desks.{kept_on}
 use Rattle.law_held_steps.proofs.Beside.{left_nears, left_walks, not_stopped, older_fewer, LeavesAll, StaysPutting, stays_putting, hindered_by}

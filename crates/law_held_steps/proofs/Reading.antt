@@ -1,47 +1,29 @@
 -- The undo record of the newest change is read, so that change may be taken back.
-use Rattle.std.proofs.Common.{◌≡◌, ⊎_elim, ℕ, ◌^◌, ◌<◌, ◌≤◌, Bool, true, List, [], ◌∷◌, length, Option, Some, None, refl, sym, ap, subst, ◌∙◌, arith, slice_get}
+use Rattle.std.proofs.Common.{◌≡◌, ⊎_elim, ℕ, ◌^◌, ◌<◌, ◌≤◌, Bool, true, List, [], ◌∷◌, length, Option, Some, None, refl, sym, ap, subst, ◌∙◌, arith}
+use Rattle.std.proofs.Common.{slice_get}
 use Rattle.std.specs.Prelude.{is_some}
 use Rattle.std.proofs.lemmas.Bool.{cases_eq}
-use Rattle.inno_db.specs.declared.change.Change.{Change}
-use Rattle.inno_db.specs.declared.change.Change.TheVariants.{Create}
-use Rattle.inno_model.specs.declared.event.Event.{Event}
-use Rattle.inno_model.specs.declared.event.Event.TheVariants.{Undone}
-use Rattle.inno_model.specs.Past.{own}
-use Rattle.row_versions.specs.declared.kept.Kept.{Kept}
-use Rattle.store_api.specs.declared.moves.Move.TheVariants.{Done}
-use Rattle.store_api.specs.declared.answers.Undo.{Undo}
-use Rattle.row_versions.specs.declared.place.Place.{Place}
-use Rattle.row_versions.specs.Chains.{Chains}
-use Rattle.law_past_agreement.specs.Order.{IsOfRow, IsUndoable, MayCome}
-use Rattle.law_past_agreement.specs.Agreement.{WriterAgrees}
+use Rattle.inno_db.specs.{declared.change.Change.Change, declared.change.Change.TheVariants.Create}
+use Rattle.inno_model.specs.{declared.event.Event.Event, declared.event.Event.TheVariants.Undone, Past.own}
+use Rattle.row_versions.specs.{declared.kept.Kept.Kept, declared.place.Place.Place, Chains.Chains}
+use Rattle.store_api.specs.{declared.moves.Move.TheVariants.Done, declared.answers.Undo.Undo}
+use Rattle.law_past_agreement.specs.{Order.IsOfRow, Order.IsUndoable, Order.MayCome, Agreement.WriterAgrees}
 use Rattle.world.specs.State.{WorldState, Session, Work, Logged, HasWork}
-use Rattle.world.specs.Told.{LeavesRows}
-use Rattle.world.specs.declared.undo_room.UndoRoom.{UndoRoom}
-use Rattle.world.specs.Undoing.{read_into, newest, IsRead, ReadsLast}
-use Rattle.undo_apply.specs.declared.work_room.WorkRoom.{WorkRoom}
-use Rattle.undo_apply.specs.declared.work_room.Stage.{Stage}
-use Rattle.undo_apply.specs.declared.work_room.Stage.TheVariants.{Find}
-use Rattle.undo_apply.specs.Rooms.{IsWhole}
-use Rattle.undo_apply.specs.Stages.{IsPuttingBack}
-use Rattle.undo_apply.proofs.Telling.{leaves_told}
-use Rattle.undo_apply.proofs.Goes.{others_leave}
-use Rattle.undo_apply.proofs.Columns.{few_keys}
+use Rattle.world.specs.{Told.LeavesRows, declared.undo_room.UndoRoom.UndoRoom, Undoing.read_into, Undoing.newest, Undoing.IsRead, Undoing.ReadsLast}
+use Rattle.world.specs.{Memory.IsInMemory}
+use Rattle.undo_apply.specs.{declared.work_room.WorkRoom.WorkRoom, declared.work_room.Stage.Stage, declared.work_room.Stage.TheVariants.Find, Rooms.IsWhole}
+use Rattle.undo_apply.specs.{Stages.IsPuttingBack}
+use Rattle.undo_apply.proofs.{Telling.leaves_told, Goes.others_leave, Columns.few_keys}
 use Rattle.law_logged_changes.specs.Logs.{IsLogOf, LogsAgree}
-use Rattle.law_logged_changes.proofs.Leaving.{rows_leave, all_left}
-use Rattle.law_logged_changes.proofs.GoingOn.{logs_beside}
-use Rattle.law_logged_changes.proofs.Beginning.{tells_of_it, begins_settled, begins_lagging}
-use Rattle.world.specs.Memory.{IsInMemory}
-use Rattle.desks.specs.declared.desk.Desk.{Desk}
-use Rattle.desks.specs.declared.desk.Doing.{Doing}
-use Rattle.desks.specs.declared.desk.Doing.TheVariants.{Nothing, Lagging, Undoing}
-use Rattle.desks.specs.Desks.{doing_at, with_doing}
-use Rattle.desks.specs.Undoing.{left_at, keys_if, undo_left_in, most_versions}
+use Rattle.law_logged_changes.proofs.{Leaving.rows_leave, Leaving.all_left, GoingOn.logs_beside, Beginning.tells_of_it, Beginning.begins_settled}
+use Rattle.law_logged_changes.proofs.{Beginning.begins_lagging}
+use Rattle.desks.specs.{declared.desk.Desk.Desk, declared.desk.Doing.Doing, declared.desk.Doing.TheVariants.Nothing, declared.desk.Doing.TheVariants.Lagging}
+use Rattle.desks.specs.{declared.desk.Doing.TheVariants.Undoing, Desks.doing_at, Desks.with_doing, Undoing.left_at, Undoing.keys_if, Undoing.undo_left_in}
+use Rattle.desks.specs.{Undoing.most_versions}
 use Rattle.desks.specs.Holding.{IsLast, IsGoingBack, IsLagging, RowsHeld, IsHeld}
 use Rattle.law_held_steps.specs.Undoing.{HasLast, IsReady}
-use Rattle.law_held_steps.proofs.AnyStep.{last_log}
-use Rattle.law_held_steps.proofs.Desks.{given}
-use Rattle.law_held_steps.proofs.Keeping.{open_work}
-use Rattle.law_held_steps.proofs.Beside.{LeavesAll, rows_of_writer, last_beside, held_given}
+use Rattle.law_held_steps.proofs.{AnyStep.last_log, Desks.given, Keeping.open_work, Beside.LeavesAll, Beside.rows_of_writer, Beside.last_beside}
+use Rattle.law_held_steps.proofs.{Beside.held_given}
 
 -- ---- who may write
 

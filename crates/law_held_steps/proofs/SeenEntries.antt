@@ -10,15 +10,11 @@ use Rattle.world.specs.State.{WorldState, Session}
 use Rattle.undo_apply.specs.declared.work_room.Stage.{Stage}
 use Rattle.shared_lists.specs.Tasks as tasks
 use Rattle.shared_lists.specs.State.{task_of, IsNow}
-use Rattle.desks.specs.declared.desk.Desk.{Desk}
-use Rattle.desks.specs.declared.desk.Doing.TheVariants.{Nothing}
-use Rattle.desks.specs.Desks.{doing_at}
-use Rattle.desks.specs.Shown.{shown, seen_of}
-use Rattle.desks.specs.Undoing.{keys_if, left_at, undo_left_in, most_versions}
+use Rattle.desks.specs.{declared.desk.Desk.Desk, declared.desk.Doing.TheVariants.Nothing, Desks.doing_at, Shown.shown, Shown.seen_of, Undoing.keys_if}
+use Rattle.desks.specs.{Undoing.left_at, Undoing.undo_left_in, Undoing.most_versions}
 use Rattle.desks.proofs.Showing.{task_is, idle_shown}
 use Rattle.law_world_agreement.proofs.Opening.{set_here, set_other}
-use Rattle.law_held_steps.proofs.Keeping.{same_settings}
-use Rattle.law_held_steps.proofs.AnyStep.{some_same, each}
+use Rattle.law_held_steps.proofs.{Keeping.same_settings, AnyStep.some_same, AnyStep.each}
 
 pub rests_of : (s table : ℕ) (stage : Stage) (state : WorldState) (writer : Option ℕ) (desks : List Desk)
     → task_of s (seen_of table stage state writer desks).state ≡ tasks.Idle → doing_at s desks ≡ Nothing

@@ -3,35 +3,22 @@ use Rattle.std.proofs.Common.{◌≡◌, ◌≢◌, ℕ, ◌+◌, ◌*◌, ◌<�
 use Rattle.std.specs.Prelude.{slice_get}
 use Rattle.std.proofs.lemmas.Bool.{true≢false}
 use Rattle.inno_types.specs.declared.value.Schema.{Schema}
-use Rattle.inno_model.specs.declared.event.Event.{Event}
-use Rattle.inno_model.specs.declared.event.Event.TheVariants.{Changed}
+use Rattle.inno_model.specs.{declared.event.Event.Event, declared.event.Event.TheVariants.Changed}
 use Rattle.law_stored_rows.specs.Storable.{IsStorable}
-use Rattle.world.specs.State.{WorldState}
-use Rattle.world.specs.Told.{IsTold}
-use Rattle.world.specs.declared.undo_room.UndoRoom.{UndoRoom}
-use Rattle.row_changes.specs.declared.row_edit.RowEdit.{RowEdit}
-use Rattle.row_changes.specs.declared.row_change.RowChange.{RowChange}
-use Rattle.row_changes.specs.declared.row_change.RowChange.TheVariants.{Record, Keys}
-use Rattle.row_changes.specs.Edits.{change_of}
-use Rattle.row_changes.specs.Rows.{row_steps, table_of}
+use Rattle.world.specs.{State.WorldState, Told.IsTold, declared.undo_room.UndoRoom.UndoRoom}
+use Rattle.row_changes.specs.{declared.row_edit.RowEdit.RowEdit, declared.row_change.RowChange.RowChange, declared.row_change.RowChange.TheVariants.Record}
+use Rattle.row_changes.specs.{declared.row_change.RowChange.TheVariants.Keys, Edits.change_of, Rows.row_steps, Rows.table_of}
 use Rattle.undo_apply.specs.declared.work_room.WorkRoom.{WorkRoom}
 use Rattle.shared_lists.specs.declared.answers.Changed.TheVariants as answers
 use Rattle.shared_lists.specs.Tasks.{Task, Idle, is_changing, asked, steps_left, left_by}
-use Rattle.shared_lists.specs.State.{Lists, task_of, IsNow, Turns}
-use Rattle.shared_lists.specs.Steps.{Changes, rows_of_change, rows_entered}
-use Rattle.desks.specs.declared.desk.Desk.{Desk}
-use Rattle.desks.specs.declared.desk.Doing.{Doing}
-use Rattle.desks.specs.declared.desk.Doing.TheVariants.{Nothing, Searching, Changing}
-use Rattle.desks.specs.Desks.{doing_at, with_doing, is_quiet_doing}
-use Rattle.desks.specs.Shown.{shown, change_in, lists_of}
-use Rattle.desks.specs.Undoing.{keys_if}
+use Rattle.shared_lists.specs.{State.Lists, State.task_of, State.IsNow, State.Turns, Steps.Changes, Steps.rows_of_change, Steps.rows_entered}
+use Rattle.desks.specs.{declared.desk.Desk.Desk, declared.desk.Doing.Doing, declared.desk.Doing.TheVariants.Nothing}
+use Rattle.desks.specs.{declared.desk.Doing.TheVariants.Searching, declared.desk.Doing.TheVariants.Changing, Desks.doing_at, Desks.with_doing}
+use Rattle.desks.specs.{Desks.is_quiet_doing, Shown.shown, Shown.change_in, Shown.lists_of, Undoing.keys_if, Holding.IsHeld}
 use Rattle.desks.proofs.Showing.{lists_stay, task_is}
-use Rattle.desks.specs.Holding.{IsHeld}
-use Rattle.law_held_steps.specs.Beginning.{begun}
+use Rattle.law_held_steps.specs.{Beginning.begun, Leaving.LeavesIndexes, Leaving.is_searching}
 use Rattle.law_held_steps.specs.Making.{given_up, LeavesLists, AddsNothing, IsNearer, IsEntered}
-use Rattle.law_held_steps.specs.Leaving.{LeavesIndexes, is_searching}
-use Rattle.law_held_steps.proofs.AnyStep.{some_same}
-use Rattle.law_held_steps.proofs.Desks.{GivesDoing, given, doing_here, changes_at_a_desk}
+use Rattle.law_held_steps.proofs.{AnyStep.some_same, Desks.GivesDoing, Desks.given, Desks.doing_here, Desks.changes_at_a_desk}
 use Rattle.law_found_rows.proofs.FittingChanges.{tables_storable}
 
 -- ---- the task of a session is what its desk shows

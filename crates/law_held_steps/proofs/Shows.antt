@@ -9,48 +9,34 @@ use Rattle.std.proofs.lemmas.Bool.Decides.{nat_tests, eqb_tells}
 use Rattle.inno_db.specs.declared.change.Change.{Change}
 use Rattle.inno_model.specs.Past.{own, IsOpen}
 use Rattle.read_view.specs.Sight.{Sight as ReadSight, is_seen}
-use Rattle.row_versions.specs.declared.place.Place.{Place}
-use Rattle.row_versions.specs.declared.version.Version.{Version}
-use Rattle.row_versions.specs.Chains.{Chains, versions_at, sees, is_same_place}
+use Rattle.row_versions.specs.{declared.place.Place.Place, declared.version.Version.Version, Chains.Chains, Chains.versions_at, Chains.sees}
+use Rattle.row_versions.specs.{Chains.is_same_place}
 use Rattle.law_stored_rows.proofs.Values.{place_itself, same_place, one_key}
-use Rattle.law_past_agreement.specs.Ids.{id_of}
-use Rattle.law_past_agreement.specs.Rows.{is_at, is_place, row_of, row_opened}
-use Rattle.law_past_agreement.specs.Agreement.{AreVersionsBy, ViewAgrees, versions_of}
+use Rattle.law_past_agreement.specs.{Ids.id_of, Rows.is_at, Rows.is_place, Rows.row_of, Rows.row_opened, Agreement.AreVersionsBy, Agreement.ViewAgrees}
+use Rattle.law_past_agreement.specs.{Agreement.versions_of}
 use Rattle.law_past_agreement.proofs.Ids.{AreIds, ids_of}
-use Rattle.world.specs.State.{WorldState, Logged}
+use Rattle.world.specs.{State.WorldState, State.Logged, Told.IsTold, Told.pairs_of}
 use Rattle.law_world_agreement.specs.Agreement.{sight_of, Agrees}
 use Rattle.law_world_agreement.proofs.Ending.{work_of}
 use Rattle.desks.specs.Holding.{IsLast, IsOwnView, IsLastOf, RowsHeld, RowsHeldBy, SightHolds}
-use Rattle.inno_types.specs.declared.value.Value.{Value}
-use Rattle.inno_types.specs.declared.value.Column.{Column}
-use Rattle.inno_types.specs.declared.value.Schema.{Schema}
+use Rattle.inno_types.specs.{declared.value.Value.Value, declared.value.Column.Column, declared.value.Schema.Schema}
 use Rattle.key_codec.specs.Keys.{HasKey, key_code}
 use Rattle.law_stored_rows.specs.Tables.{Said, HasItsColumns, AreCodedAs, LagAt, in_table, what_is_there, AreCoded}
-use Rattle.world.specs.Told.{IsTold, pairs_of}
-use Rattle.row_changes.specs.declared.keys_change.KeysChange.{KeysChange}
-use Rattle.row_changes.specs.Keys.{IsChangingKeys}
+use Rattle.row_changes.specs.{declared.keys_change.KeysChange.KeysChange, Keys.IsChangingKeys, declared.row_change.RowChange.TheVariants.Record}
+use Rattle.row_changes.specs.{declared.row_change.RowChange.TheVariants.Keys, Told.AreRowsAs}
 use Rattle.law_logged_changes.proofs.Readable.{lags}
-use Rattle.undo_apply.specs.Standing.{TellsOf}
+use Rattle.undo_apply.specs.{Standing.TellsOf, declared.work_room.WorkRoom.WorkRoom}
 use Rattle.law_logged_changes.specs.Logs.{records_of, Stands, LogsAgree}
-use Rattle.row_search.specs.declared.scan.Scan.{Scan}
-use Rattle.row_search.specs.Sights.{sees_by}
-use Rattle.row_search.specs.Tables.{ShowsRows}
+use Rattle.row_search.specs.{declared.scan.Scan.Scan, Sights.sees_by, Tables.ShowsRows}
 use Rattle.law_held_steps.proofs.AnyStep.{some_same, last_log, quiet_rows}
 use Rattle.law_found_rows.proofs.Showing.{shows_coded, shows_lagging}
 use Rattle.store_api.specs.declared.answers.Undo.{Undo}
-use Rattle.row_changes.specs.declared.row_change.RowChange.TheVariants.{Record, Keys}
-use Rattle.row_changes.specs.Told.{AreRowsAs}
-use Rattle.undo_apply.specs.declared.work_room.WorkRoom.{WorkRoom}
 use Rattle.law_logged_changes.specs.EntriesLag.{LagsAt as EntriesLagAt}
 use Rattle.law_logged_changes.specs.Lagging.{LagsAt}
-use Rattle.law_logged_changes.proofs.Lags.{lags_while}
-use Rattle.law_logged_changes.proofs.Logs.{newest_stands}
-use Rattle.row_search.specs.declared.sight.Sight.{Sight}
-use Rattle.row_search.specs.declared.sight.Sight.TheVariants.{View, Newest}
-use Rattle.desks.specs.declared.desk.Desk.{Desk}
-use Rattle.desks.specs.declared.desk.Doing.{Doing}
+use Rattle.law_logged_changes.proofs.{Lags.lags_while, Logs.newest_stands}
+use Rattle.row_search.specs.{declared.sight.Sight.Sight, declared.sight.Sight.TheVariants.View, declared.sight.Sight.TheVariants.Newest}
+use Rattle.desks.specs.{declared.desk.Desk.Desk, declared.desk.Doing.Doing, Desks.doing_at, Desks.is_quiet_doing, Desks.is_quiet}
 use Rattle.desks.specs.declared.desk.Doing.TheVariants.{Nothing, Searching, Changing, Lagging, Undoing}
-use Rattle.desks.specs.Desks.{doing_at, is_quiet_doing, is_quiet}
 use Rattle.inno_db.specs.declared.change.Change.TheVariants as changes
 
 -- ---- the newest version of a place that an open transaction has changed is its own, and no other reader sees it by a view

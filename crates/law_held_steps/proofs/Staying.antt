@@ -1,21 +1,13 @@
 -- A world that is held stays so where places of one session move.
 use Rattle.std.proofs.Common.{◌≡◌, ⊎_elim, ℕ, true, List, Option, refl, sym, ap, subst, ◌∙◌}
-use Rattle.world.specs.State.{WorldState}
-use Rattle.world.specs.Told.{IsTold}
-use Rattle.world.specs.declared.undo_room.UndoRoom.{UndoRoom}
+use Rattle.world.specs.{State.WorldState, Told.IsTold, declared.undo_room.UndoRoom.UndoRoom}
 use Rattle.undo_apply.specs.declared.work_room.WorkRoom.{WorkRoom}
-use Rattle.law_logged_changes.proofs.Leaving.{rows_leave, all_left}
-use Rattle.law_logged_changes.proofs.GoingOn.{logs_beside, work_beside}
-use Rattle.desks.specs.declared.desk.Desk.{Desk}
-use Rattle.desks.specs.declared.desk.Doing.{Doing}
-use Rattle.desks.specs.declared.desk.Doing.TheVariants.{Nothing}
-use Rattle.desks.specs.Desks.{doing_at, with_doing, is_quiet_doing}
-use Rattle.desks.specs.Holding.{SearchHeld, IsHeld}
-use Rattle.law_held_steps.specs.Begun.{ViewsHaveNext}
-use Rattle.law_held_steps.specs.Moving.{MovesPlaces}
-use Rattle.law_held_steps.proofs.Places.{moves_leave, moves_told}
+use Rattle.law_logged_changes.proofs.{Leaving.rows_leave, Leaving.all_left, GoingOn.logs_beside, GoingOn.work_beside}
+use Rattle.desks.specs.{declared.desk.Desk.Desk, declared.desk.Doing.Doing, declared.desk.Doing.TheVariants.Nothing, Desks.doing_at, Desks.with_doing}
+use Rattle.desks.specs.{Desks.is_quiet_doing, Holding.SearchHeld, Holding.IsHeld}
+use Rattle.law_held_steps.specs.{Begun.ViewsHaveNext, Moving.MovesPlaces}
+use Rattle.law_held_steps.proofs.{Places.moves_leave, Places.moves_told, AnyStep.quiet_step, AnyStep.others_beside, AnyStep.held_beside}
 use Rattle.law_held_steps.proofs.Desks.{desk_elsewhere, started_still, doing_mine, as_many, doing_stays}
-use Rattle.law_held_steps.proofs.AnyStep.{quiet_step, others_beside, held_beside}
 
 module _ (s : ℕ) (old new : WorldState) (moves : MovesPlaces s old new) where
   pub held_stays : (writer : Option ℕ) (desks : List Desk) (cuts : ℕ) (undo : UndoRoom) (room : WorkRoom)

@@ -2,58 +2,34 @@
 use Rattle.std.proofs.Common.{◌≡◌, ◌≢◌, inl, inr, ℕ, ◌<◌, ◌≤◌, Bool, true, false, List, length, map, Option, Some, refl, sym, ap, subst, ◌∙◌, slice_get}
 use Rattle.std.proofs.Common.{arith, eq-eqb}
 use Rattle.std.specs.Prelude.{◌==◌, ◌-◌, filter}
-use Rattle.inno_types.specs.declared.value.Schema.{Schema}
-use Rattle.inno_types.specs.Order.{IsBelow}
+use Rattle.inno_types.specs.{declared.value.Schema.Schema, Order.IsBelow}
 use Rattle.inno_db.specs.Database.{rows_of}
 use Rattle.inno_model.specs.Past.{commits, changed}
 use Rattle.store_api.specs.declared.moves.Move.{Move}
 use Rattle.entries.specs.Calls.{Leaves}
 use Rattle.read_view.specs.Sight.{Sight as ReadSight}
-use Rattle.row_versions.specs.declared.place.Place.{Place}
-use Rattle.row_versions.specs.Chains.{Chains, versions_at}
+use Rattle.row_versions.specs.{declared.place.Place.Place, Chains.Chains, Chains.versions_at}
 use Rattle.law_stored_rows.specs.Tables.{in_table}
-use Rattle.law_past_agreement.specs.Rows.{seen}
-use Rattle.law_past_agreement.specs.DatabaseTables.{with_all_tables}
-use Rattle.world.specs.State.{WorldState, index_of}
-use Rattle.world.specs.Told.{IsTold, pairs_of}
-use Rattle.world.specs.Indexes.{Calls}
-use Rattle.world.specs.Undoing.{read_into}
-use Rattle.world.specs.declared.undo_room.UndoRoom.{UndoRoom}
+use Rattle.law_past_agreement.specs.{Rows.seen, DatabaseTables.with_all_tables}
+use Rattle.world.specs.{State.WorldState, State.index_of, Told.IsTold, Told.pairs_of, Indexes.Calls, Undoing.read_into, declared.undo_room.UndoRoom.UndoRoom}
 use Rattle.law_world_agreement.specs.Agreement.{Agrees}
 use Rattle.law_logged_changes.proofs.ReadersLeft.{rows_left}
 use Rattle.undo_apply.specs.declared.work_room.WorkRoom.{WorkRoom}
-use Rattle.row_search.specs.declared.found.FoundRow.{FoundRow}
-use Rattle.row_search.specs.declared.scan.Scan.{Scan}
-use Rattle.row_search.specs.declared.search.RowSearch.{RowSearch}
-use Rattle.row_search.specs.declared.sight.Sight.{Sight}
-use Rattle.row_search.specs.declared.sight.Sight.TheVariants.{View, Newest}
-use Rattle.row_search.specs.FoundRows.{AreFound, RiseByKey}
-use Rattle.row_search.specs.Ranges.{lies_in}
-use Rattle.row_search.specs.Searches.{IsSearching, place_in}
-use Rattle.row_search.specs.Sights.{rows_seen}
-use Rattle.row_search.specs.Steps.{IsSameScan, GoesOn, Waits, Ends}
-use Rattle.row_search.specs.Tables.{most_versions, ShowsRows}
+use Rattle.row_search.specs.{declared.found.FoundRow.FoundRow, declared.scan.Scan.Scan, declared.search.RowSearch.RowSearch, declared.sight.Sight.Sight}
+use Rattle.row_search.specs.{declared.sight.Sight.TheVariants.View, declared.sight.Sight.TheVariants.Newest, FoundRows.AreFound, FoundRows.RiseByKey}
+use Rattle.row_search.specs.{Ranges.lies_in, Searches.IsSearching, Searches.place_in, Sights.rows_seen, Steps.IsSameScan, Steps.GoesOn, Steps.Waits}
+use Rattle.row_search.specs.{Steps.Ends, Tables.most_versions, Tables.ShowsRows}
 use Rattle.law_found_rows.specs.Finding.{IsFinding, IsFindingAnew}
-use Rattle.law_found_rows.proofs.Finding.{may_come_anew, goes_on}
-use Rattle.law_found_rows.proofs.Showing.{holds_table}
-use Rattle.law_found_rows.proofs.Databases.{found_by_view, found_newest}
-use Rattle.shared_lists.specs.State.{counted}
-use Rattle.shared_lists.specs.Steps.{AreRowsSeen, AreFoundBy, rows_in_range}
-use Rattle.desks.specs.declared.desk.Desk.{Desk}
-use Rattle.desks.specs.declared.desk.Doing.TheVariants.{Nothing, Searching}
-use Rattle.desks.specs.declared.desk.TableSearch.{TableSearch}
-use Rattle.desks.specs.Desks.{doing_at, with_doing, is_quiet_doing}
+use Rattle.law_found_rows.proofs.{Finding.may_come_anew, Finding.goes_on, Showing.holds_table, Databases.found_by_view, Databases.found_newest}
+use Rattle.shared_lists.specs.{State.counted, Steps.AreRowsSeen, Steps.AreFoundBy, Steps.rows_in_range}
+use Rattle.desks.specs.{declared.desk.Desk.Desk, declared.desk.Doing.TheVariants.Nothing, declared.desk.Doing.TheVariants.Searching}
+use Rattle.desks.specs.{declared.desk.TableSearch.TableSearch, Desks.doing_at, Desks.with_doing, Desks.is_quiet_doing, Searching.keys_left}
+use Rattle.desks.specs.{Searching.places_in, Shown.reading_of}
 use Rattle.desks.specs.Holding.{SightHolds, FindsSince, IsSearchHeld, SearchHeld, IsHeld}
-use Rattle.desks.specs.Searching.{keys_left, places_in}
-use Rattle.desks.specs.Shown.{reading_of}
-use Rattle.law_held_steps.specs.Moving.{MovesPlaces}
-use Rattle.law_held_steps.specs.TakenUp.{IsTakenUp, MayStep, plan_of}
-use Rattle.law_held_steps.proofs.AnyStep.{some_same}
-use Rattle.law_held_steps.proofs.Beside.{alone_if}
+use Rattle.law_held_steps.specs.{Moving.MovesPlaces, TakenUp.IsTakenUp, TakenUp.MayStep, TakenUp.plan_of}
+use Rattle.law_held_steps.proofs.{AnyStep.some_same, Beside.alone_if, Staying.held_stays, Shows.HasSome, Shows.some_rows_by, Shows.shows_held}
 use Rattle.law_held_steps.proofs.Places.{moves_then, moves_in_one, moves_nothing, leaving_moves, moves_leave, moves_told}
-use Rattle.law_held_steps.proofs.Staying.{held_stays}
 use Rattle.law_held_steps.proofs.Nearing.{IsLess, keys_before, visit_before, keys_anew, steps_nearer, still_nearer, anew_nearer}
-use Rattle.law_held_steps.proofs.Shows.{HasSome, some_rows_by, shows_held}
 
 -- ---- the search that is stepped
 

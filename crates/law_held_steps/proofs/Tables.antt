@@ -1,40 +1,28 @@
 -- A table that is made, by who may write.
-use Rattle.std.proofs.Common.{◌≡◌, ◌≢◌, ℕ, ◌+◌, ◌<◌, ◌≤◌, ◌^◌, Some, List, [], ◌∷◌, ◌++◌, length, refl, sym, ap, subst}
-use Rattle.std.proofs.Common.{◌∙◌, ⊎_elim, inl, inr, arith, eq-eqb, ◌⊎◌, get_or}
+use Rattle.std.proofs.Common.{◌≡◌, ◌≢◌, ℕ, ◌+◌, ◌<◌, ◌≤◌, ◌^◌, Some, List, [], ◌∷◌, ◌++◌, length, refl, sym, ap, subst, ◌∙◌, ⊎_elim, inl, inr, arith, eq-eqb}
+use Rattle.std.proofs.Common.{◌⊎◌, get_or}
 use Rattle.std.proofs.lemmas.Option.{slice_get_within, get_or_from_slice_get}
 use Rattle.std.specs.Prelude.{slice_get, is_some}
 use Rattle.std.proofs.lemmas.Bool.{cases_eq}
 use Rattle.std.proofs.lemmas.Bool.Decides.{nat_tests}
-use Rattle.inno_types.specs.declared.value.Schema.{Schema}
-use Rattle.inno_types.specs.declared.value.Key.{Key}
-use Rattle.inno_types.specs.declared.value.Column.{Column}
+use Rattle.inno_types.specs.{declared.value.Schema.Schema, declared.value.Key.Key, declared.value.Column.Column}
 use Rattle.inno_db.specs.declared.change.Change.TheVariants.{Create}
 use Rattle.inno_model.specs.declared.event.Event.TheVariants.{Changed}
 use Rattle.inno_model.specs.Past.{own, started, under_way, of_item, awaits_ack}
-use Rattle.entries.specs.Pairs.{Pair, value_of}
-use Rattle.entries.specs.Index.{Index}
-use Rattle.entries.specs.Lists.{empty_index}
-use Rattle.law_stored_rows.specs.Storable.{IsStorable, IsKeyOn}
-use Rattle.law_stored_rows.specs.Edits.{clustered_index, key_index}
-use Rattle.law_stored_rows.specs.Tables.{HasItsColumns, HasNoPairs, AreCoded}
+use Rattle.entries.specs.{Pairs.Pair, Pairs.value_of, Index.Index, Lists.empty_index}
+use Rattle.law_stored_rows.specs.{Storable.IsStorable, Storable.IsKeyOn, Edits.clustered_index, Edits.key_index, Tables.HasItsColumns, Tables.HasNoPairs}
+use Rattle.law_stored_rows.specs.{Tables.AreCoded}
 use Rattle.law_stored_rows.proofs.Made.{a_table_more}
 use Rattle.world.specs.State.{WorldState, Session, Work, IsSession, HasWork, index_of}
-use Rattle.world.specs.Told.{IsTold, pairs_in, pairs_of}
-use Rattle.world.specs.declared.undo_room.UndoRoom.{UndoRoom}
-use Rattle.undo_apply.specs.declared.work_room.WorkRoom.{WorkRoom}
+use Rattle.world.specs.{Told.IsTold, Told.pairs_in, Told.pairs_of, declared.undo_room.UndoRoom.UndoRoom, Undoing.read_into}
+use Rattle.undo_apply.specs.{declared.work_room.WorkRoom.WorkRoom, declared.work_room.Stage.TheVariants.Find}
 use Rattle.row_changes.specs.Told.{HasRows}
-use Rattle.world.specs.Undoing.{read_into}
-use Rattle.undo_apply.specs.declared.work_room.Stage.TheVariants.{Find}
 use Rattle.shared_lists.specs.Fitting.{FitsThen}
 use Rattle.law_world_agreement.specs.Steps.{IsChangedBy}
 use Rattle.law_world_agreement.proofs.Changing.{created_agrees}
-use Rattle.law_logged_changes.specs.Logs.{LogsAgree, IsLogOf}
-use Rattle.law_logged_changes.specs.Pointers.{IsNeededBy}
-use Rattle.desks.specs.declared.desk.Desk.{Desk}
-use Rattle.desks.specs.declared.desk.Doing.TheVariants.{Nothing}
-use Rattle.desks.specs.Desks.{doing_at}
-use Rattle.desks.specs.Holding.{RowsHeld, SearchHeld, IsHeld}
-use Rattle.desks.specs.Leaves.{LeavesOthers}
+use Rattle.law_logged_changes.specs.{Logs.LogsAgree, Logs.IsLogOf, Pointers.IsNeededBy}
+use Rattle.desks.specs.{declared.desk.Desk.Desk, declared.desk.Doing.TheVariants.Nothing, Desks.doing_at, Holding.RowsHeld, Holding.SearchHeld}
+use Rattle.desks.specs.{Holding.IsHeld, Leaves.LeavesOthers}
 use Rattle.law_logged_changes.proofs.Leaving.{more_grow}
 use Rattle.law_held_steps.proofs.Joining.{others_there}
 use Rattle.law_held_steps.proofs.AnyStep.{each, waits_not, others_past, past_grows, held_after}

@@ -1,52 +1,34 @@
 -- The newest change is taken back: its rows, then its undo record, and then the history tells it.
-use Rattle.std.proofs.Common.{◌≡◌, ◌≢◌, inl, inr, ℕ, ◌+◌, ◌-◌, ◌^◌, ◌<◌, ◌≤◌, true, false, List, [], ◌∷◌, length, map, Option, Some}
-use Rattle.std.proofs.Common.{refl, sym, ap, subst, ◌∙◌, arith, slice_get, eq-eqb}
+use Rattle.std.proofs.Common.{◌≡◌, ◌≢◌, inl, inr, ℕ, ◌+◌, ◌-◌, ◌^◌, ◌<◌, ◌≤◌, true, false, List, [], ◌∷◌, length, map, Option, Some, refl, sym, ap, subst}
+use Rattle.std.proofs.Common.{◌∙◌, arith, slice_get, eq-eqb}
 use Rattle.std.specs.Prelude.{slice_set, is_some}
 use Rattle.std.proofs.lemmas.Bool.Decides.{nat_tests}
 use Rattle.std.proofs.lemmas.List.{length-set, set-set}
-use Rattle.inno_model.specs.declared.event.Event.{Event}
-use Rattle.inno_model.specs.declared.event.Event.TheVariants.{Undone}
+use Rattle.inno_model.specs.{declared.event.Event.Event, declared.event.Event.TheVariants.Undone}
 use Rattle.inno_model.specs.Past.{is_of, own, started, under_way, of_item, awaits_ack}
 use Rattle.inno_model.proofs.Untouched.{untouched}
-use Rattle.store_api.specs.declared.moves.Move.TheVariants.{Done}
+use Rattle.store_api.specs.{declared.moves.Move.TheVariants.Done, declared.answers.Undo.Undo}
 use Rattle.entries.specs.Index.{Index}
-use Rattle.store_api.specs.declared.answers.Undo.{Undo}
 use Rattle.row_versions.specs.Chains.{Chains, Pops}
 use Rattle.law_past_agreement.proofs.Rows.{own_undone}
 use Rattle.world.specs.State.{WorldState, Session, Work, IsSession, HasWork, standing_of}
-use Rattle.world.specs.Told.{LeavesRows}
-use Rattle.world.specs.Sessions.{undone_added}
-use Rattle.world.specs.declared.undo_room.UndoRoom.{UndoRoom}
-use Rattle.world.specs.Undoing.{read_into, IsCutBack}
-use Rattle.law_world_agreement.specs.Agreement.{Agrees}
-use Rattle.law_world_agreement.specs.Steps.{IsTakenBackBy}
-use Rattle.law_world_agreement.proofs.Opening.{set_here, set_other}
-use Rattle.law_world_agreement.proofs.Changing.{one_session, one_work}
-use Rattle.law_world_agreement.proofs.Entries.{taken_back_agrees}
+use Rattle.world.specs.{Told.LeavesRows, Sessions.undone_added, declared.undo_room.UndoRoom.UndoRoom, Undoing.read_into, Undoing.IsCutBack, Memory.IsInMemory}
+use Rattle.law_world_agreement.specs.{Agreement.Agrees, Steps.IsTakenBackBy}
+use Rattle.law_world_agreement.proofs.{Opening.set_here, Opening.set_other, Changing.one_session, Changing.one_work, Entries.taken_back_agrees}
 use Rattle.row_changes.specs.Told.{HasRows}
-use Rattle.undo_apply.specs.declared.work_room.WorkRoom.{WorkRoom}
-use Rattle.undo_apply.specs.Stages.{IsPuttingBack, IsDone}
-use Rattle.law_logged_changes.proofs.ReadersLeft.{has_rows_left}
-use Rattle.law_logged_changes.specs.Logs.{LogsAgree, IsAlone}
-use Rattle.law_logged_changes.specs.Steps.{LeavesLogs, IsToCut, HasCut}
-use Rattle.law_logged_changes.proofs.Leaving.{rows_leave, cut_left, cut_again}
-use Rattle.law_logged_changes.proofs.GoingOn.{work_beside, work_again, own_beside}
-use Rattle.law_logged_changes.proofs.TakenBack.{rows_then, to_cut_by_history}
-use Rattle.law_logged_changes.proofs.Cutting.{rows_cut, has_cut}
+use Rattle.undo_apply.specs.{declared.work_room.WorkRoom.WorkRoom, Stages.IsPuttingBack, Stages.IsDone}
+use Rattle.law_logged_changes.proofs.{ReadersLeft.has_rows_left, Leaving.rows_leave, Leaving.cut_left, Leaving.cut_again, GoingOn.work_beside}
+use Rattle.law_logged_changes.proofs.{GoingOn.work_again, GoingOn.own_beside, TakenBack.rows_then, TakenBack.to_cut_by_history, Cutting.rows_cut}
+use Rattle.law_logged_changes.proofs.{Cutting.has_cut}
+use Rattle.law_logged_changes.specs.{Logs.LogsAgree, Logs.IsAlone, Steps.LeavesLogs, Steps.IsToCut, Steps.HasCut}
 use Rattle.shared_lists.specs.Fitting.{FitsThen}
-use Rattle.world.specs.Memory.{IsInMemory}
-use Rattle.desks.specs.declared.desk.Desk.{Desk}
-use Rattle.desks.specs.declared.desk.Doing.TheVariants.{Nothing, Undoing}
-use Rattle.desks.specs.Desks.{doing_at, with_doing}
-use Rattle.desks.specs.Leaves.{LeavesOthers}
-use Rattle.desks.specs.Holding.{SearchHeld, IsGoingBack, IsHeld}
+use Rattle.desks.specs.{declared.desk.Desk.Desk, declared.desk.Doing.TheVariants.Nothing, declared.desk.Doing.TheVariants.Undoing, Desks.doing_at}
+use Rattle.desks.specs.{Desks.with_doing, Leaves.LeavesOthers, Holding.SearchHeld, Holding.IsGoingBack, Holding.IsHeld}
 use Rattle.law_held_steps.specs.Undoing.{HasPutBack}
-use Rattle.law_held_steps.proofs.Desks.{given}
-use Rattle.law_held_steps.proofs.SeenEntries.{settings_same}
+use Rattle.law_held_steps.proofs.{Desks.given, SeenEntries.settings_same, AnyStep.waits_not, AnyStep.last_log, AnyStep.held_after, Putting.mine}
+use Rattle.law_held_steps.proofs.{Putting.going, Putting.answers}
 use Rattle.law_held_steps.proofs.Beside.{LeavesAll, done_leaves, without_newest, popped_newest, popped_fewer, has_place, alone_if, rows_by_writer}
-use Rattle.law_held_steps.proofs.AnyStep.{waits_not, last_log, held_after}
 use Rattle.row_changes.proofs.Sessions.{same_pairs, same_versions}
-use Rattle.law_held_steps.proofs.Putting.{mine, going, answers}
 
 module _ (s : ℕ) (old mid : WorldState) (writer : Option ℕ) (desks : List Desk) (cuts : ℕ) (undo : UndoRoom) (room next : WorkRoom)
     (held : IsHeld old writer desks cuts undo room) (busy : doing_at s desks ≡ Undoing) (put : HasPutBack s (read_into undo) room next old mid Done) where

@@ -14,20 +14,13 @@ use Rattle.law_past_agreement.proofs.Ids.{ids_of}
 use Rattle.txn_table.specs.Txns.{ids_of as listed_ids}
 use Rattle.entries.specs.Index.{Paged}
 use Rattle.world.specs.State.{WorldState, Session, Work, IsSession, HasWork}
-use Rattle.world.specs.Told.{IsTold}
-use Rattle.world.specs.Sessions.{fresh_work, of_txn, change_txn, with_save}
-use Rattle.world.specs.Stores.{StoreGoes}
-use Rattle.world.specs.Endings.{committed, rolled_back, IsCommitted, IsRolledBack}
-use Rattle.world.specs.declared.undo_room.UndoRoom.{UndoRoom}
+use Rattle.world.specs.{Told.IsTold, Sessions.fresh_work, Sessions.of_txn, Sessions.change_txn, Sessions.with_save, Stores.StoreGoes, Endings.committed}
+use Rattle.world.specs.{Endings.rolled_back, Endings.IsCommitted, Endings.IsRolledBack, declared.undo_room.UndoRoom.UndoRoom}
 use Rattle.undo_apply.specs.declared.work_room.WorkRoom.{WorkRoom}
 use Rattle.law_world_agreement.specs.Steps.{opened, viewed, session_begun}
-use Rattle.law_world_agreement.proofs.Opening.{set_here, set_other, opened_agrees, viewed_agrees}
-use Rattle.law_world_agreement.proofs.Ending.{one_session_of, committed_agrees, rolled_back_agrees}
-use Rattle.law_world_agreement.proofs.Entries.{unentered_agrees}
-use Rattle.desks.specs.declared.desk.Desk.{Desk}
-use Rattle.desks.specs.declared.desk.Doing.TheVariants.{Nothing}
-use Rattle.desks.specs.Desks.{doing_at}
-use Rattle.desks.specs.Holding.{IsHeld}
+use Rattle.law_world_agreement.proofs.{Opening.set_here, Opening.set_other, Opening.opened_agrees, Opening.viewed_agrees, Ending.one_session_of}
+use Rattle.law_world_agreement.proofs.{Ending.committed_agrees, Ending.rolled_back_agrees, Entries.unentered_agrees}
+use Rattle.desks.specs.{declared.desk.Desk.Desk, declared.desk.Doing.TheVariants.Nothing, Desks.doing_at, Holding.IsHeld}
 use Rattle.law_held_steps.proofs.AnyStep.{some_same, waits_not}
 use Rattle.law_held_steps.proofs.EntrySessions.{works_by, entered_by, same_log, same_writer, closed_desks}
 

@@ -4,31 +4,21 @@ use Rattle.inno_types.specs.declared.value.Schema.{Schema}
 use Rattle.inno_model.specs.declared.event.Event.TheVariants.{Undone}
 use Rattle.store_api.specs.declared.moves.Move.TheVariants.{Done, Step}
 use Rattle.law_past_agreement.specs.Order.{MayCome}
-use Rattle.world.specs.State.{WorldState, Session, Work, HasWork}
-use Rattle.world.specs.Sessions.{undone_added}
-use Rattle.world.specs.declared.undo_room.UndoRoom.{UndoRoom}
-use Rattle.world.specs.Undoing.{read_into, ReadsLast, IsCutBack}
+use Rattle.world.specs.{State.WorldState, State.Session, State.Work, State.HasWork, Sessions.undone_added, declared.undo_room.UndoRoom.UndoRoom}
+use Rattle.world.specs.{Undoing.read_into, Undoing.ReadsLast, Undoing.IsCutBack, Memory.IsInMemory}
 use Rattle.undo_apply.specs.declared.work_room.WorkRoom.{WorkRoom}
 use Rattle.law_logged_changes.specs.Steps.{ChangesPairsAlone}
-use Rattle.world.specs.Memory.{IsInMemory}
-use Rattle.desks.specs.declared.desk.Desk.{Desk}
-use Rattle.desks.specs.declared.desk.Doing.{Doing}
-use Rattle.desks.specs.declared.desk.Doing.TheVariants.{Nothing, Lagging, Undoing}
-use Rattle.desks.specs.Desks.{doing_at, with_doing, is_quiet_doing}
-use Rattle.desks.specs.Shown.{shown, lists_of}
-use Rattle.desks.specs.Undoing.{undo_left_in}
-use Rattle.desks.specs.Holding.{IsHeld}
+use Rattle.desks.specs.{declared.desk.Desk.Desk, declared.desk.Doing.Doing, declared.desk.Doing.TheVariants.Nothing, declared.desk.Doing.TheVariants.Lagging}
+use Rattle.desks.specs.{declared.desk.Doing.TheVariants.Undoing, Desks.doing_at, Desks.with_doing, Desks.is_quiet_doing, Shown.shown, Shown.lists_of}
+use Rattle.desks.specs.{Undoing.undo_left_in, Holding.IsHeld}
 use Rattle.desks.proofs.Showing.{task_is}
 use Rattle.shared_lists.specs.Tasks.{Task, MayTakeBack, undo_to_go}
 use Rattle.shared_lists.specs.Tasks as tasks
 use Rattle.shared_lists.specs.State.{task_of, Turns}
 use Rattle.shared_lists.specs.declared.answers.Undone.TheVariants as undone
-use Rattle.law_held_steps.specs.Undoing.{IsReady, HasPutBack}
-use Rattle.law_held_steps.specs.SeenUndoing.{lists_held, TakesBackIn}
-use Rattle.law_held_steps.proofs.Desks.{GivesDoing, given, kept_on}
-use Rattle.law_held_steps.proofs.Showing.{shows_now}
-use Rattle.law_held_steps.proofs.Putting.{mine, rest_beside, nearer}
-use Rattle.law_held_steps.proofs.Reading.{may_write, few_begun}
+use Rattle.law_held_steps.specs.{Undoing.IsReady, Undoing.HasPutBack, SeenUndoing.lists_held, SeenUndoing.TakesBackIn}
+use Rattle.law_held_steps.proofs.{Desks.GivesDoing, Desks.given, Desks.kept_on, Showing.shows_now, Putting.mine, Putting.rest_beside, Putting.nearer}
+use Rattle.law_held_steps.proofs.{Reading.may_write, Reading.few_begun}
 use Rattle.law_held_steps.proofs.TakenBack.{past_now, names_now, schemas_now, count_rows_now, settings_now}
 
 -- ---- tasks

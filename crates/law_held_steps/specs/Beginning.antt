@@ -1,14 +1,10 @@
 -- What a change of a row needs to know before it begins, and what it is then.
 use Rattle.std.specs.Prelude.{◌≡◌, ℕ, ◌<◌, List, length, slice_get, Some}
-use Rattle.inno_types.specs.declared.value.Column.{Column}
-use Rattle.inno_types.specs.declared.value.Schema.{Schema}
+use Rattle.inno_types.specs.{declared.value.Column.Column, declared.value.Schema.Schema}
 use Rattle.key_codec.specs.Keys.{IsOfKind, key_code}
 use Rattle.world.specs.State.{WorldState}
-use Rattle.row_changes.specs.declared.record_change.RecordStage.TheVariants.{Enter}
-use Rattle.row_changes.specs.declared.row_edit.RowEdit.{RowEdit}
-use Rattle.row_changes.specs.declared.row_change.RowChange.{RowChange}
-use Rattle.row_changes.specs.declared.row_change.RowChange.TheVariants.{Record}
-use Rattle.row_changes.specs.Rows.{row_after, primary_of}
+use Rattle.row_changes.specs.{declared.record_change.RecordStage.TheVariants.Enter, declared.row_edit.RowEdit.RowEdit}
+use Rattle.row_changes.specs.{declared.row_change.RowChange.RowChange, declared.row_change.RowChange.TheVariants.Record, Rows.row_after, Rows.primary_of}
 
 -- The table is there, and its primary column, of whose kind the row's key is.
 pub record IsEditable (state : WorldState) (table : ℕ) (edit : RowEdit) : Type 0 where

@@ -3,10 +3,8 @@ use Rattle.std.specs.Prelude.{◌≡◌, ℕ, ◌<◌, Some}
 use Rattle.inno_types.specs.declared.value.Schema.{Schema}
 use Rattle.sql_plan.specs.declared.choice.Plan.{Plan}
 use Rattle.world.specs.State.{WorldState, Session, Work, Seen, HasWork}
-use Rattle.row_search.specs.declared.sight.Sight.{Sight}
-use Rattle.row_search.specs.declared.scan.Scan.{Scan}
-use Rattle.row_search.specs.declared.search.RowSearch.{RowSearch}
-use Rattle.row_search.specs.Searches.{BeginsWithNothing, MayBegin}
+use Rattle.row_search.specs.{declared.sight.Sight.Sight, declared.scan.Scan.Scan, declared.search.RowSearch.RowSearch, Searches.BeginsWithNothing}
+use Rattle.row_search.specs.{Searches.MayBegin}
 use Rattle.desks.specs.declared.desk.TableSearch.{TableSearch}
 
 -- the scan of a plan's range, with this reader

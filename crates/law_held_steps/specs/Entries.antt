@@ -9,8 +9,7 @@ use Rattle.law_world_agreement.specs.Agreement.{Agrees}
 use Rattle.shared_lists.specs.Fitting.{FitsThen}
 use Rattle.law_logged_changes.specs.Steps.{LeavesLog, HasNoLog}
 use Rattle.law_found_rows.specs.Pasts.{AddsAtMostOne}
-use Rattle.desks.specs.declared.desk.Desk.{Desk}
-use Rattle.desks.specs.Desks.{desk_at, doing_at}
+use Rattle.desks.specs.{declared.desk.Desk.Desk, Desks.desk_at, Desks.doing_at}
 
 -- no pair, no version and no table has changed
 pub record HasSameRows (old new : WorldState) : Type 0 where

@@ -2,11 +2,9 @@
 use Rattle.std.specs.Prelude.{◌≡◌, ◌≢◌, ℕ, Bool, true, false, Some}
 use Rattle.entries.specs.Index.{AreKept}
 use Rattle.row_versions.specs.Versions.{Stays}
-use Rattle.world.specs.State.{WorldState}
-use Rattle.world.specs.Stores.{StoreGoes}
+use Rattle.world.specs.{State.WorldState, Stores.StoreGoes}
 use Rattle.row_changes.specs.Awaited.{IsOfTable}
-use Rattle.desks.specs.declared.desk.Doing.{Doing}
-use Rattle.desks.specs.declared.desk.Doing.TheVariants.{Searching}
+use Rattle.desks.specs.{declared.desk.Doing.Doing, declared.desk.Doing.TheVariants.Searching}
 
 -- Its places in indexes are others, or it is awaited no longer. All else is as it was.
 pub record LeavesIndexes (s : ℕ) (old new : WorldState) : Type 0 where

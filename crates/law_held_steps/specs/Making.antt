@@ -2,22 +2,14 @@
 use Rattle.std.specs.Prelude.{◌≡◌, ℕ, ◌+◌, ◌<◌, List, ◌∷◌, map, slice_get, Some, None}
 use Rattle.inno_db.specs.declared.change.Change.{Change}
 use Rattle.inno_model.specs.declared.event.Event.TheVariants.{Changed}
-use Rattle.world.specs.State.{WorldState, Session}
-use Rattle.world.specs.declared.undo_room.UndoRoom.{UndoRoom}
-use Rattle.row_changes.specs.declared.row_change.RowChange.{RowChange}
-use Rattle.row_changes.specs.declared.row_change.RowChange.TheVariants.{Record, Keys}
-use Rattle.row_changes.specs.declared.reached.Reached.{Reached}
-use Rattle.row_changes.specs.declared.reached.Reached.TheVariants.{Went, Done, Hindered}
-use Rattle.row_changes.specs.Rows.{row_steps, table_of}
+use Rattle.world.specs.{State.WorldState, State.Session, declared.undo_room.UndoRoom.UndoRoom}
+use Rattle.row_changes.specs.{declared.row_change.RowChange.RowChange, declared.row_change.RowChange.TheVariants.Record}
+use Rattle.row_changes.specs.{declared.row_change.RowChange.TheVariants.Keys, declared.reached.Reached.Reached, declared.reached.Reached.TheVariants.Went}
+use Rattle.row_changes.specs.{declared.reached.Reached.TheVariants.Done, declared.reached.Reached.TheVariants.Hindered, Rows.row_steps, Rows.table_of}
 use Rattle.undo_apply.specs.declared.work_room.WorkRoom.{WorkRoom}
 use Rattle.shared_lists.specs.Steps.{rows_of_change}
-use Rattle.desks.specs.declared.desk.Desk.{Desk}
-use Rattle.desks.specs.declared.desk.Doing.{Doing}
-use Rattle.desks.specs.declared.desk.Doing.TheVariants.{Nothing, Changing, Lagging}
-use Rattle.desks.specs.Desks.{with_doing}
-use Rattle.desks.specs.Shown.{change_in}
-use Rattle.desks.specs.Undoing.{keys_if}
-use Rattle.desks.specs.Holding.{IsHeld}
+use Rattle.desks.specs.{declared.desk.Desk.Desk, declared.desk.Doing.Doing, declared.desk.Doing.TheVariants.Nothing, declared.desk.Doing.TheVariants.Changing}
+use Rattle.desks.specs.{declared.desk.Doing.TheVariants.Lagging, Desks.with_doing, Shown.change_in, Undoing.keys_if, Holding.IsHeld}
 
 -- what is left of a change that is given up: one that the history tells is to be taken back; one that it doesn't tell was
 -- never made

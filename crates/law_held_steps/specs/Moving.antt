@@ -2,8 +2,7 @@
 use Rattle.std.specs.Prelude.{◌≡◌, ◌≢◌, ℕ, Some}
 use Rattle.entries.specs.Index.{AreKept}
 use Rattle.row_versions.specs.Versions.{Stays}
-use Rattle.world.specs.State.{WorldState}
-use Rattle.world.specs.Stores.{StoreGoes}
+use Rattle.world.specs.{State.WorldState, Stores.StoreGoes}
 
 -- Nothing has changed but the session's places in indexes, and what is known of pages. Nobody is awaited who wasn't before.
 pub record MovesPlaces (s : ℕ) (old new : WorldState) : Type 0 where

@@ -1,27 +1,16 @@
 -- A whole search of the newest rows, within one call: how far it has come.
 use Rattle.std.specs.Prelude.{◌≡◌, ◌⊎◌, ℕ, ◌+◌, ◌*◌, ◌^◌, ◌≤◌, Bool, if◌then◌else◌, List, length, Some, slice_get}
-use Rattle.inno_types.specs.declared.value.Schema.{Schema}
-use Rattle.row_versions.specs.declared.place.Place.{Place}
-use Rattle.row_versions.specs.Chains.{Chains, versions_at}
+use Rattle.inno_types.specs.{declared.value.Schema.Schema, Ranges.is_within}
+use Rattle.row_versions.specs.{declared.place.Place.Place, Chains.Chains, Chains.versions_at}
 use Rattle.law_stored_rows.specs.Tables.{Said, what_is_there, HasItsColumns, in_table}
-use Rattle.sql_plan.specs.declared.choice.Plan.{Plan}
-use Rattle.sql_plan.specs.Plans.{whole_index}
-use Rattle.inno_types.specs.Ranges.{is_within}
-use Rattle.sql_plan.specs.Visits.{index_key}
-use Rattle.world.specs.State.{WorldState, index_of}
-use Rattle.world.specs.Told.{pairs_of}
+use Rattle.sql_plan.specs.{declared.choice.Plan.Plan, Plans.whole_index, Visits.index_key}
+use Rattle.world.specs.{State.WorldState, State.index_of, Told.pairs_of}
 use Rattle.row_changes.specs.Told.{AreRowsAs}
-use Rattle.row_search.specs.declared.found.FoundRow.{FoundRow}
-use Rattle.row_search.specs.declared.search.RowSearch.{RowSearch}
-use Rattle.row_search.specs.declared.sight.Sight.TheVariants.{Newest}
-use Rattle.row_search.specs.Sights.{rows_seen}
-use Rattle.row_search.specs.FoundRows.{AreFound, RiseByKey}
-use Rattle.row_search.specs.Searches.{place_in}
-use Rattle.row_search.specs.Tables.{most_versions}
+use Rattle.row_search.specs.{declared.found.FoundRow.FoundRow, declared.search.RowSearch.RowSearch, declared.sight.Sight.TheVariants.Newest, Sights.rows_seen}
+use Rattle.row_search.specs.{FoundRows.AreFound, FoundRows.RiseByKey, Searches.place_in, Tables.most_versions}
 use Rattle.desks.specs.Searching.{keys_left, visit_left}
 use Rattle.law_found_rows.specs.Finding.{IsFinding}
-use Rattle.law_held_steps.specs.Moving.{MovesPlaces}
-use Rattle.law_held_steps.specs.Begun.{IsScanOf}
+use Rattle.law_held_steps.specs.{Moving.MovesPlaces, Begun.IsScanOf}
 
 -- the plan that is searched by: all of the table while keys may lag
 abbrev pub plan_read : Bool → Plan → Plan

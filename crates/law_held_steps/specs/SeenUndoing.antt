@@ -1,14 +1,9 @@
 -- What callers see of a change that is taken back.
 use Rattle.std.specs.Prelude.{◌≡◌, ℕ, List, Option}
-use Rattle.world.specs.State.{WorldState}
-use Rattle.world.specs.declared.undo_room.UndoRoom.{UndoRoom}
+use Rattle.world.specs.{State.WorldState, declared.undo_room.UndoRoom.UndoRoom}
 use Rattle.undo_apply.specs.declared.work_room.WorkRoom.{WorkRoom}
-use Rattle.desks.specs.declared.desk.Desk.{Desk}
-use Rattle.desks.specs.Shown.{lists_of}
-use Rattle.desks.specs.Undoing.{undo_left_in}
-use Rattle.shared_lists.specs.State.{Lists}
-use Rattle.shared_lists.specs.Steps.{TakesBack}
-use Rattle.shared_lists.specs.declared.answers.Undone.{Undone}
+use Rattle.desks.specs.{declared.desk.Desk.Desk, Shown.lists_of, Undoing.undo_left_in}
+use Rattle.shared_lists.specs.{State.Lists, Steps.TakesBack, declared.answers.Undone.Undone}
 
 -- the lists that callers see
 abbrev pub lists_held : WorldState → Option ℕ → List Desk → UndoRoom → WorkRoom → Lists

@@ -3,16 +3,10 @@ use Rattle.std.specs.Prelude.{◌≡◌, ◌≢◌, ◌⊎◌, ℕ}
 use Rattle.inno_types.specs.declared.value.Schema.{Schema}
 use Rattle.sql_plan.specs.declared.choice.Plan.{Plan}
 use Rattle.world.specs.State.{WorldState, IsIndex, index_of}
-use Rattle.row_search.specs.declared.search.RowSearch.{RowSearch}
-use Rattle.row_search.specs.Searches.{IsSearching}
-use Rattle.row_search.specs.Tables.{HoldsTable}
-use Rattle.row_search.specs.Visits.{phase_anew}
-use Rattle.row_search.specs.Others.{KeepsFound, KeepsSearching, NeedsNoVersion}
+use Rattle.row_search.specs.{declared.search.RowSearch.RowSearch, Searches.IsSearching, Tables.HoldsTable, Visits.phase_anew, Others.KeepsFound}
+use Rattle.row_search.specs.{Others.KeepsSearching, Others.NeedsNoVersion}
 use Rattle.shared_lists.specs.declared.answers.Reading.{Reading}
-use Rattle.desks.specs.declared.desk.Doing.{Doing}
-use Rattle.desks.specs.declared.desk.Doing.TheVariants.{Searching}
-use Rattle.desks.specs.declared.desk.TableSearch.{TableSearch}
-use Rattle.desks.specs.Shown.{reading_of}
+use Rattle.desks.specs.{declared.desk.Doing.Doing, declared.desk.Doing.TheVariants.Searching, declared.desk.TableSearch.TableSearch, Shown.reading_of}
 
 -- the search as it comes to its pair anew
 pub record ComesAnew (search anew : RowSearch) : Type 0 where

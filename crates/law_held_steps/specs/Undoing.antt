@@ -1,15 +1,10 @@
 -- Which sessions may take their newest change back, and what the world answers them.
-use Rattle.store_api.specs.declared.answers.Undo.{Undo}
+use Rattle.store_api.specs.{declared.answers.Undo.Undo, declared.moves.Move.Move}
 use Rattle.std.specs.Prelude.{ℕ}
-use Rattle.store_api.specs.declared.moves.Move.{Move}
-use Rattle.row_versions.specs.declared.place.Place.{Place}
-use Rattle.row_versions.specs.Chains.{Chains}
+use Rattle.row_versions.specs.{declared.place.Place.Place, Chains.Chains}
 use Rattle.world.specs.State.{WorldState, Logged}
-use Rattle.undo_apply.specs.declared.work_room.WorkRoom.{WorkRoom}
-use Rattle.undo_apply.specs.Stages.{IsPuttingBack, PutsBack}
-use Rattle.desks.specs.Holding.{IsLast}
-use Rattle.desks.specs.declared.desk.Doing.{Doing}
-use Rattle.desks.specs.declared.desk.Doing.TheVariants.{Nothing, Lagging}
+use Rattle.undo_apply.specs.{declared.work_room.WorkRoom.WorkRoom, Stages.IsPuttingBack, Stages.PutsBack}
+use Rattle.desks.specs.{Holding.IsLast, declared.desk.Doing.Doing, declared.desk.Doing.TheVariants.Nothing, declared.desk.Doing.TheVariants.Lagging}
 
 -- the session's newest change is one of a row, and its undo record is the newest of its log
 abbrev pub HasLast : ℕ → WorldState → Type 0

@@ -2,36 +2,22 @@
 use Rattle.std.proofs.Common.{◌≡◌, inl, inr, ⊎_elim, ℕ, Bool, true, false, cond, List, ◌∷◌, Option, Some, None, refl, sym, ap, subst, ◌∙◌, arith, slice_get}
 use Rattle.std.proofs.Common.{length}
 use Rattle.std.proofs.lemmas.Bool.{cases_order}
-use Rattle.inno_types.specs.declared.value.Value.{Value}
-use Rattle.inno_types.specs.declared.value.Column.{Column}
-use Rattle.inno_types.specs.declared.value.Schema.{Schema}
+use Rattle.inno_types.specs.{declared.value.Value.Value, declared.value.Column.Column, declared.value.Schema.Schema}
 use Rattle.inno_db.specs.declared.change.Change.{Change}
 use Rattle.key_codec.specs.Keys.{HasKey, key_code}
 use Rattle.entries.specs.Pairs.{Pair}
-use Rattle.row_versions.specs.declared.kept.Kept.{Kept}
-use Rattle.row_versions.specs.declared.place.Place.{Place}
-use Rattle.row_versions.specs.declared.version.Version.{Version}
-use Rattle.row_versions.specs.Chains.{Chains, versions_at, is_same_place, older}
-use Rattle.law_stored_rows.specs.Entries.{entry_of, TellAlike}
-use Rattle.law_stored_rows.specs.Records.{shown}
+use Rattle.row_versions.specs.{declared.kept.Kept.Kept, declared.place.Place.Place, declared.version.Version.Version, Chains.Chains, Chains.versions_at}
+use Rattle.row_versions.specs.{Chains.is_same_place, Chains.older}
+use Rattle.law_stored_rows.specs.{Entries.entry_of, Entries.TellAlike, Records.shown}
 use Rattle.law_stored_rows.specs.Tables.{Said, in_table, AreCodedAs, LagAt, what_is_there}
-use Rattle.law_stored_rows.proofs.Values.{one_key, same_place}
-use Rattle.law_stored_rows.proofs.Keys.{said_alike}
+use Rattle.law_stored_rows.proofs.{Values.one_key, Values.same_place, Keys.said_alike}
 use Rattle.law_past_agreement.specs.Rows.{place_in}
-use Rattle.world.specs.State.{WorldState, Logged}
-use Rattle.world.specs.Told.{IsTold, pairs_of}
-use Rattle.row_changes.specs.declared.entry_put.EntryPut.{EntryPut}
-use Rattle.row_changes.specs.declared.keys_change.KeysChange.{KeysChange}
-use Rattle.row_changes.specs.Told.{HasRows}
-use Rattle.row_changes.specs.Edits.{IsKeyAt}
+use Rattle.world.specs.{State.WorldState, State.Logged, Told.IsTold, Told.pairs_of}
+use Rattle.row_changes.specs.{declared.entry_put.EntryPut.EntryPut, declared.keys_change.KeysChange.KeysChange, Told.HasRows, Edits.IsKeyAt}
 use Rattle.row_changes.specs.Keys.{IsChangingKeys, IsPushed, HasRowsSoFar, SaySoFar, gone, said_next}
-use Rattle.undo_apply.specs.declared.work_room.WorkRoom.{WorkRoom}
-use Rattle.undo_apply.specs.declared.work_room.Stage.{Stage}
-use Rattle.undo_apply.specs.declared.work_room.Stage.TheVariants.{Find}
-use Rattle.undo_apply.specs.Rooms.{IsWhole}
-use Rattle.undo_apply.specs.Told.{rows_of}
+use Rattle.undo_apply.specs.{declared.work_room.WorkRoom.WorkRoom, declared.work_room.Stage.Stage, declared.work_room.Stage.TheVariants.Find, Rooms.IsWhole}
+use Rattle.undo_apply.specs.{Told.rows_of, Stages.FitsKeys, Stages.StageHolds, Stages.IsPuttingBack}
 use Rattle.undo_apply.specs.Standing.{TellsOf, IsNewest, versions_before, said_but, AreCodedBut, IsLagging, IsUnderWay}
-use Rattle.undo_apply.specs.Stages.{FitsKeys, StageHolds, IsPuttingBack}
 use Rattle.undo_apply.proofs.Places.{newest_read}
 use Rattle.law_logged_changes.specs.Logs.{records_of, HasRecord, Stands, IsLogOf}
 use Rattle.law_logged_changes.proofs.Logs.{newest_stands}

@@ -8,25 +8,16 @@ use Rattle.inno_db.specs.declared.change.Change.{Change}
 use Rattle.inno_model.specs.Past.{own}
 use Rattle.key_codec.specs.Keys.{key_code}
 use Rattle.entries.specs.Pairs.{Pair, value_of}
-use Rattle.row_versions.specs.declared.kept.Kept.{Kept}
-use Rattle.row_versions.specs.declared.version.Version.{Version}
-use Rattle.row_versions.specs.Chains.{Chains}
-use Rattle.law_stored_rows.specs.Edits.{clustered_index}
-use Rattle.law_stored_rows.specs.Records.{IsRecordWith}
-use Rattle.law_stored_rows.specs.Tables.{in_table, AreClustered, AreCoded}
+use Rattle.row_versions.specs.{declared.kept.Kept.Kept, declared.version.Version.Version, Chains.Chains}
+use Rattle.law_stored_rows.specs.{Edits.clustered_index, Records.IsRecordWith, Tables.in_table, Tables.AreClustered, Tables.AreCoded}
 use Rattle.world.specs.State.{WorldState, Session, Work, Logged, HasWork}
-use Rattle.world.specs.Told.{IsTold, pairs_of}
-use Rattle.world.specs.Undoing.{IsCutBack}
+use Rattle.world.specs.{Told.IsTold, Told.pairs_of, Undoing.IsCutBack}
 use Rattle.row_changes.specs.Told.{HasRows}
-use Rattle.row_changes.proofs.Ids.{one_work}
-use Rattle.row_changes.proofs.Sessions.{set_here, set_other}
-use Rattle.law_logged_changes.specs.Pointers.{IsNeededBy, AreApart, IsUnneeded, PointersApart}
-use Rattle.law_logged_changes.specs.Logs.{records_of, IsLogOf, IsAlone}
-use Rattle.law_logged_changes.specs.Steps.{IsToCut, HasCut}
-use Rattle.law_logged_changes.proofs.Logs.{all_of, all_mapped, Keeps, log_on}
-use Rattle.law_logged_changes.proofs.Leaving.{same_schemas_grow}
-use Rattle.law_logged_changes.proofs.Reaching.{leads_without, reached_with}
-use Rattle.law_logged_changes.proofs.GoingOn.{none_yet}
+use Rattle.row_changes.proofs.{Ids.one_work, Sessions.set_here, Sessions.set_other}
+use Rattle.law_logged_changes.specs.{Pointers.IsNeededBy, Pointers.AreApart, Pointers.IsUnneeded, Pointers.PointersApart, Logs.records_of, Logs.IsLogOf}
+use Rattle.law_logged_changes.specs.{Logs.IsAlone, Steps.IsToCut, Steps.HasCut}
+use Rattle.law_logged_changes.proofs.{Logs.all_of, Logs.all_mapped, Logs.Keeps, Logs.log_on, Leaving.same_schemas_grow, Reaching.leads_without}
+use Rattle.law_logged_changes.proofs.{Reaching.reached_with, GoingOn.none_yet}
 
 -- ---- rows without what none needs
 

@@ -5,42 +5,27 @@ use Rattle.std.specs.Prelude.{slice_get, unwrap_or, IsTrue, None}
 use Rattle.std.specs.Map.{lookup}
 use Rattle.std.proofs.lemmas.Bool.{cases_eq}
 use Rattle.std.proofs.lemmas.Option.{slice_get_within}
-use Rattle.inno_types.specs.declared.value.Value.{Value}
-use Rattle.inno_types.specs.declared.value.Schema.{Schema}
+use Rattle.inno_types.specs.{declared.value.Value.Value, declared.value.Schema.Schema}
 use Rattle.inno_db.specs.Database.{key_of, key_in}
 use Rattle.store_api.specs.declared.answers.Undo.{Undo}
-use Rattle.row_versions.specs.Versions.{Versions}
-use Rattle.row_versions.specs.declared.place.Place.{Place}
-use Rattle.row_versions.specs.declared.version.Version.{Version}
-use Rattle.row_versions.specs.Chains.{Chains, is_same_place, versions_at, Pushes}
-use Rattle.law_past_agreement.specs.Rows.{place_in, row_of}
-use Rattle.law_past_agreement.specs.Order.{IsOfRow, IsTabled}
-use Rattle.law_stored_rows.specs.Edits.{clustered_index}
-use Rattle.law_stored_rows.specs.Records.{KeepsMore}
+use Rattle.row_versions.specs.{Versions.Versions, declared.place.Place.Place, declared.version.Version.Version, Chains.Chains, Chains.is_same_place}
+use Rattle.row_versions.specs.{Chains.versions_at, Chains.Pushes}
+use Rattle.law_past_agreement.specs.{Rows.place_in, Rows.row_of, Order.IsOfRow, Order.IsTabled}
+use Rattle.law_stored_rows.specs.{Edits.clustered_index, Records.KeepsMore}
 use Rattle.law_stored_rows.proofs.Values.{same_place, place_itself}
-use Rattle.world.specs.State.{WorldState, Session, Work, HasWork}
-use Rattle.world.specs.Indexes.{KeepsVersion, KeepsIf}
-use Rattle.world.specs.Told.{IsTold}
-use Rattle.law_world_agreement.specs.Agreement.{Agrees}
-use Rattle.law_world_agreement.specs.Steps.{IsChangedBy}
+use Rattle.world.specs.{State.WorldState, State.Session, State.Work, State.HasWork, Indexes.KeepsVersion, Indexes.KeepsIf, Told.IsTold}
+use Rattle.law_world_agreement.specs.{Agreement.Agrees, Steps.IsChangedBy}
 use Rattle.law_world_agreement.proofs.Changing.{changed_agrees}
-use Rattle.row_changes.specs.declared.row_edit.RowEdit.{RowEdit}
-use Rattle.row_changes.specs.declared.row_edit.RowEdit.TheVariants.{Put, Remove}
-use Rattle.row_changes.specs.declared.record_change.RecordChange.{RecordChange}
+use Rattle.row_changes.specs.{declared.row_edit.RowEdit.RowEdit, declared.row_edit.RowEdit.TheVariants.Put, declared.row_edit.RowEdit.TheVariants.Remove}
+use Rattle.row_changes.specs.{declared.record_change.RecordChange.RecordChange}
 use Rattle.row_changes.specs.declared.record_change.RecordReached.TheVariants as records
-use Rattle.row_changes.specs.declared.keys_change.KeysChange.{KeysChange}
-use Rattle.row_changes.specs.declared.row_change.RowChange.{RowChange}
-use Rattle.row_changes.specs.declared.row_change.RowChange.TheVariants.{Record, Keys}
-use Rattle.row_changes.specs.declared.reached.Reached.{Reached}
-use Rattle.row_changes.specs.declared.reached.Reached.TheVariants.{Went, Done, Hindered}
-use Rattle.row_changes.specs.Edits.{change_of, rows_put}
-use Rattle.row_changes.specs.Records.{IsChangingRecord, Records, ChangesRecord, id_for}
-use Rattle.row_changes.specs.Pairs.{RowsStay}
-use Rattle.row_changes.specs.Keys.{IsChangingKeys, StaysBesideKeys}
+use Rattle.row_changes.specs.{declared.keys_change.KeysChange.KeysChange, declared.row_change.RowChange.RowChange}
+use Rattle.row_changes.specs.{declared.row_change.RowChange.TheVariants.Record, declared.row_change.RowChange.TheVariants.Keys}
+use Rattle.row_changes.specs.{declared.reached.Reached.Reached, declared.reached.Reached.TheVariants.Went, declared.reached.Reached.TheVariants.Done}
+use Rattle.row_changes.specs.{declared.reached.Reached.TheVariants.Hindered, Edits.change_of, Edits.rows_put, Records.IsChangingRecord, Records.Records}
+use Rattle.row_changes.specs.{Records.ChangesRecord, Records.id_for, Pairs.RowsStay, Keys.IsChangingKeys, Keys.StaysBesideKeys}
 use Rattle.row_changes.specs.Rows.{row_after, primary_of, place_of, PushesEdit, IsChangingRow, ChangesRow}
-use Rattle.row_changes.proofs.Ids.{one_work}
-use Rattle.row_changes.proofs.Sessions.{one_session}
-use Rattle.row_changes.proofs.Telling.{stays_told}
+use Rattle.row_changes.proofs.{Ids.one_work, Sessions.one_session, Telling.stays_told}
 use Rattle.law_logged_changes.specs.GoingOn.{StaysOpen, KeepsBeside, EntersAgreed, GoesOnAgreed}
 use Rattle.law_logged_changes.proofs.Staying.{aside_agreed, keys_agreed, keys_ended}
 

@@ -3,21 +3,15 @@ use Rattle.std.proofs.Common.{◌≡◌, ◌≢◌, inl, inr, ⊎_elim, ℕ, Lis
 use Rattle.std.specs.Prelude.{slice_get}
 use Rattle.inno_db.specs.declared.change.Change.{Change}
 use Rattle.inno_model.specs.Past.{own}
-use Rattle.store_api.specs.declared.answers.Undo.{Undo}
-use Rattle.store_api.specs.declared.moves.Move.{Move}
-use Rattle.store_api.specs.declared.moves.Move.TheVariants.{Done, Step}
-use Rattle.row_versions.specs.declared.place.Place.{Place}
-use Rattle.row_versions.specs.Chains.{Chains}
+use Rattle.store_api.specs.{declared.answers.Undo.Undo, declared.moves.Move.Move, declared.moves.Move.TheVariants.Done, declared.moves.Move.TheVariants.Step}
+use Rattle.row_versions.specs.{declared.place.Place.Place, Chains.Chains}
 use Rattle.world.specs.State.{WorldState, Session, Work, Logged, HasWork}
 use Rattle.law_world_agreement.specs.Agreement.{Agrees}
 use Rattle.law_world_agreement.proofs.Joining.{agrees_alike}
-use Rattle.undo_apply.specs.declared.work_room.WorkRoom.{WorkRoom}
-use Rattle.undo_apply.specs.Stages.{GoesOn, IsHindered, IsDone, PutsBack}
+use Rattle.undo_apply.specs.{declared.work_room.WorkRoom.WorkRoom, Stages.GoesOn, Stages.IsHindered, Stages.IsDone, Stages.PutsBack}
 use Rattle.undo_apply.proofs.Columns.{few_keys}
-use Rattle.law_logged_changes.specs.Logs.{IsLogOf, LogsAgree}
-use Rattle.law_logged_changes.specs.Steps.{LeavesRecords, LeavesLogs, OfAll, ChangesPairsAlone}
-use Rattle.law_logged_changes.proofs.Logs.{empty_log}
-use Rattle.law_logged_changes.proofs.Leaving.{stay_leaves, entry_leaves, log_left, all_left}
+use Rattle.law_logged_changes.specs.{Logs.IsLogOf, Logs.LogsAgree, Steps.LeavesRecords, Steps.LeavesLogs, Steps.OfAll, Steps.ChangesPairsAlone}
+use Rattle.law_logged_changes.proofs.{Logs.empty_log, Leaving.stay_leaves, Leaving.entry_leaves, Leaving.log_left, Leaving.all_left}
 
 -- ---- sessions and the history stay
 

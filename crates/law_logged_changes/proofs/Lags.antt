@@ -2,26 +2,17 @@
 use Rattle.std.proofs.Common.{◌≡◌, ◌⊎◌, inl, inr, ⊎_elim, ℕ, Bool, true, List, sym, ap, subst, ◌∙◌, length}
 use Rattle.std.specs.List.{list_any}
 use Rattle.std.proofs.lemmas.Bool.{cases_order}
-use Rattle.inno_types.specs.declared.value.Value.{Value}
-use Rattle.inno_types.specs.declared.value.Schema.{Schema}
+use Rattle.inno_types.specs.{declared.value.Value.Value, declared.value.Schema.Schema}
 use Rattle.store_api.specs.declared.answers.Undo.{Undo}
 use Rattle.store_api.specs.declared.answers.Version.{Version as Coded}
-use Rattle.row_versions.specs.declared.place.Place.{Place}
-use Rattle.row_versions.specs.declared.version.Version.{Version}
-use Rattle.row_versions.specs.Chains.{Chains}
-use Rattle.law_stored_rows.specs.Entries.{has_value}
-use Rattle.law_stored_rows.specs.Records.{shown}
-use Rattle.law_stored_rows.specs.Tables.{AreClustered, AreCoded}
-use Rattle.world.specs.State.{WorldState}
-use Rattle.world.specs.Told.{IsTold, pairs_of}
-use Rattle.undo_apply.specs.declared.work_room.WorkRoom.{WorkRoom}
-use Rattle.undo_apply.specs.declared.work_room.Stage.{Stage}
+use Rattle.row_versions.specs.{declared.place.Place.Place, declared.version.Version.Version, Chains.Chains}
+use Rattle.law_stored_rows.specs.{Entries.has_value, Records.shown, Tables.AreClustered, Tables.AreCoded}
+use Rattle.world.specs.{State.WorldState, Told.IsTold, Told.pairs_of}
+use Rattle.undo_apply.specs.{declared.work_room.WorkRoom.WorkRoom, declared.work_room.Stage.Stage, Told.Rows, Told.rows_of, Stages.StageHolds}
+use Rattle.undo_apply.specs.{Stages.IsPuttingBack}
 use Rattle.undo_apply.specs.declared.work_room.Stage.TheVariants.{Find, Key, Walk, Mark, Await, Remove, Unmark, AwaitRecords, Record}
-use Rattle.undo_apply.specs.Told.{Rows, rows_of}
 use Rattle.undo_apply.specs.Standing.{versions_before, said_but, IsLagging, SayBefore, IsUnderWay, IsTakenBack}
-use Rattle.undo_apply.specs.Stages.{StageHolds, IsPuttingBack}
-use Rattle.undo_apply.proofs.Says.{says_place, lags_there}
-use Rattle.undo_apply.proofs.There.{lagging_any}
+use Rattle.undo_apply.proofs.{Says.says_place, Says.lags_there, There.lagging_any}
 use Rattle.law_logged_changes.specs.Lagging.{LagsAt}
 
 -- ---- at whatever stage

@@ -3,8 +3,7 @@ use Rattle.std.proofs.Common.{◌≡◌, ◌≢◌, ◌⊎◌, inl, inr, ⊎_eli
 use Rattle.std.proofs.lemmas.Bool.{cases_eq}
 use Rattle.std.proofs.lemmas.Option.{slice_get_within}
 use Rattle.inno_types.specs.declared.value.Schema.{Schema}
-use Rattle.inno_db.specs.declared.change.Change.{Change}
-use Rattle.inno_db.specs.declared.change.Change.TheVariants.{Create}
+use Rattle.inno_db.specs.{declared.change.Change.Change, declared.change.Change.TheVariants.Create}
 use Rattle.inno_model.specs.Past.{own}
 use Rattle.entries.specs.Pairs.{value_of}
 use Rattle.row_versions.specs.declared.kept.Kept.{Kept}
@@ -12,14 +11,11 @@ use Rattle.law_stored_rows.specs.Edits.{clustered_index, key_index}
 use Rattle.law_stored_rows.proofs.Pairs.{no_key}
 use Rattle.world.specs.State.{WorldState, Session, Work, Logged, HasWork}
 use Rattle.world.specs.Told.{pairs_of, IsTold, LeavesRows}
-use Rattle.row_changes.specs.Asides.{StepsAside}
-use Rattle.row_changes.specs.Pairs.{RowsStay, PutsPair}
-use Rattle.row_changes.proofs.Telling.{went, put_told}
-use Rattle.row_changes.proofs.Ids.{one_work}
-use Rattle.row_changes.proofs.Sessions.{one_session}
+use Rattle.row_changes.specs.{Asides.StepsAside, Pairs.RowsStay, Pairs.PutsPair}
+use Rattle.row_changes.proofs.{Telling.went, Telling.put_told, Ids.one_work, Sessions.one_session}
 use Rattle.undo_apply.proofs.Telling.{leaves_told, rows_left}
-use Rattle.law_logged_changes.specs.Pointers.{Reaches, IsNeededBy, PointersApart}
-use Rattle.law_logged_changes.specs.Logs.{records_of, IsLogOf, LogsAgree, LogsAgreeBut}
+use Rattle.law_logged_changes.specs.{Pointers.Reaches, Pointers.IsNeededBy, Pointers.PointersApart, Logs.records_of, Logs.IsLogOf, Logs.LogsAgree}
+use Rattle.law_logged_changes.specs.{Logs.LogsAgreeBut}
 use Rattle.law_logged_changes.specs.Steps.{LeavesRecords, LeavesLog, HasNoLog, LeavesLogs, OfAll, MayBeCut, IsToCut, HasCut, MakesTable}
 use Rattle.law_logged_changes.proofs.Logs.{all_of, Grows, Keeps, log_on}
 

@@ -5,18 +5,13 @@ use Rattle.inno_types.specs.declared.value.Schema.{Schema}
 use Rattle.txn_table.specs.Txns.{Txns}
 use Rattle.row_versions.specs.Chains.{Chains}
 use Rattle.law_past_agreement.specs.Ids.{given}
-use Rattle.law_past_agreement.proofs.Ids.{ids_of, given_few}
-use Rattle.law_past_agreement.proofs.Opens.{opens_of}
+use Rattle.law_past_agreement.proofs.{Ids.ids_of, Ids.given_few, Opens.opens_of}
 use Rattle.world.specs.State.{WorldState, Session, Work, HasWork}
 use Rattle.law_world_agreement.specs.Agreement.{Agrees}
 use Rattle.law_world_agreement.proofs.Ending.{work_of, one_session_of}
-use Rattle.row_changes.specs.declared.record_change.RecordStage.TheVariants.{Enter}
-use Rattle.row_changes.specs.declared.row_edit.RowEdit.{RowEdit}
-use Rattle.row_changes.specs.declared.row_change.RowChange.TheVariants.{Record}
-use Rattle.row_changes.specs.Edits.{FitsEdit}
-use Rattle.row_changes.specs.Records.{IsTable, IsListed}
-use Rattle.row_changes.specs.Told.{HasRows}
-use Rattle.row_changes.specs.Rows.{IsChangingRow, row_after}
+use Rattle.row_changes.specs.{declared.record_change.RecordStage.TheVariants.Enter, declared.row_edit.RowEdit.RowEdit}
+use Rattle.row_changes.specs.{declared.row_change.RowChange.TheVariants.Record, Edits.FitsEdit, Records.IsTable, Records.IsListed, Told.HasRows}
+use Rattle.row_changes.specs.{Rows.IsChangingRow, Rows.row_after}
 
 module _ (chains : Chains) (writer : Option ℕ) (state : WorldState) (s : ℕ) (session : Session) (work : Work) (agrees : Agrees chains writer state)
     (has : HasWork s session work state) where

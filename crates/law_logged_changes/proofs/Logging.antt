@@ -4,53 +4,37 @@ use Rattle.std.proofs.Common.{slice_get}
 use Rattle.std.specs.Prelude.{◌==◌, is_some}
 use Rattle.std.specs.List.{AllByRecursion}
 use Rattle.std.proofs.lemmas.Bool.{cases_eq, cond-true, cond-false, eq-eqb, ne_eqb}
-use Rattle.inno_types.specs.declared.value.Value.{Value}
-use Rattle.inno_types.specs.declared.value.Schema.{Schema}
-use Rattle.inno_db.specs.declared.change.Change.{Change}
-use Rattle.inno_db.specs.declared.change.Change.TheVariants.{Create}
+use Rattle.inno_types.specs.{declared.value.Value.Value, declared.value.Schema.Schema}
+use Rattle.inno_db.specs.{declared.change.Change.Change, declared.change.Change.TheVariants.Create}
 use Rattle.inno_db.proofs.Keys.{key_in-at}
-use Rattle.inno_model.specs.Past.{own}
-use Rattle.inno_model.specs.declared.event.Event.TheVariants.{Changed}
+use Rattle.inno_model.specs.{Past.own, declared.event.Event.TheVariants.Changed}
 use Rattle.store_api.specs.declared.answers.Undo.{Undo}
 use Rattle.store_api.specs.declared.answers.Version.{Version as Coded}
 use Rattle.entries.specs.Pairs.{value_of}
-use Rattle.row_versions.specs.declared.kept.Kept.{Kept}
-use Rattle.row_versions.specs.Versions.{Stays}
+use Rattle.row_versions.specs.{declared.kept.Kept.Kept, Versions.Stays, declared.place.Place.Place, Chains.Chains}
 use Rattle.row_codec.specs.Rows.{version_code}
-use Rattle.row_versions.specs.declared.place.Place.{Place}
-use Rattle.row_versions.specs.Chains.{Chains}
-use Rattle.law_stored_rows.specs.Edits.{clustered_index, Puts}
-use Rattle.law_stored_rows.specs.Records.{IsCodeOf, KeepsMore}
-use Rattle.law_stored_rows.specs.Tables.{AreClustered}
+use Rattle.law_stored_rows.specs.{Edits.clustered_index, Edits.Puts, Records.IsCodeOf, Records.KeepsMore, Tables.AreClustered}
 use Rattle.law_stored_rows.proofs.Pairs.{at_index, value_now}
 use Rattle.law_past_agreement.specs.Rows.{place_in}
 use Rattle.world.specs.State.{WorldState, Session, Work, Logged, HasWork}
-use Rattle.world.specs.Indexes.{IsUndo, KeepsVersion}
-use Rattle.world.specs.Told.{IsTold, pairs_of}
+use Rattle.world.specs.{Indexes.IsUndo, Indexes.KeepsVersion, Told.IsTold, Told.pairs_of}
 use Rattle.row_changes.specs.declared.row_edit.RowEdit.{RowEdit}
 use Rattle.row_changes.specs.declared.row_edit.RowEdit.TheVariants as edits
 use Rattle.row_changes.specs.declared.record_change.RecordChange.{RecordChange}
 use Rattle.row_changes.specs.declared.record_change.RecordReached.TheVariants as records
-use Rattle.row_changes.specs.declared.row_change.RowChange.TheVariants.{Record}
-use Rattle.row_changes.specs.Edits.{change_of, rows_put, version_by}
+use Rattle.row_changes.specs.{declared.row_change.RowChange.TheVariants.Record, Edits.change_of, Edits.rows_put, Edits.version_by, Rows.IsChangingRow}
+use Rattle.row_changes.specs.{Rows.primary_of, Told.HasRows}
 use Rattle.row_changes.specs.Records.{IsTable, IsChangingRecord, Records, RecordsEdit, PutsFirst, PutsOver, PutsVersion, ChangesRecord, undo_of_new}
 use Rattle.row_changes.specs.Records.{undo_of_former, id_for}
-use Rattle.row_changes.specs.Rows.{IsChangingRow, primary_of}
-use Rattle.row_changes.specs.Told.{HasRows}
-use Rattle.row_changes.proofs.Telling.{pairs_told, puts_pairs, tells}
-use Rattle.row_changes.proofs.Ids.{one_work}
-use Rattle.row_changes.proofs.Sessions.{one_session, one_found}
-use Rattle.row_changes.proofs.Pushed.{key_at, code_first, code_next, small_id}
-use Rattle.row_changes.proofs.Recorded.{key_short, value_short}
+use Rattle.row_changes.proofs.{Telling.pairs_told, Telling.puts_pairs, Telling.tells, Ids.one_work, Sessions.one_session, Sessions.one_found, Pushed.key_at}
+use Rattle.row_changes.proofs.{Pushed.code_first, Pushed.code_next, Pushed.small_id, Recorded.key_short, Recorded.value_short}
 use Rattle.undo_apply.specs.Standing.{TellsOf, LeadsBack, was_before}
 use Rattle.undo_apply.proofs.Places.{before_new, before_kept}
-use Rattle.law_logged_changes.specs.Pointers.{AreApart, PointersApart}
+use Rattle.law_logged_changes.specs.{Pointers.AreApart, Pointers.PointersApart, Steps.HasLogged}
 use Rattle.law_logged_changes.specs.Logs.{RecordsAt, records_of, taken_back, Stands, LogStands, IsLogOf, LogsAgree, IsAlone}
-use Rattle.law_logged_changes.specs.Steps.{HasLogged}
 use Rattle.law_logged_changes.proofs.Logs.{all_of, all_mapped, Keeps, log_on, one_more}
-use Rattle.law_logged_changes.proofs.Leaving.{same_schemas_grow}
+use Rattle.law_logged_changes.proofs.{Leaving.same_schemas_grow, GoingOn.none_yet}
 use Rattle.law_logged_changes.proofs.Needs.{taken_here, taken_elsewhere, here_or_not, put_elsewhere, apart_now}
-use Rattle.law_logged_changes.proofs.GoingOn.{none_yet}
 
 -- ---- what older records keep is kept
 

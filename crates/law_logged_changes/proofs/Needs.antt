@@ -14,20 +14,15 @@ use Rattle.store_api.specs.declared.answers.Version.{Version as Coded}
 use Rattle.row_codec.proofs.Once.{same_version}
 use Rattle.entries.specs.Pairs.{Pair, key_cmp, value_of}
 use Rattle.entries.proofs.Order.{same_key, key_itself}
-use Rattle.row_versions.specs.declared.kept.Kept.{Kept}
-use Rattle.row_versions.specs.declared.version.Version.{Version}
-use Rattle.row_versions.specs.Chains.{Chains, older}
-use Rattle.law_stored_rows.specs.Edits.{clustered_index, Puts}
-use Rattle.law_stored_rows.specs.Records.{IsCodeOf, LeadTo, KeepsMore}
-use Rattle.law_stored_rows.specs.Tables.{in_table, AreClustered}
+use Rattle.row_versions.specs.{declared.kept.Kept.Kept, declared.version.Version.Version, Chains.Chains, Chains.older}
+use Rattle.law_stored_rows.specs.{Edits.clustered_index, Edits.Puts, Records.IsCodeOf, Records.LeadTo, Records.KeepsMore, Tables.in_table}
+use Rattle.law_stored_rows.specs.{Tables.AreClustered}
 use Rattle.law_stored_rows.proofs.Pairs.{same_or_not, others_now, at_index, at_others, other_rows}
-use Rattle.law_stored_rows.proofs.FromTables.{decoded}
-use Rattle.law_stored_rows.proofs.RowRecords.{one_lead, pointer_followed, pointer_leads}
+use Rattle.law_stored_rows.proofs.{FromTables.decoded, RowRecords.one_lead, RowRecords.pointer_followed, RowRecords.pointer_leads}
 use Rattle.row_changes.proofs.Sessions.{one_found}
 use Rattle.undo_apply.specs.Standing.{LeadsBack, was_before}
 use Rattle.undo_apply.proofs.Places.{before_new, before_kept}
-use Rattle.law_logged_changes.specs.Pointers.{Reaches, IsNeededBy, AreApart, IsUnneeded}
-use Rattle.law_logged_changes.specs.Logs.{RecordsAt, taken_back}
+use Rattle.law_logged_changes.specs.{Pointers.Reaches, Pointers.IsNeededBy, Pointers.AreApart, Pointers.IsUnneeded, Logs.RecordsAt, Logs.taken_back}
 use Rattle.law_logged_changes.proofs.Reaching.{on_way, reached_before, one_row}
 
 -- ---- the records without a change

@@ -4,18 +4,11 @@ use Rattle.std.specs.Prelude.{◌||◌}
 use Rattle.std.specs.List.{list_any}
 use Rattle.std.proofs.lemmas.Bool.Decides.{leb_tells, eqb_tells}
 use Rattle.inno_types.specs.declared.value.Value.{Value}
-use Rattle.row_versions.specs.declared.place.Place.{Place}
-use Rattle.row_versions.specs.declared.version.Version.{Version}
-use Rattle.row_versions.specs.Chains.{Chains, versions_at, older}
-use Rattle.law_stored_rows.specs.Entries.{has_value}
-use Rattle.law_stored_rows.specs.Tables.{Said, what_is_there}
-use Rattle.world.specs.State.{WorldState}
-use Rattle.world.specs.Told.{IsTold}
-use Rattle.row_changes.specs.declared.entry_put.EntryPut.{EntryPut}
-use Rattle.row_changes.specs.declared.row_change.RowChange.{RowChange}
-use Rattle.row_changes.specs.declared.row_change.RowChange.TheVariants.{Record, Keys}
-use Rattle.row_changes.specs.Keys.{gone, without_row, said_next, SaySoFar}
-use Rattle.row_changes.specs.Rows.{IsChangingRow}
+use Rattle.row_versions.specs.{declared.place.Place.Place, declared.version.Version.Version, Chains.Chains, Chains.versions_at, Chains.older}
+use Rattle.law_stored_rows.specs.{Entries.has_value, Tables.Said, Tables.what_is_there}
+use Rattle.world.specs.{State.WorldState, Told.IsTold}
+use Rattle.row_changes.specs.{declared.entry_put.EntryPut.EntryPut, declared.row_change.RowChange.RowChange, declared.row_change.RowChange.TheVariants.Record}
+use Rattle.row_changes.specs.{declared.row_change.RowChange.TheVariants.Keys, Keys.gone, Keys.without_row, Keys.said_next, Keys.SaySoFar, Rows.IsChangingRow}
 use Rattle.law_logged_changes.specs.EntriesLag.{LagsAt, IsReadable}
 
 abbrev some_has : ℕ → Value → List Version → Bool

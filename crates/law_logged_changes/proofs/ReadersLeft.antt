@@ -1,35 +1,21 @@
 -- A step of another session that changes no row leaves a change as it was.
 use Rattle.std.proofs.Common.{◌≡◌, ℕ, true, false, List, Option, Some, None, sym, subst, ◌∙◌}
 use Rattle.std.specs.Prelude.{slice_get, IfSome, is_some}
-use Rattle.inno_types.specs.declared.value.Value.{Value}
-use Rattle.inno_types.specs.declared.value.Schema.{Schema}
-use Rattle.entries.specs.Pairs.{Pair, value_of}
-use Rattle.entries.specs.Index.{Index, AreKept}
-use Rattle.row_versions.specs.declared.place.Place.{Place}
-use Rattle.row_versions.specs.declared.version.Version.{Version}
-use Rattle.row_versions.specs.Chains.{Chains}
-use Rattle.law_stored_rows.specs.Edits.{clustered_index}
-use Rattle.law_stored_rows.specs.Tables.{Said, what_is_there}
-use Rattle.world.specs.State.{WorldState, Session, HasWork, IsIndex}
-use Rattle.world.specs.Told.{pairs_of, IsTold, LeavesRows}
+use Rattle.inno_types.specs.{declared.value.Value.Value, declared.value.Schema.Schema}
+use Rattle.entries.specs.{Pairs.Pair, Pairs.value_of, Index.Index, Index.AreKept}
+use Rattle.row_versions.specs.{declared.place.Place.Place, declared.version.Version.Version, Chains.Chains}
+use Rattle.law_stored_rows.specs.{Edits.clustered_index, Tables.Said, Tables.what_is_there}
+use Rattle.world.specs.{State.WorldState, State.Session, State.HasWork, State.IsIndex, Told.pairs_of, Told.IsTold, Told.LeavesRows}
 use Rattle.law_world_agreement.specs.Agreement.{Agrees}
-use Rattle.row_changes.specs.declared.row_edit.RowEdit.{RowEdit}
-use Rattle.row_changes.specs.declared.entry_put.EntryPut.{EntryPut}
-use Rattle.row_changes.specs.declared.entry_put.PutPhase.{PutPhase}
+use Rattle.row_changes.specs.{declared.row_edit.RowEdit.RowEdit, declared.entry_put.EntryPut.EntryPut, declared.entry_put.PutPhase.PutPhase}
 use Rattle.row_changes.specs.declared.entry_put.PutPhase.TheVariants as puts
-use Rattle.row_changes.specs.declared.record_change.RecordChange.{RecordChange}
-use Rattle.row_changes.specs.declared.record_change.RecordStage.{RecordStage}
-use Rattle.row_changes.specs.declared.record_change.RecordStage.TheVariants.{Insert, Replace}
-use Rattle.row_changes.specs.declared.keys_change.KeysChange.{KeysChange}
-use Rattle.row_changes.specs.declared.row_change.RowChange.{RowChange}
-use Rattle.row_changes.specs.declared.row_change.RowChange.TheVariants.{Record, Keys}
-use Rattle.row_changes.specs.Entries.{PutPhaseHolds}
-use Rattle.row_changes.specs.Records.{StageHolds, IsChangingRecord}
-use Rattle.row_changes.specs.Keys.{said_next, HasRowsSoFar, IsEntering, IsChangingKeys}
-use Rattle.row_changes.specs.Told.{AreRowsAs, HasRows}
-use Rattle.row_changes.specs.Rows.{IsChangingRow}
-use Rattle.row_changes.proofs.Telling.{told_before, went, coded_again}
-use Rattle.row_changes.proofs.Keying.{table_kept, changing_next}
+use Rattle.row_changes.specs.{declared.record_change.RecordChange.RecordChange, declared.record_change.RecordStage.RecordStage}
+use Rattle.row_changes.specs.{declared.record_change.RecordStage.TheVariants.Insert, declared.record_change.RecordStage.TheVariants.Replace}
+use Rattle.row_changes.specs.{declared.keys_change.KeysChange.KeysChange, declared.row_change.RowChange.RowChange}
+use Rattle.row_changes.specs.{declared.row_change.RowChange.TheVariants.Record, declared.row_change.RowChange.TheVariants.Keys, Entries.PutPhaseHolds}
+use Rattle.row_changes.specs.{Records.StageHolds, Records.IsChangingRecord, Keys.said_next, Keys.HasRowsSoFar, Keys.IsEntering, Keys.IsChangingKeys}
+use Rattle.row_changes.specs.{Told.AreRowsAs, Told.HasRows, Rows.IsChangingRow}
+use Rattle.row_changes.proofs.{Telling.told_before, Telling.went, Telling.coded_again, Keying.table_kept, Keying.changing_next}
 use Rattle.law_logged_changes.proofs.Listed.{listed_of}
 
 -- ---- what an index tells

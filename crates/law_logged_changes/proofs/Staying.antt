@@ -2,19 +2,12 @@
 use Rattle.std.proofs.Common.{◌≡◌, ⊎_elim, ℕ, length, Some, refl, sym, ap, subst, ◌∙◌}
 use Rattle.std.specs.Prelude.{slice_get, option_map}
 use Rattle.std.proofs.lemmas.Bool.{cases_eq}
-use Rattle.row_versions.specs.Versions.{Stays}
+use Rattle.row_versions.specs.{Versions.Stays, Chains.Chains}
 use Rattle.law_stored_rows.specs.Records.{KeepsMore}
-use Rattle.row_versions.specs.Chains.{Chains}
-use Rattle.world.specs.State.{WorldState, Session, Work, HasWork}
-use Rattle.world.specs.Told.{IsTold}
-use Rattle.law_world_agreement.specs.Agreement.{Agrees}
-use Rattle.law_world_agreement.specs.Steps.{IsEntered}
+use Rattle.world.specs.{State.WorldState, State.Session, State.Work, State.HasWork, Told.IsTold}
+use Rattle.law_world_agreement.specs.{Agreement.Agrees, Steps.IsEntered}
 use Rattle.law_world_agreement.proofs.Entries.{unentered_agrees}
-use Rattle.row_changes.specs.declared.row_change.RowChange.{RowChange}
-use Rattle.row_changes.specs.Asides.{StepsAside}
-use Rattle.row_changes.specs.Keys.{StaysBesideKeys}
-use Rattle.row_changes.specs.Told.{HasRows}
-use Rattle.row_changes.specs.Rows.{IsChangingRow}
+use Rattle.row_changes.specs.{declared.row_change.RowChange.RowChange, Asides.StepsAside, Keys.StaysBesideKeys, Told.HasRows, Rows.IsChangingRow}
 use Rattle.row_changes.proofs.Sessions.{one_session}
 use Rattle.law_logged_changes.proofs.GoingOn.{work_again, agrees_beside}
 use Rattle.law_logged_changes.specs.GoingOn.{StaysOpen, KeepsBeside, StaysAgreed, EndsAgreed}

@@ -5,30 +5,20 @@ use Rattle.inno_db.specs.declared.change.Change.{Change}
 use Rattle.inno_model.specs.Past.{own}
 use Rattle.store_api.specs.declared.answers.Undo.{Undo}
 use Rattle.entries.specs.Pairs.{Pair, value_of}
-use Rattle.row_versions.specs.declared.kept.Kept.{Kept}
-use Rattle.row_versions.specs.declared.place.Place.{Place}
-use Rattle.row_versions.specs.Chains.{Chains, Pops}
-use Rattle.law_stored_rows.specs.Edits.{clustered_index, Puts}
-use Rattle.law_stored_rows.specs.Records.{LeadTo}
-use Rattle.law_stored_rows.specs.Tables.{AreClustered}
+use Rattle.row_versions.specs.{declared.kept.Kept.Kept, declared.place.Place.Place, Chains.Chains, Chains.Pops}
+use Rattle.law_stored_rows.specs.{Edits.clustered_index, Edits.Puts, Records.LeadTo, Tables.AreClustered}
 use Rattle.law_past_agreement.specs.Rows.{place_in}
 use Rattle.world.specs.State.{WorldState, Session, Work, Logged, HasWork}
 use Rattle.world.specs.Told.{IsTold, pairs_of}
 use Rattle.row_changes.specs.Told.{HasRows}
 use Rattle.row_changes.proofs.Telling.{stays_told, same_pairs_of, put_told, put_pairs}
-use Rattle.undo_apply.specs.declared.work_room.WorkRoom.{WorkRoom}
-use Rattle.undo_apply.specs.Told.{rows_of}
+use Rattle.undo_apply.specs.{declared.work_room.WorkRoom.WorkRoom, Told.rows_of, Stages.IsPuttingBack, Stages.IsDone}
 use Rattle.undo_apply.specs.Standing.{TellsOf, LeadsBack, was_before, versions_before, IsLagging, IsTakenBack}
-use Rattle.undo_apply.specs.Stages.{IsPuttingBack, IsDone}
-use Rattle.undo_apply.proofs.Ends.{stands}
-use Rattle.undo_apply.proofs.Places.{newest_read}
-use Rattle.law_logged_changes.specs.Pointers.{AreApart, IsUnneeded, PointersApart}
+use Rattle.undo_apply.proofs.{Ends.stands, Places.newest_read}
+use Rattle.law_logged_changes.specs.{Pointers.AreApart, Pointers.IsUnneeded, Pointers.PointersApart, Steps.ChangesPairsAlone, Steps.MayBeCut, Steps.IsToCut}
 use Rattle.law_logged_changes.specs.Logs.{records_of, taken_back, HasRecord, Stands, IsLogOf, LogsAgree, IsAlone}
-use Rattle.law_logged_changes.specs.Steps.{ChangesPairsAlone, MayBeCut, IsToCut}
-use Rattle.law_logged_changes.proofs.Logs.{all_of, Keeps, log_on, newest_stands}
-use Rattle.law_logged_changes.proofs.Leaving.{same_schemas_grow}
-use Rattle.law_logged_changes.proofs.Lags.{at_stage, clustered_while}
-use Rattle.law_logged_changes.proofs.Beginning.{top, tells_of_it, way_settled, newest_is}
+use Rattle.law_logged_changes.proofs.{Logs.all_of, Logs.Keeps, Logs.log_on, Logs.newest_stands, Leaving.same_schemas_grow, Lags.at_stage}
+use Rattle.law_logged_changes.proofs.{Lags.clustered_while, Beginning.top, Beginning.tells_of_it, Beginning.way_settled, Beginning.newest_is}
 use Rattle.law_logged_changes.proofs.Needs.{taken_here, taken_elsewhere, here_or_not, StandsIn, put_elsewhere, apart_without, unneeded_without}
 use Rattle.law_logged_changes.proofs.GoingOn.{work_beside, work_again, own_beside, none_yet, done_beside}
 

@@ -1,8 +1,6 @@
 -- What keys may say while a change is under way.
 use Rattle.std.specs.Prelude.{◌≡◌, ◌⊎◌, ◌∷◌}
-use Rattle.row_versions.specs.declared.place.Place.{Place}
-use Rattle.row_versions.specs.declared.version.Version.{Version}
-use Rattle.row_versions.specs.Chains.{Chains, versions_at, older}
+use Rattle.row_versions.specs.{declared.place.Place.Place, declared.version.Version.Version, Chains.Chains, Chains.versions_at, Chains.older}
 use Rattle.law_stored_rows.specs.Tables.{Said, what_is_there, LagAt, TellsOfOlder}
 use Rattle.world.specs.State.{WorldState}
 use Rattle.row_changes.specs.Told.{AreRowsAs}

@@ -4,10 +4,8 @@ use Rattle.inno_types.specs.declared.value.Schema.{Schema}
 use Rattle.store_api.specs.declared.answers.Version.{Version as Coded}
 use Rattle.entries.specs.Pairs.{Pair, value_of}
 use Rattle.row_versions.specs.declared.kept.Kept.{Kept}
-use Rattle.law_stored_rows.specs.Edits.{clustered_index}
-use Rattle.law_stored_rows.specs.Records.{IsCodeOf}
-use Rattle.world.specs.State.{WorldState}
-use Rattle.world.specs.Told.{IsTold, pairs_of}
+use Rattle.law_stored_rows.specs.{Edits.clustered_index, Records.IsCodeOf}
+use Rattle.world.specs.{State.WorldState, Told.IsTold, Told.pairs_of}
 
 -- from the first pointer on, so many versions further, the last one comes
 abbrev pub Reaches : (ℕ → Option Kept) → ℕ → ℕ → ℕ → Type 0

@@ -8,10 +8,8 @@ use Rattle.row_versions.specs.Versions.{Stays}
 use Rattle.law_stored_rows.specs.Edits.{clustered_index}
 use Rattle.world.specs.State.{WorldState, Session, Work, Logged, HasWork}
 use Rattle.world.specs.Told.{IsTold, pairs_of}
-use Rattle.row_changes.specs.declared.record_change.RecordChange.{RecordChange}
-use Rattle.row_changes.specs.Edits.{change_of}
-use Rattle.law_logged_changes.specs.Pointers.{IsUnneeded}
-use Rattle.law_logged_changes.specs.Logs.{KeepElsewhere, IsLogOf, LogsAgreeBut}
+use Rattle.row_changes.specs.{declared.record_change.RecordChange.RecordChange, Edits.change_of}
+use Rattle.law_logged_changes.specs.{Pointers.IsUnneeded, Logs.KeepElsewhere, Logs.IsLogOf, Logs.LogsAgreeBut}
 
 -- ---- a change is made
 

@@ -7,22 +7,17 @@ use Rattle.std.specs.Prelude.{is_some, is_none, ◌==◌}
 use Rattle.std.specs.List.{AllByRecursion, list_any}
 use Rattle.std.specs.FinMap.{get}
 use Rattle.std.proofs.lemmas.List.{get_or-set_same, get_or-set_other, length-set, length-append}
-use Rattle.inno_types.specs.declared.lock.Level.{Level}
-use Rattle.inno_types.specs.declared.reply.Item.{Item}
-use Rattle.inno_types.specs.declared.reply.Reply.{Reply}
-use Rattle.inno_types.specs.declared.value.Value.{Value}
-use Rattle.inno_types.specs.declared.value.Schema.{Schema}
-use Rattle.inno_db.specs.Database.{Database}
-use Rattle.inno_db.specs.declared.change.Change.{Change}
-use Rattle.inno_db.specs.declared.change.Change.TheVariants.{Create, Put, Remove}
+use Rattle.inno_types.specs.{declared.lock.Level.Level, declared.reply.Item.Item, declared.reply.Reply.Reply, declared.value.Value.Value}
+use Rattle.inno_types.specs.{declared.value.Schema.Schema}
+use Rattle.inno_db.specs.{Database.Database, declared.change.Change.Change, declared.change.Change.TheVariants.Create, declared.change.Change.TheVariants.Put}
+use Rattle.inno_db.specs.{declared.change.Change.TheVariants.Remove}
 use Rattle.inno_model.specs.declared.event.Event.{Event}
 use Rattle.inno_model.specs.declared.event.Event.TheVariants.{Opened, Begin, Started, View, Changed, Undone, Ended, Committed, Acked, RolledBack, Signal}
 use Rattle.inno_model.specs.Past.{is_of, level, txn, own, view_of, begins, commits, committed, opening, started, under_way, IsOpen}
 use Rattle.inno_model.proofs.Commits.{begins_few}
 use Rattle.read_view.specs.Sight.{Sight, is_seen}
 use Rattle.txn_table.specs.Txns.{Txns, ids_of as active_of, with_id as with_txn_id, without, is_there, id_at}
-use Rattle.row_versions.specs.declared.place.Place.{Place}
-use Rattle.row_versions.specs.declared.version.Version.{Version}
+use Rattle.row_versions.specs.{declared.place.Place.Place, declared.version.Version.Version}
 use Rattle.row_versions.specs.Chains.{Chains, in_model, is_same_place, versions_at, first_seen, newest, older, sees, IsFirstFrom, IsNoneFrom, IsNext, IsLast}
 use Rattle.row_versions.specs.Chains.{Pushes, Pops}
 use Rattle.law_past_agreement.specs.Slots.{Work, Slot, fresh, id_for, id_of_work, txn_of_work, places_of_work, with_view, with_id, with_place, without_place}
@@ -34,10 +29,9 @@ use Rattle.law_past_agreement.specs.Rows.{IsNextSeen, IsLastSeen, IsNewestSeen}
 use Rattle.law_past_agreement.specs.Changes.{TakesBack}
 use Rattle.law_past_agreement.specs.Agreement.{IsSettled, IsOpenedWith, IsWorkOf, WorkAgrees, SlotAgrees, IsViewOf, ViewAgrees, versions_of, AreVersions}
 use Rattle.law_past_agreement.specs.Agreement.{WriterAgrees, owed_by, owed_by_all, IsAgreed}
-use Rattle.law_past_agreement.proofs.Ids.{AreIds, ids_of, given_few}
+use Rattle.law_past_agreement.proofs.{Ids.AreIds, Ids.ids_of, Ids.given_few, Tables.at_stays, Tables.places_stay, Tables.own_tabled, Tables.committed_tabled}
 use Rattle.law_past_agreement.proofs.Opens.{active_open, active_none, zero_inactive, opens_of, all_weaker}
 use Rattle.law_past_agreement.proofs.Standing.{work_kept, other_kept, other_id, view_agrees, view_agrees_changed, is_among_all}
-use Rattle.law_past_agreement.proofs.Tables.{at_stays, places_stay, own_tabled, committed_tabled}
 use Rattle.law_past_agreement.proofs.Rows as rows
 use Rattle.law_past_agreement.proofs.Owed as owing
 

@@ -4,21 +4,14 @@ use Rattle.std.proofs.lemmas.List.{append-nil}
 use Rattle.std.specs.List.{AllByRecursion}
 use Rattle.std.specs.Ordering.{eq_by_cmp}
 use Rattle.std.specs.FinMap.{get, get-insert, get-remove}
-use Rattle.inno_types.specs.declared.value.Value.{Value}
-use Rattle.inno_types.specs.declared.value.Schema.{Schema}
-use Rattle.inno_db.specs.declared.change.Change.{Change}
-use Rattle.inno_db.specs.declared.change.Change.TheVariants.{Create, Put, Remove}
-use Rattle.inno_db.specs.Database.{Database, place_cmp, key_in}
-use Rattle.inno_db.specs.Order.{place_cmp_total}
-use Rattle.inno_model.specs.declared.event.Event.{Event}
-use Rattle.inno_model.specs.Past.{changed, own, committed}
-use Rattle.row_versions.specs.declared.place.Place.{Place}
-use Rattle.row_versions.specs.Chains.{in_model, is_same_place}
-use Rattle.row_versions.specs.Laws.{same_place_equiv}
-use Rattle.law_past_agreement.specs.Order.{created, IsTabled, IsOrdered}
-use Rattle.law_past_agreement.specs.Rows.{is_at, row_at, seen, row_seen}
+use Rattle.inno_types.specs.{declared.value.Value.Value, declared.value.Schema.Schema}
+use Rattle.inno_db.specs.{declared.change.Change.Change, declared.change.Change.TheVariants.Create, declared.change.Change.TheVariants.Put}
+use Rattle.inno_db.specs.{declared.change.Change.TheVariants.Remove, Database.Database, Database.place_cmp, Database.key_in, Order.place_cmp_total}
+use Rattle.inno_model.specs.{declared.event.Event.Event, Past.changed, Past.own, Past.committed}
+use Rattle.row_versions.specs.{declared.place.Place.Place, Chains.in_model, Chains.is_same_place, Laws.same_place_equiv}
+use Rattle.law_past_agreement.specs.{Order.created, Order.IsTabled, Order.IsOrdered, Rows.is_at, Rows.row_at, Rows.seen, Rows.row_seen}
+use Rattle.law_past_agreement.specs.{DatabaseTables.with_all_tables}
 use Rattle.law_past_agreement.proofs.Tables.{key_stays, own_tabled, committed_tabled}
-use Rattle.law_past_agreement.specs.DatabaseTables.{with_all_tables}
 
 grouped : {X : Type 0} (xs ys zs : List X) → (xs ++ ys) ++ zs ≡ xs ++ (ys ++ zs)
 grouped [] ys zs = refl

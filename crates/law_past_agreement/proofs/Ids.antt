@@ -4,8 +4,7 @@ use Rattle.std.proofs.lemmas.Bool.Decides.{nat_tests}
 use Rattle.inno_model.specs.declared.event.Event.{Event}
 use Rattle.inno_model.specs.declared.event.Event.TheVariants.{Begin, Changed, Undone, Committed, RolledBack}
 use Rattle.inno_model.specs.Past.{level, txn, own, begins, IsOpen}
-use Rattle.law_past_agreement.specs.Order.{MayCome, IsOrdered}
-use Rattle.law_past_agreement.specs.Ids.{given, id_of, is_among}
+use Rattle.law_past_agreement.specs.{Order.MayCome, Order.IsOrdered, Ids.given, Ids.id_of, Ids.is_among}
 
 pub record AreIds (h : List Event) : Type 0 where
   pub numbered : (s : ℕ) → txn s h ≤ begins h

@@ -7,18 +7,15 @@ use Rattle.std.specs.Prelude.{is_some, ◌==◌, ◌||◌}
 use Rattle.std.specs.List.{AllByRecursion, list_any}
 use Rattle.inno_types.specs.declared.value.Value.{Value}
 use Rattle.inno_db.specs.declared.change.Change.{Change}
-use Rattle.inno_model.specs.declared.event.Event.{Event}
-use Rattle.inno_model.specs.declared.event.Event.TheVariants.{Changed, Undone, Committed}
+use Rattle.inno_model.specs.{declared.event.Event.Event, declared.event.Event.TheVariants.Changed, declared.event.Event.TheVariants.Undone}
+use Rattle.inno_model.specs.{declared.event.Event.TheVariants.Committed}
 use Rattle.inno_model.specs.Past.{level, own, oldest, commits, committed, IsOpen}
 use Rattle.read_view.specs.Sight.{Sight, is_seen}
-use Rattle.row_versions.specs.declared.version.Version.{Version}
-use Rattle.row_versions.specs.Chains.{sees, first_seen, newest, older}
-use Rattle.law_past_agreement.specs.Ids.{id_of, is_among, is_settled}
-use Rattle.law_past_agreement.specs.Rows.{row_of, row_at, seen, IsNeeded}
+use Rattle.row_versions.specs.{declared.version.Version.Version, Chains.sees, Chains.first_seen, Chains.newest, Chains.older}
+use Rattle.law_past_agreement.specs.{Ids.id_of, Ids.is_among, Ids.is_settled, Rows.row_of, Rows.row_at, Rows.seen, Rows.IsNeeded}
 use Rattle.law_past_agreement.specs.Agreement.{IsCommitted, IsSettled, IsViewOf, versions_of, AreVersionsBy, AreVersions}
-use Rattle.law_past_agreement.proofs.Ids.{AreIds}
-use Rattle.law_past_agreement.proofs.Opens.{all_weaker}
-use Rattle.law_past_agreement.proofs.Standing.{committed_more, settled_more, needed_before, is_among_all}
+use Rattle.law_past_agreement.proofs.{Ids.AreIds, Opens.all_weaker, Standing.committed_more, Standing.settled_more, Standing.needed_before}
+use Rattle.law_past_agreement.proofs.{Standing.is_among_all}
 
 -- a test holds or fails
 bool_tells : (b : Bool) → (b ≡ true) ⊎ (b ≡ false)

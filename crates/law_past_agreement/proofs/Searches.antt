@@ -1,16 +1,10 @@
 -- A search depends on the rows that its condition lets through, and on no others.
 use Rattle.std.proofs.Common.{◌≡◌, ℕ, List, Option, Some, None, refl, ap}
 use Rattle.std.specs.Prelude.{map, slice_get}
-use Rattle.inno_types.specs.declared.value.Value.{Value}
-use Rattle.inno_types.specs.declared.value.Schema.{Schema}
-use Rattle.inno_types.specs.declared.reply.Reply.TheVariants.{Rows}
-use Rattle.inno_types.specs.declared.stmt.Stmt.{Stmt}
+use Rattle.inno_types.specs.{declared.value.Value.Value, declared.value.Schema.Schema, declared.reply.Reply.TheVariants.Rows, declared.stmt.Stmt.Stmt}
 use Rattle.inno_types.specs.declared.stmt.Stmt.TheVariants.{CreateTable, Select, Insert, Update, Delete, Begin, Commit, Rollback, RollbackTo, Savepoint}
 use Rattle.inno_types.specs.declared.stmt.Stmt.TheVariants.{SetAutocommit, SetLevel}
-use Rattle.inno_db.specs.declared.outcome.Outcome.{Outcome}
-use Rattle.inno_db.specs.Database.{Database, RowMap, rows_of}
-use Rattle.inno_db.specs.Names.{table_place}
-use Rattle.inno_db.specs.Refusals.{refusal}
+use Rattle.inno_db.specs.{declared.outcome.Outcome.Outcome, Database.Database, Database.RowMap, Database.rows_of, Names.table_place, Refusals.refusal}
 use Rattle.inno_db.specs.Outcome.{outcome, unless_refused, on_rows, on_number, on_schema, select_answer, update_answer, delete_answer, answered, counted}
 use Rattle.inno_db.specs.Outcome.{updated, deleted, selected_of}
 use Rattle.law_past_agreement.specs.Matching.{FindsTheSame}

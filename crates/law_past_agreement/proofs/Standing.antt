@@ -7,13 +7,9 @@ use Rattle.inno_db.specs.declared.change.Change.{Change}
 use Rattle.inno_model.specs.declared.event.Event.{Event}
 use Rattle.inno_model.specs.declared.event.Event.TheVariants.{Begin, View, Changed, Committed, RolledBack}
 use Rattle.inno_model.specs.Past.{is_of, level, own, view_of, commits, txn, IsOpen}
-use Rattle.inno_model.proofs.Untouched.{untouched}
-use Rattle.inno_model.proofs.Commits.{commits_rise}
+use Rattle.inno_model.proofs.{Untouched.untouched, Commits.commits_rise}
 use Rattle.read_view.specs.Sight.{Sight}
-use Rattle.law_past_agreement.specs.Ids.{given, id_of, is_among}
-use Rattle.law_past_agreement.specs.Order.{MayCome}
-use Rattle.law_past_agreement.specs.Rows.{place_in, IsNeeded}
-use Rattle.law_past_agreement.specs.Slots.{Work, Slot}
+use Rattle.law_past_agreement.specs.{Ids.given, Ids.id_of, Ids.is_among, Order.MayCome, Rows.place_in, Rows.IsNeeded, Slots.Work, Slots.Slot}
 use Rattle.law_past_agreement.specs.Agreement.{IsCommitted, IsSettled, IsStanding, IsViewOf, ViewAgrees, WorkAgrees, SlotAgrees}
 use Rattle.law_past_agreement.proofs.Ids.{AreIds, later_not_among}
 

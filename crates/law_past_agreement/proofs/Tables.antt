@@ -3,17 +3,14 @@ use Rattle.std.proofs.Common.{◌≡◌, ℕ, ◌-◌, ◌<◌, ◌≤◌, Bool,
 use Rattle.std.proofs.lemmas.List.{length-append}
 use Rattle.std.specs.Prelude.{map}
 use Rattle.std.specs.List.{AllByRecursion}
-use Rattle.inno_types.specs.declared.value.Schema.{Schema}
-use Rattle.inno_types.specs.declared.value.Value.{Value}
-use Rattle.inno_db.specs.Database.{key_in}
-use Rattle.inno_db.specs.declared.change.Change.{Change}
-use Rattle.inno_db.specs.declared.change.Change.TheVariants.{Create, Put, Remove}
+use Rattle.inno_types.specs.{declared.value.Schema.Schema, declared.value.Value.Value}
+use Rattle.inno_db.specs.{Database.key_in, declared.change.Change.Change, declared.change.Change.TheVariants.Create, declared.change.Change.TheVariants.Put}
+use Rattle.inno_db.specs.{declared.change.Change.TheVariants.Remove}
 use Rattle.inno_model.specs.declared.event.Event.{Event}
 use Rattle.inno_model.specs.declared.event.Event.TheVariants as events
 use Rattle.inno_model.specs.Past.{own, oldest, committed}
 use Rattle.row_versions.specs.declared.place.Place.{Place}
-use Rattle.law_past_agreement.specs.Order.{created, IsTabled, MayCome, IsOrdered}
-use Rattle.law_past_agreement.specs.Rows.{place_in, is_place, is_at}
+use Rattle.law_past_agreement.specs.{Order.created, Order.IsTabled, Order.MayCome, Order.IsOrdered, Rows.place_in, Rows.is_place, Rows.is_at}
 use Rattle.law_past_agreement.proofs.Opens.{all_weaker}
 
 -- ---- what a table more leaves

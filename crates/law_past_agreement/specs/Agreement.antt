@@ -2,22 +2,17 @@
 use Rattle.std.specs.Prelude.{◌≡◌, ◌≢◌, ℕ, zero, suc, ◌+◌, ◌<◌, ◌≤◌, ◌^◌, ◌⊎◌, Bool, true, false, if◌then◌else◌, Option, Some, None, List, [], ◌∷◌, ◌++◌, map}
 use Rattle.std.specs.Prelude.{length, slice_index_or}
 use Rattle.std.specs.List.{AllByRecursion, list_any}
-use Rattle.inno_types.specs.declared.value.Value.{Value}
-use Rattle.inno_types.specs.declared.value.Schema.{Schema}
-use Rattle.inno_types.specs.declared.lock.Level.{Level}
-use Rattle.inno_types.specs.declared.reply.Item.{Item}
+use Rattle.inno_types.specs.{declared.value.Value.Value, declared.value.Schema.Schema, declared.lock.Level.Level, declared.reply.Item.Item}
 use Rattle.inno_db.specs.declared.change.Change.{Change}
 use Rattle.inno_model.specs.declared.event.Event.{Event}
 use Rattle.inno_model.specs.Past.{level, txn, own, view_of, begins, commits, committed, started, under_way, of_item, IsOpen, awaits_ack}
 use Rattle.read_view.specs.Sight.{Sight, is_seen}
 use Rattle.txn_table.specs.Txns.{Txns}
-use Rattle.row_versions.specs.declared.place.Place.{Place}
-use Rattle.row_versions.specs.declared.version.Version.{Version}
-use Rattle.row_versions.specs.Chains.{Chains, versions_at, first_seen, newest}
+use Rattle.row_versions.specs.{declared.place.Place.Place, declared.version.Version.Version, Chains.Chains, Chains.versions_at, Chains.first_seen}
+use Rattle.row_versions.specs.{Chains.newest}
 use Rattle.law_past_agreement.specs.Ids.{given, id_of, is_among, is_settled, opens}
-use Rattle.law_past_agreement.specs.Order.{IsOrdered, created}
+use Rattle.law_past_agreement.specs.{Order.IsOrdered, Order.created, Slots.Work, Slots.Slot, Slots.fresh}
 use Rattle.law_past_agreement.specs.Rows.{place_in, is_at, row_of, row_at, row_opened, IsNeeded}
-use Rattle.law_past_agreement.specs.Slots.{Work, Slot, fresh}
 
 abbrev pub IsCommitted : List Event → ℕ → Type 0
 IsCommitted h id = (n : ℕ) × (is_among h n id ≡ true)

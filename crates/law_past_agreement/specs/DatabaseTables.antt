@@ -3,8 +3,7 @@ use Rattle.std.specs.Prelude.{◌≡◌, ℕ, IsTrue, List, map}
 use Rattle.std.specs.FinMap.{get, find, is_sorted}
 use Rattle.inno_types.specs.declared.value.Value.{Value}
 use Rattle.inno_db.specs.Database.{Database, Place, RowMap, place_cmp}
-use Rattle.inno_model.specs.declared.event.Event.{Event}
-use Rattle.inno_model.specs.Past.{opening}
+use Rattle.inno_model.specs.{declared.event.Event.Event, Past.opening}
 use Rattle.law_past_agreement.specs.Order.{created}
 
 -- the opening with all tables that have been made

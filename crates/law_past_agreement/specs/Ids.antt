@@ -1,8 +1,7 @@
 -- The ids of transactions, read off a past: one is given where a transaction first writes.
 use Rattle.std.specs.Prelude.{ℕ, ◌+◌, Bool, false, ◌||◌, ◌&&◌, ◌==◌, nat_lt, if◌then◌else◌, List, [], ◌∷◌, ◌++◌}
-use Rattle.inno_model.specs.declared.event.Event.{Event}
-use Rattle.inno_model.specs.declared.event.Event.TheVariants.{Begin, Changed, Committed, RolledBack}
-use Rattle.inno_model.specs.Past.{commits, txn}
+use Rattle.inno_model.specs.{declared.event.Event.Event, declared.event.Event.TheVariants.Begin, declared.event.Event.TheVariants.Changed}
+use Rattle.inno_model.specs.{declared.event.Event.TheVariants.Committed, declared.event.Event.TheVariants.RolledBack, Past.commits, Past.txn}
 use Rattle.txn_table.specs.Txns.{Entry, with_id, without}
 
 abbrev mutual

@@ -1,12 +1,8 @@
 -- Which rows of its table the outcome of a search depends on.
 use Rattle.std.specs.Prelude.{◌≡◌, ℕ, List, Option, Some, slice_get}
-use Rattle.inno_types.specs.declared.value.Schema.{Schema}
-use Rattle.inno_types.specs.declared.stmt.Filter.{Filter}
-use Rattle.inno_types.specs.declared.stmt.Stmt.{Stmt}
-use Rattle.inno_types.specs.declared.stmt.Stmt.TheVariants.{Select, Update, Delete}
-use Rattle.inno_db.specs.Database.{Database, RowMap, rows_of}
-use Rattle.inno_db.specs.Names.{table_place}
-use Rattle.inno_db.specs.Outcome.{matching}
+use Rattle.inno_types.specs.{declared.value.Schema.Schema, declared.stmt.Filter.Filter, declared.stmt.Stmt.Stmt, declared.stmt.Stmt.TheVariants.Select}
+use Rattle.inno_types.specs.{declared.stmt.Stmt.TheVariants.Update, declared.stmt.Stmt.TheVariants.Delete}
+use Rattle.inno_db.specs.{Database.Database, Database.RowMap, Database.rows_of, Names.table_place, Outcome.matching}
 
 -- with these rows instead the condition lets the same rows of the table through
 abbrev pub LetsThroughTheSame : List ℕ → Option Filter → Database → RowMap → Type 0

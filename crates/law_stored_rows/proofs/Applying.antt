@@ -4,15 +4,11 @@ use Rattle.std.specs.Prelude.{slice_get, IsSomeAnd, All}
 use Rattle.std.specs.Ordering.{eq_by_cmp}
 use Rattle.std.specs.FinMap.{get, from_entries, get-empty, get-insert, get-remove}
 use Rattle.std.proofs.lemmas.List.Elements.{All-head, All-tail, All-weaker}
-use Rattle.inno_types.specs.declared.value.Value.{Value}
-use Rattle.inno_types.specs.declared.value.Schema.{Schema}
-use Rattle.inno_db.specs.declared.change.Change.{Change}
-use Rattle.inno_db.specs.declared.change.Change.TheVariants.{Create, Put, Remove}
+use Rattle.inno_types.specs.{declared.value.Value.Value, declared.value.Schema.Schema}
+use Rattle.inno_db.specs.{declared.change.Change.Change, declared.change.Change.TheVariants.Create, declared.change.Change.TheVariants.Put}
+use Rattle.inno_db.specs.{declared.change.Change.TheVariants.Remove, Changes.apply_one, Changes.apply, Order.place_cmp_total}
 use Rattle.inno_db.specs.Database.{Database, Place, RowMap, place_cmp, key_of, key_in}
-use Rattle.inno_db.specs.Changes.{apply_one, apply}
-use Rattle.inno_db.specs.Order.{place_cmp_total}
-use Rattle.inno_db.proofs.Tables.{place_cmp-IsAntisymmetric}
-use Rattle.inno_db.proofs.Keys.{key_in-at}
+use Rattle.inno_db.proofs.{Tables.place_cmp-IsAntisymmetric, Keys.key_in-at}
 use Rattle.inno_model.specs.Past.{changed}
 use Rattle.law_stored_rows.specs.Storable.{IsStorable, AreStorable}
 use Rattle.law_stored_rows.specs.Fitting.{FitsTable, IsKeyFor, FitsTables, FitsAt, AreFitting, StoodWell}

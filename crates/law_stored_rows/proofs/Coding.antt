@@ -1,22 +1,17 @@
 -- The record and the entries of a row that fits its table.
 use Rattle.std.proofs.Common.{◌≡◌, ℕ, ◌≤◌, List, length, get_or, Some, refl, sym, ap, ◌∙◌, subst, arith}
 use Rattle.std.specs.Prelude.{All, slice_get}
-use Rattle.inno_types.specs.declared.value.Kind.{Kind}
-use Rattle.inno_types.specs.declared.value.Kind.TheVariants.{BigInt, VarBinary}
-use Rattle.inno_types.specs.declared.value.Column.{Column}
-use Rattle.inno_types.specs.declared.value.Key.{Key}
-use Rattle.inno_types.specs.declared.value.Schema.{Schema}
-use Rattle.inno_types.specs.declared.value.Value.{Value}
-use Rattle.inno_types.specs.declared.value.Value.TheVariants.{Null}
+use Rattle.inno_types.specs.{declared.value.Kind.Kind, declared.value.Kind.TheVariants.BigInt, declared.value.Kind.TheVariants.VarBinary}
+use Rattle.inno_types.specs.{declared.value.Column.Column, declared.value.Key.Key, declared.value.Schema.Schema, declared.value.Value.Value}
+use Rattle.inno_types.specs.{declared.value.Value.TheVariants.Null}
 use Rattle.store_api.specs.declared.answers.Version.{Version}
 use Rattle.inno_db.specs.Database.{key_of}
 use Rattle.key_codec.specs.Keys.{IsOfKind, IsOfKindOrNull, key_code, key_width, entry_code}
 use Rattle.key_codec.proofs.Lengths.{length-key_code, length-entry_code}
 use Rattle.row_codec.specs.Rows.{IsRowOf, IsKeyOf, IsRecordOf, version_code}
 use Rattle.row_codec.proofs.Stored.{length-version_code}
-use Rattle.law_stored_rows.specs.Storable.{IsKeyOn, IsStorable}
-use Rattle.law_stored_rows.specs.Fitting.{IsKeyFor, FitsTable}
-use Rattle.law_stored_rows.specs.FittingRecords.{value_in, IsEntryOf}
+use Rattle.law_stored_rows.specs.{Storable.IsKeyOn, Storable.IsStorable, Fitting.IsKeyFor, Fitting.FitsTable, FittingRecords.value_in}
+use Rattle.law_stored_rows.specs.{FittingRecords.IsEntryOf}
 use Rattle.law_stored_rows.proofs.FittingValues.{value-fits, of_kind_or_null}
 
 same_column : (columns : List Column) (place : ℕ) (a b : Column) → slice_get columns place ≡ Some a → slice_get columns place ≡ Some b → a ≡ b

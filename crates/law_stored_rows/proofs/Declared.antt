@@ -1,6 +1,6 @@
 -- What a CREATE TABLE declares can be stored.
-use Rattle.std.proofs.Common.{◌≡◌, ℕ, suc, ◌+◌, ◌<◌, ◌≤◌, List, [], ◌∷◌, length, take, drop, Bool, true, false, ◌&&◌, ◌||◌, not, Option, Some, None, refl, sym}
-use Rattle.std.proofs.Common.{ap, ◌∙◌, subst, arith, add-one}
+use Rattle.std.proofs.Common.{◌≡◌, ℕ, suc, ◌+◌, ◌<◌, ◌≤◌, List, [], ◌∷◌, length, take, drop, Bool, true, false, ◌&&◌, ◌||◌, not, Option, Some, None, refl}
+use Rattle.std.proofs.Common.{sym, ap, ◌∙◌, subst, arith, add-one}
 use Rattle.std.specs.Prelude.{All, slice_get, nat_le, sum_by, remove, unwrap_or, if◌then◌else◌}
 use Rattle.std.specs.List.{list_all}
 use Rattle.std.specs.Str.{str_eq_ignore_ascii_case}
@@ -10,15 +10,10 @@ use Rattle.std.proofs.lemmas.List.Elements.{All-nil, All-cons}
 use Rattle.std.proofs.lemmas.List.Sums.{AllPass-from_list_all, sum_by-cons, sum_by-append, sum_by-take-drop, sum_by-drop_more}
 use Rattle.std.proofs.lemmas.List.Quantifiers.{position-Some}
 use Rattle.std.proofs.lemmas.Option.{slice_get_within, get_or_from_slice_get}
-use Rattle.inno_types.specs.declared.value.Kind.{Kind}
-use Rattle.inno_types.specs.declared.value.Kind.TheVariants.{BigInt, VarBinary}
-use Rattle.inno_types.specs.declared.value.Column.{Column}
-use Rattle.inno_types.specs.declared.value.Key.{Key}
-use Rattle.inno_types.specs.declared.value.Schema.{Schema}
-use Rattle.inno_types.specs.declared.stmt.Definition.{Definition}
+use Rattle.inno_types.specs.{declared.value.Kind.Kind, declared.value.Kind.TheVariants.BigInt, declared.value.Kind.TheVariants.VarBinary}
+use Rattle.inno_types.specs.{declared.value.Column.Column, declared.value.Key.Key, declared.value.Schema.Schema, declared.stmt.Definition.Definition}
 use Rattle.inno_types.specs.declared.stmt.Definition.TheVariants as definition
-use Rattle.inno_db.specs.Names.{column_at, column_place}
-use Rattle.inno_db.specs.declared.limits.TheConstants.{MOST_COLUMNS, MOST_BYTES_OF_ROW}
+use Rattle.inno_db.specs.{Names.column_at, Names.column_place, declared.limits.TheConstants.MOST_COLUMNS, declared.limits.TheConstants.MOST_BYTES_OF_ROW}
 use Rattle.inno_db.specs.Declarations.{has_twins, is_sized, says_not_null, columns_of, primaries_of, key_columns_of, key_bytes, keys_of, row_bytes, is_short}
 use Rattle.inno_db.specs.Declarations.{is_indexable, are_good_columns, are_good_keys, schema_of, declared_by, schema_declared}
 use Rattle.key_codec.specs.Keys.{key_width}

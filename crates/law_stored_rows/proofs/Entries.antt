@@ -3,18 +3,16 @@ use Rattle.std.proofs.Common.{◌≡◌, ◌≢◌, ◌∙◌, sym, ap, subst, r
 use Rattle.std.specs.Prelude.{is_some, ◌||◌, not}
 use Rattle.std.specs.List.{list_any}
 use Rattle.std.proofs.lemmas.Bool.{true≢false}
-use Rattle.inno_types.specs.declared.value.Value.{Value}
-use Rattle.inno_types.specs.declared.value.Schema.{Schema}
+use Rattle.inno_types.specs.{declared.value.Value.Value, declared.value.Schema.Schema}
 use Rattle.key_codec.specs.Keys.{HasKey, HasEntry, key_code, entry_code}
 use Rattle.key_codec.proofs.Once.{same_entry}
 use Rattle.row_codec.specs.Rows.{mark_code}
 use Rattle.entries.specs.Pairs.{Pair, value_of}
-use Rattle.row_versions.specs.declared.version.Version.{Version}
-use Rattle.row_versions.specs.Chains.{newest}
+use Rattle.row_versions.specs.{declared.version.Version.Version, Chains.newest}
 use Rattle.law_stored_rows.specs.Edits.{with_value}
 use Rattle.law_stored_rows.specs.Entries.{is_same_value, value_in, has_value, entry_of, IsSomeEntry, HasEntries, TellAlike, TellAlikeBut}
-use Rattle.law_stored_rows.proofs.Values.{same_value, apart_from, one_key}
-use Rattle.law_stored_rows.proofs.Pairs.{same_or_not, rising_now, value_now, others_now}
+use Rattle.law_stored_rows.proofs.{Values.same_value, Values.apart_from, Values.one_key, Pairs.same_or_not, Pairs.rising_now, Pairs.value_now}
+use Rattle.law_stored_rows.proofs.{Pairs.others_now}
 
 -- ---- the entries of one key after a change of one of them
 

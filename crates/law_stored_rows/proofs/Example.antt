@@ -3,15 +3,11 @@ use Rattle.std.proofs.Common.{◌≡◌, zero, suc, [], ◌∷◌, Some, refl, s
 use Rattle.std.specs.Prelude.{pos}
 use Rattle.std.specs.FinMap.{get}
 use Rattle.inno_types.specs.declared.value.Value.TheVariants.{Int}
-use Rattle.inno_db.specs.declared.change.Change.TheVariants.{Put}
-use Rattle.inno_db.specs.Declarations.{schema_declared}
+use Rattle.inno_db.specs.{declared.change.Change.TheVariants.Put, Declarations.schema_declared}
 use Rattle.inno_db.proofs.Applying.{get_put}
-use Rattle.law_stored_rows.specs.Storable.{IsStorable, AreStorable}
-use Rattle.law_stored_rows.specs.Fitting.{AreFitting}
+use Rattle.law_stored_rows.specs.{Storable.IsStorable, Storable.AreStorable, Fitting.AreFitting}
 use Rattle.law_stored_rows.specs.Example.{table_name, definitions, one_table, one_row, without_rows, with_one_row}
-use Rattle.law_stored_rows.proofs.Applying.{AreFitting-no_rows, AreFitting-apply_one}
-use Rattle.law_stored_rows.proofs.Declared.{declared-IsStorable}
-use Rattle.law_stored_rows.proofs.FittingValues.{FitsTable-from_row}
+use Rattle.law_stored_rows.proofs.{Applying.AreFitting-no_rows, Applying.AreFitting-apply_one, Declared.declared-IsStorable, FittingValues.FitsTable-from_row}
 
 pub is_declared : schema_declared table_name definitions ≡ Some one_table
 is_declared = refl

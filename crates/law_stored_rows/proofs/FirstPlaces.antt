@@ -6,26 +6,19 @@ use Rattle.std.proofs.lemmas.Bool.Decides.{nat_tests}
 use Rattle.std.specs.Ordering.{is_le, is_lt, nat_cmp, ordering_then, ordering_reverse}
 use Rattle.std.specs.declared.cmp.Ordering.{Ordering}
 use Rattle.std.specs.declared.cmp.Ordering.TheVariants.{Less, Equal, Greater}
-use Rattle.inno_types.specs.declared.value.Kind.{Kind}
-use Rattle.inno_types.specs.declared.value.Value.{Value}
-use Rattle.inno_types.specs.declared.value.Value.TheVariants.{Null, Int, Text}
-use Rattle.inno_types.specs.declared.value.Column.{Column}
-use Rattle.inno_types.specs.declared.value.Schema.{Schema}
+use Rattle.inno_types.specs.{declared.value.Kind.Kind, declared.value.Value.Value, declared.value.Value.TheVariants.Null}
+use Rattle.inno_types.specs.{declared.value.Value.TheVariants.Int, declared.value.Value.TheVariants.Text, declared.value.Column.Column}
+use Rattle.inno_types.specs.{declared.value.Schema.Schema}
 use Rattle.inno_db.specs.Database.{value_cmp}
 use Rattle.key_codec.specs.Keys.{HasKey, key_code}
 use Rattle.key_codec.proofs.ValueOrder.{key_code-order}
 use Rattle.entries.specs.Pairs.{Pair, key_cmp, value_of, first_from, first_after, IsFirstOf, NonePasses}
-use Rattle.entries.proofs.Order.{key_cmp_is}
-use Rattle.entries.proofs.Found.{first_is}
-use Rattle.row_versions.specs.declared.kept.Kept.{Kept}
-use Rattle.row_versions.specs.declared.place.Place.{Place}
-use Rattle.row_versions.specs.declared.version.Version.{Version}
+use Rattle.entries.proofs.{Order.key_cmp_is, Found.first_is}
+use Rattle.row_versions.specs.{declared.kept.Kept.Kept, declared.place.Place.Place, declared.version.Version.Version}
 use Rattle.row_versions.specs.Chains.{Chains, versions_at, place_order, is_from, IsFirstFrom, IsNext}
-use Rattle.law_stored_rows.specs.Records.{IsRecordWith, IsClustered}
-use Rattle.law_stored_rows.specs.Tables.{in_table}
+use Rattle.law_stored_rows.specs.{Records.IsRecordWith, Records.IsClustered, Tables.in_table}
 use Rattle.law_stored_rows.specs.Walks.{IsRecordOfA, IsNoneFromIn, IsLastIn, is_from_bytes, IsFirstFromBytes, IsNoneFromBytes}
-use Rattle.law_stored_rows.proofs.Values.{value_total}
-use Rattle.law_stored_rows.proofs.Tables.{at}
+use Rattle.law_stored_rows.proofs.{Values.value_total, Tables.at}
 
 none_or_some : (versions : List Version) → (versions ≡ []) ⊎ (versions ≢ [])
 none_or_some [] = inl refl

@@ -1,19 +1,14 @@
 -- The values of a row that fits its columns, and its key.
 use Rattle.std.proofs.Common.{◌≡◌, ℕ, zero, suc, Bool, true, false, List, [], ◌∷◌, Some, sym, subst, ◌∙◌}
 use Rattle.std.specs.Prelude.{slice_get}
-use Rattle.inno_types.specs.declared.value.Value.{Value}
-use Rattle.inno_types.specs.declared.value.Value.TheVariants.{Null, Int, Text}
-use Rattle.inno_types.specs.declared.value.Kind.{Kind}
-use Rattle.inno_types.specs.declared.value.Kind.TheVariants.{BigInt, VarBinary}
-use Rattle.inno_types.specs.declared.value.Column.{Column}
-use Rattle.inno_types.specs.declared.value.Schema.{Schema}
+use Rattle.inno_types.specs.{declared.value.Value.Value, declared.value.Value.TheVariants.Null, declared.value.Value.TheVariants.Int}
+use Rattle.inno_types.specs.{declared.value.Value.TheVariants.Text, declared.value.Kind.Kind, declared.value.Kind.TheVariants.BigInt}
+use Rattle.inno_types.specs.{declared.value.Kind.TheVariants.VarBinary, declared.value.Column.Column, declared.value.Schema.Schema}
 use Rattle.inno_db.specs.Database.{key_of}
 use Rattle.key_codec.specs.Keys.{IsOfKind, IsOfKindOrNull}
 use Rattle.row_codec.specs.Rows.{FitsColumn, IsRowOf}
 use Rattle.law_db.specs.Fitting.{IsTextOf, IsValueOf, IsRowOf as IsRowByType}
-use Rattle.law_stored_rows.specs.Storable.{IsStorable}
-use Rattle.law_stored_rows.specs.Fitting.{FitsTable}
-use Rattle.law_stored_rows.specs.FittingRecords.{value_in}
+use Rattle.law_stored_rows.specs.{Storable.IsStorable, Fitting.FitsTable, FittingRecords.value_in}
 
 -- ---- what a column takes, said in two ways
 

@@ -4,18 +4,13 @@ use Rattle.std.specs.Prelude.{is_some, IfSome, All, not}
 use Rattle.std.specs.List.{list_any, AllByRecursion}
 use Rattle.std.proofs.lemmas.Bool.{true≢false, or_left, or_right}
 use Rattle.std.proofs.lemmas.List.Elements.{All-from_recursion}
-use Rattle.inno_types.specs.declared.value.Value.{Value}
-use Rattle.inno_types.specs.declared.value.Column.{Column}
-use Rattle.inno_types.specs.declared.value.Kind.{Kind}
-use Rattle.inno_types.specs.declared.value.Schema.{Schema}
+use Rattle.inno_types.specs.{declared.value.Value.Value, declared.value.Column.Column, declared.value.Kind.Kind, declared.value.Schema.Schema}
 use Rattle.inno_db.specs.Database.{key_of}
 use Rattle.store_api.specs.declared.answers.Version.{Version as Coded}
 use Rattle.key_codec.specs.Keys.{HasKey, HasEntry, key_code, entry_code}
 use Rattle.row_codec.specs.Rows.{mark_code}
 use Rattle.entries.specs.Pairs.{Pair, value_of}
-use Rattle.row_versions.specs.declared.kept.Kept.{Kept}
-use Rattle.row_versions.specs.declared.version.Version.{Version}
-use Rattle.row_versions.specs.Chains.{newest}
+use Rattle.row_versions.specs.{declared.kept.Kept.Kept, declared.version.Version.Version, Chains.newest}
 use Rattle.law_stored_rows.specs.Entries.{value_in, has_value, entry_of, entry_at, HasEntries, IsOfNewest, IsOfSome}
 use Rattle.law_stored_rows.specs.Records.{row_shown, shown, IsCodeOf, LeadTo, IsRecordWith, IsClustered, IsRowAt}
 use Rattle.law_stored_rows.proofs.Values.{value_itself, entry_there, key_there, one_key, same_value}

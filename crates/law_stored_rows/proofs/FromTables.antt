@@ -2,24 +2,18 @@
 use Rattle.std.proofs.Common.{◌∙◌, ◌≡◌, ◌≢◌, sym, subst, refl, ℕ, true, List, [], ◌∷◌, Option, None, Some, slice_get, ◌⊎◌, inl, inr}
 use Rattle.std.specs.Prelude.{All, IfSome, is_some}
 use Rattle.std.specs.List.{list_any}
-use Rattle.inno_types.specs.declared.value.Value.{Value}
-use Rattle.inno_types.specs.declared.value.Column.{Column}
-use Rattle.inno_types.specs.declared.value.Key.{Key}
-use Rattle.inno_types.specs.declared.value.Schema.{Schema}
+use Rattle.inno_types.specs.{declared.value.Value.Value, declared.value.Column.Column, declared.value.Key.Key, declared.value.Schema.Schema}
 use Rattle.inno_db.specs.Database.{key_of}
 use Rattle.store_api.specs.declared.answers.Version.{Version as Coded}
 use Rattle.key_codec.specs.Keys.{HasKey, key_code}
 use Rattle.entries.specs.Pairs.{Pair, value_of}
-use Rattle.row_versions.specs.declared.kept.Kept.{Kept}
-use Rattle.row_versions.specs.declared.place.Place.{Place}
-use Rattle.row_versions.specs.declared.version.Version.{Version}
-use Rattle.row_versions.specs.Chains.{Chains, versions_at, newest, older}
+use Rattle.row_versions.specs.{declared.kept.Kept.Kept, declared.place.Place.Place, declared.version.Version.Version, Chains.Chains, Chains.versions_at}
+use Rattle.row_versions.specs.{Chains.newest, Chains.older}
 use Rattle.law_stored_rows.specs.Edits.{clustered_index, key_index}
 use Rattle.law_stored_rows.specs.Entries.{value_in, has_value, entry_at, IsOfNewest, IsOfSome}
 use Rattle.law_stored_rows.specs.Records.{shown, IsCodeOf, LeadTo, IsRecordWith, IsClustered, IsRowAt}
 use Rattle.law_stored_rows.specs.Tables.{in_table, Said, AreClustered, AreCodedAs, AreCoded}
-use Rattle.law_stored_rows.proofs.Values.{key_there}
-use Rattle.law_stored_rows.proofs.RowRecords.{record_read, no_record, one_record}
+use Rattle.law_stored_rows.proofs.{Values.key_there, RowRecords.record_read, RowRecords.no_record, RowRecords.one_record}
 use Rattle.law_stored_rows.proofs.Found.{rows_at_home, each_found, newest_found, found_where_told, unmarked_is_newest, each_is_of_some}
 
 pub decoded : (schemas : List Schema) (indexes : ℕ → List Pair) (kept : ℕ → Option Kept) (chains : Chains) (table : ℕ) (schema : Schema)

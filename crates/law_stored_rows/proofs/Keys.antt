@@ -2,26 +2,19 @@
 use Rattle.std.proofs.Common.{◌≡◌, ◌≢◌, ◌∙◌, sym, ap, subst, refl, ℕ, ◌<◌, Bool, true, false, List, Option, Some, slice_get, ◌⊎◌, inl, inr}
 use Rattle.std.specs.Prelude.{◌==◌, ◌&&◌}
 use Rattle.std.proofs.lemmas.Bool.{cases_eq, cond-true, cond-false, eq-eqb, ne_eqb, and_from, and_left, and_right}
-use Rattle.inno_types.specs.declared.value.Value.{Value}
-use Rattle.inno_types.specs.declared.value.Key.{Key}
-use Rattle.inno_types.specs.declared.value.Column.{Column}
-use Rattle.inno_types.specs.declared.value.Schema.{Schema}
+use Rattle.inno_types.specs.{declared.value.Value.Value, declared.value.Key.Key, declared.value.Column.Column, declared.value.Schema.Schema}
 use Rattle.inno_db.specs.Database.{key_of}
 use Rattle.store_api.specs.declared.answers.Version.{Version as Coded}
 use Rattle.key_codec.specs.Keys.{key_code, entry_code}
 use Rattle.entries.specs.Pairs.{Pair}
-use Rattle.row_versions.specs.declared.kept.Kept.{Kept}
-use Rattle.row_versions.specs.declared.place.Place.{Place}
-use Rattle.row_versions.specs.declared.version.Version.{Version}
-use Rattle.row_versions.specs.Chains.{Chains, versions_at, is_same_place}
-use Rattle.law_stored_rows.specs.Edits.{with_value, clustered_index, key_index, Puts}
+use Rattle.row_versions.specs.{declared.kept.Kept.Kept, declared.place.Place.Place, declared.version.Version.Version, Chains.Chains, Chains.versions_at}
+use Rattle.row_versions.specs.{Chains.is_same_place}
+use Rattle.law_stored_rows.specs.{Edits.with_value, Edits.clustered_index, Edits.key_index, Edits.Puts, Records.IsCodeOf}
 use Rattle.law_stored_rows.specs.Entries.{is_same_value, value_in, entry_of, HasEntries, TellAlike, TellAlikeBut}
-use Rattle.law_stored_rows.specs.Records.{IsCodeOf}
 use Rattle.law_stored_rows.specs.Tables.{place_in, in_table, Said, AreClustered, AreCodedAs, AreCoded, what_is_there, LagAt, SaysNow}
 use Rattle.law_stored_rows.proofs.Values.{in_one_table, in_other_table, place_itself, same_place, key_there, entry_there}
-use Rattle.law_stored_rows.proofs.Pairs.{at_index, at_others, no_key, other_key}
-use Rattle.law_stored_rows.proofs.Entries.{entries_after, entries_alike}
-use Rattle.law_stored_rows.proofs.Tables.{at, clustered_alike, few_of, entries_same}
+use Rattle.law_stored_rows.proofs.{Pairs.at_index, Pairs.at_others, Pairs.no_key, Pairs.other_key, Entries.entries_after, Entries.entries_alike, Tables.at}
+use Rattle.law_stored_rows.proofs.{Tables.clustered_alike, Tables.few_of, Tables.entries_same}
 
 -- ---- clustered indexes stay as they were
 

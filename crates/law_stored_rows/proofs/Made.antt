@@ -1,19 +1,12 @@
 -- Tables without rows: none, and one more.
 use Rattle.std.proofs.Common.{◌≡◌, sym, ap, subst, refl, ℕ, zero, suc, ◌≤◌, List, [], ◌∷◌, ◌++◌, length, Option, None, Some, slice_get, ◌⊎◌, inl, inr}
 use Rattle.std.proofs.lemmas.Bool.{true≢false}
-use Rattle.inno_types.specs.declared.value.Value.{Value}
-use Rattle.inno_types.specs.declared.value.Key.{Key}
-use Rattle.inno_types.specs.declared.value.Schema.{Schema}
+use Rattle.inno_types.specs.{declared.value.Value.Value, declared.value.Key.Key, declared.value.Schema.Schema}
 use Rattle.key_codec.specs.Keys.{key_code}
 use Rattle.entries.specs.Pairs.{Pair}
-use Rattle.row_versions.specs.declared.kept.Kept.{Kept}
-use Rattle.row_versions.specs.declared.place.Place.{Place}
-use Rattle.row_versions.specs.declared.version.Version.{Version}
-use Rattle.row_versions.specs.Chains.{Chains, versions_at}
-use Rattle.law_stored_rows.specs.Edits.{clustered_index, key_index}
-use Rattle.law_stored_rows.specs.Entries.{entry_of, HasEntries}
-use Rattle.law_stored_rows.specs.Records.{IsRecordWith, IsClustered}
-use Rattle.law_stored_rows.specs.Tables.{in_table, HasItsColumns, HasNoPairs, AreCoded}
+use Rattle.row_versions.specs.{declared.kept.Kept.Kept, declared.place.Place.Place, declared.version.Version.Version, Chains.Chains, Chains.versions_at}
+use Rattle.law_stored_rows.specs.{Edits.clustered_index, Edits.key_index, Entries.entry_of, Entries.HasEntries, Records.IsRecordWith, Records.IsClustered}
+use Rattle.law_stored_rows.specs.{Tables.in_table, Tables.HasItsColumns, Tables.HasNoPairs, Tables.AreCoded}
 use Rattle.law_stored_rows.proofs.Tables.{at, few_of}
 
 no_rows_yet : (schema : Schema) (kept : ℕ → Option Kept) (rows : Value → List Version) → HasItsColumns schema → ((value : Value) → rows value ≡ [])

@@ -5,31 +5,16 @@ use Rattle.std.specs.List.{AllByRecursion}
 use Rattle.std.specs.Ordering.{eq_by_cmp}
 use Rattle.std.specs.FinMap.{entries, entries_sorted, get, from_entries, get-empty, get-insert, get-remove, get-entries}
 use Rattle.std.proofs.lemmas.List.Elements.{All-nil, All-cons, All-head, All-tail}
-use Rattle.inno_types.specs.declared.value.Value.{Value}
-use Rattle.inno_types.specs.declared.value.Column.{Column}
-use Rattle.inno_types.specs.declared.value.Schema.{Schema}
-use Rattle.inno_types.specs.declared.stmt.Literal.{Literal}
-use Rattle.inno_types.specs.declared.stmt.Set.{Set}
-use Rattle.inno_types.specs.declared.stmt.Filter.{Filter}
-use Rattle.inno_types.specs.declared.stmt.Definition.{Definition}
-use Rattle.inno_types.specs.declared.stmt.Stmt.{Stmt}
+use Rattle.inno_types.specs.{declared.value.Value.Value, declared.value.Column.Column, declared.value.Schema.Schema, declared.stmt.Literal.Literal}
+use Rattle.inno_types.specs.{declared.stmt.Set.Set, declared.stmt.Filter.Filter, declared.stmt.Definition.Definition, declared.stmt.Stmt.Stmt}
+use Rattle.inno_types.specs.{declared.reply.Reply.TheVariants.Done, declared.reply.SqlError.SqlError, declared.reply.SqlError.TheVariants.Duplicate}
 use Rattle.inno_types.specs.declared.stmt.Stmt.TheVariants.{CreateTable, Select, Insert, Update, Delete, Begin, Commit, Rollback, RollbackTo, Savepoint}
 use Rattle.inno_types.specs.declared.stmt.Stmt.TheVariants.{SetAutocommit, SetLevel}
-use Rattle.inno_types.specs.declared.reply.Reply.TheVariants.{Done}
-use Rattle.inno_types.specs.declared.reply.SqlError.{SqlError}
-use Rattle.inno_types.specs.declared.reply.SqlError.TheVariants.{Duplicate}
-use Rattle.inno_db.specs.declared.change.Change.{Change}
-use Rattle.inno_db.specs.declared.change.Change.TheVariants.{Create, Put, Remove}
-use Rattle.inno_db.specs.declared.outcome.Outcome.{Outcome}
+use Rattle.inno_db.specs.{declared.change.Change.Change, declared.change.Change.TheVariants.Create, declared.change.Change.TheVariants.Put}
+use Rattle.inno_db.specs.{declared.change.Change.TheVariants.Remove, declared.outcome.Outcome.Outcome, Changes.apply_one, Changes.apply}
+use Rattle.inno_db.specs.{Order.place_cmp_total, Names.table_place, Conditions.matches, Expressions.and_then, Storing.all_assigned, Storing.row_of_tuple}
+use Rattle.inno_db.specs.{Declarations.schema_declared, Refusals.refusal}
 use Rattle.inno_db.specs.Database.{Database, Place, place_cmp, rows_of, key_of, key_in}
-use Rattle.inno_db.specs.Changes.{apply_one, apply}
-use Rattle.inno_db.specs.Order.{place_cmp_total}
-use Rattle.inno_db.specs.Names.{table_place}
-use Rattle.inno_db.specs.Conditions.{matches}
-use Rattle.inno_db.specs.Expressions.{and_then}
-use Rattle.inno_db.specs.Storing.{all_assigned, row_of_tuple}
-use Rattle.inno_db.specs.Declarations.{schema_declared}
-use Rattle.inno_db.specs.Refusals.{refusal}
 use Rattle.inno_db.specs.Outcome.{matching, has_key, is_same_row, new_row, row_for, put_then, inserted, change_to, change_then, updated, deleted, on_schema}
 use Rattle.inno_db.specs.Outcome.{on_number, on_rows, creation, created, answered, select_answer, insert_answer, update_answer, delete_answer, answer_to}
 use Rattle.inno_db.specs.Outcome.{unless_refused, outcome}
@@ -37,8 +22,7 @@ use Rattle.inno_model.specs.Past.{changed}
 use Rattle.key_codec.specs.Keys.{Has64Bits}
 use Rattle.law_db.proofs.Values.{ok_same, never, and_then-ok}
 use Rattle.law_stored_rows.specs.Numbers.{LiteralHas64Bits, ExprHas64Bits, Stores64Bits, ChangeHas64Bits, RowsHave64Bits}
-use Rattle.law_stored_rows.proofs.Rows.{all_found, IsFoundIn}
-use Rattle.law_stored_rows.proofs.Stored.{row_of_tuple-Has64Bits, all_assigned-Has64Bits, key_of-Has64Bits}
+use Rattle.law_stored_rows.proofs.{Rows.all_found, Rows.IsFoundIn, Stored.row_of_tuple-Has64Bits, Stored.all_assigned-Has64Bits, Stored.key_of-Has64Bits}
 
 abbrev All64 : List Change → Type 0
 All64 changes = All ChangeHas64Bits changes

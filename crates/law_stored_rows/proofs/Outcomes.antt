@@ -5,38 +5,20 @@ use Rattle.std.specs.Prelude.{slice_get, IsSomeAnd, All, if◌then◌else◌}
 use Rattle.std.specs.List.{AllByRecursion}
 use Rattle.std.proofs.lemmas.List.Elements.{All-from_recursion, All-nil, All-cons}
 use Rattle.std.proofs.lemmas.Option.{slice_get_cases}
-use Rattle.inno_types.specs.declared.value.Value.{Value}
-use Rattle.inno_types.specs.declared.value.Schema.{Schema}
-use Rattle.inno_types.specs.declared.stmt.Literal.{Literal}
-use Rattle.inno_types.specs.declared.stmt.Set.{Set}
-use Rattle.inno_types.specs.declared.stmt.Filter.{Filter}
-use Rattle.inno_types.specs.declared.stmt.Definition.{Definition}
-use Rattle.inno_types.specs.declared.stmt.Stmt.{Stmt}
+use Rattle.inno_types.specs.{declared.value.Value.Value, declared.value.Schema.Schema, declared.stmt.Literal.Literal, declared.stmt.Set.Set}
+use Rattle.inno_types.specs.{declared.stmt.Filter.Filter, declared.stmt.Definition.Definition, declared.stmt.Stmt.Stmt, declared.reply.Reply.TheVariants.Done}
 use Rattle.inno_types.specs.declared.stmt.Stmt.TheVariants.{CreateTable, Select, Insert, Update, Delete, Begin, Commit, Rollback, RollbackTo, Savepoint}
 use Rattle.inno_types.specs.declared.stmt.Stmt.TheVariants.{SetAutocommit, SetLevel}
-use Rattle.inno_types.specs.declared.reply.Reply.TheVariants.{Done}
-use Rattle.inno_db.specs.declared.change.Change.{Change}
-use Rattle.inno_db.specs.declared.change.Change.TheVariants.{Create, Put, Remove}
-use Rattle.inno_db.specs.declared.limits.TheConstants.{MOST_TABLES}
-use Rattle.inno_db.specs.declared.outcome.Outcome.{Outcome}
-use Rattle.inno_db.specs.Database.{Database, rows_of, key_of}
-use Rattle.inno_db.specs.Names.{table_place}
-use Rattle.inno_db.specs.Conditions.{matches}
-use Rattle.inno_db.specs.Expressions.{and_then}
-use Rattle.inno_db.specs.Storing.{all_assigned}
-use Rattle.inno_db.specs.Declarations.{schema_declared}
-use Rattle.inno_db.specs.Refusals.{refusal}
+use Rattle.inno_db.specs.{declared.change.Change.Change, declared.change.Change.TheVariants.Create, declared.change.Change.TheVariants.Put}
+use Rattle.inno_db.specs.{declared.change.Change.TheVariants.Remove, declared.limits.TheConstants.MOST_TABLES, declared.outcome.Outcome.Outcome}
+use Rattle.inno_db.specs.{Database.Database, Database.rows_of, Database.key_of, Names.table_place, Conditions.matches, Expressions.and_then}
+use Rattle.inno_db.specs.{Storing.all_assigned, Declarations.schema_declared, Refusals.refusal}
 use Rattle.inno_db.specs.Outcome.{matching, is_same_row, row_for, put_then, inserted, change_to, change_then, updated, deleted, on_schema, on_number, on_rows}
 use Rattle.inno_db.specs.Outcome.{creation, created, answered, select_answer, insert_answer, update_answer, delete_answer, answer_to, unless_refused, outcome}
-use Rattle.law_db.specs.Fitting.{IsRowIn, AllFit}
-use Rattle.law_db.specs.RowChanges.{AreOfTables}
-use Rattle.law_db.proofs.Fits.{outcome-AllFit}
-use Rattle.law_db.proofs.Applicable.{outcome-AreApplicable}
-use Rattle.law_stored_rows.specs.Storable.{IsStorable}
-use Rattle.law_stored_rows.specs.Fitting.{IsKeyFor, FitsTable, FitsTables, AreFitting}
-use Rattle.law_stored_rows.proofs.Declared.{declared-IsStorable}
-use Rattle.law_stored_rows.proofs.Rows.{rows_fit, rows_by_type}
-use Rattle.law_stored_rows.proofs.FittingValues.{row_fits, FitsTable-from_row}
+use Rattle.law_db.specs.{Fitting.IsRowIn, Fitting.AllFit, RowChanges.AreOfTables}
+use Rattle.law_db.proofs.{Fits.outcome-AllFit, Applicable.outcome-AreApplicable}
+use Rattle.law_stored_rows.specs.{Storable.IsStorable, Fitting.IsKeyFor, Fitting.FitsTable, Fitting.FitsTables, Fitting.AreFitting}
+use Rattle.law_stored_rows.proofs.{Declared.declared-IsStorable, Rows.rows_fit, Rows.rows_by_type, FittingValues.row_fits, FittingValues.FitsTable-from_row}
 
 -- what the laws on rows that are put don't say
 abbrev FitsElse : List Schema → Change → Type 0

@@ -5,9 +5,8 @@ use Rattle.std.proofs.lemmas.Bool.{ne_eqb, eq-eqb, cond-true, cond-false}
 use Rattle.std.specs.declared.cmp.Ordering.{Ordering}
 use Rattle.std.specs.declared.cmp.Ordering.TheVariants.{Less, Equal, Greater}
 use Rattle.entries.specs.Pairs.{Pair, key_cmp, AreRising, value_of}
-use Rattle.entries.proofs.Order.{same_key, key_itself}
-use Rattle.entries.proofs.Edits.{rising_with, rising_without}
-use Rattle.entries.proofs.Found.{value_put, others_stay, value_gone, others_stay_without}
+use Rattle.entries.proofs.{Order.same_key, Order.key_itself, Edits.rising_with, Edits.rising_without, Found.value_put, Found.others_stay, Found.value_gone}
+use Rattle.entries.proofs.{Found.others_stay_without}
 use Rattle.law_stored_rows.specs.Edits.{with_value, clustered_index, key_index, Puts}
 
 pub same_or_not : (a b : List ℕ) → (a ≡ b) ⊎ (a ≢ b)

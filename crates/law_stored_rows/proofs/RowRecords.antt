@@ -1,22 +1,17 @@
 -- What a record says of its row, and what a change of it makes of the rows of its table.
-use Rattle.std.proofs.Common.{slice_get, ◌≡◌, ◌≢◌, ◌∙◌, sym, ap, subst, refl, ℕ, Bool, true, false, List, [], ◌∷◌, Option, None, Some, ◌⊎◌, inl, inr, zero, suc}
-use Rattle.std.proofs.Common.{◌++◌}
+use Rattle.std.proofs.Common.{slice_get, ◌≡◌, ◌≢◌, ◌∙◌, sym, ap, subst, refl, ℕ, Bool, true, false, List, [], ◌∷◌, Option, None, Some, ◌⊎◌, inl, inr, zero}
+use Rattle.std.proofs.Common.{suc, ◌++◌}
 use Rattle.std.specs.Prelude.{is_some}
-use Rattle.inno_types.specs.declared.value.Value.{Value}
-use Rattle.inno_types.specs.declared.value.Schema.{Schema}
+use Rattle.inno_types.specs.{declared.value.Value.Value, declared.value.Schema.Schema}
 use Rattle.store_api.specs.declared.answers.Version.{Version as Coded}
 use Rattle.key_codec.specs.Keys.{HasKey, key_code}
 use Rattle.row_codec.proofs.Once.{same_version}
 use Rattle.entries.specs.Pairs.{Pair, value_of}
-use Rattle.row_versions.specs.declared.kept.Kept.{Kept}
-use Rattle.row_versions.specs.Versions.{kept_in}
-use Rattle.row_versions.specs.declared.version.Version.{Version}
-use Rattle.row_versions.specs.Chains.{older}
-use Rattle.law_stored_rows.specs.Edits.{with_value}
-use Rattle.law_stored_rows.specs.Entries.{is_same_value}
+use Rattle.row_versions.specs.{declared.kept.Kept.Kept, Versions.kept_in, declared.version.Version.Version, Chains.older}
+use Rattle.law_stored_rows.specs.{Edits.with_value, Entries.is_same_value}
 use Rattle.law_stored_rows.specs.Records.{shown, IsCodeOf, LeadTo, IsRecordWith, IsSomeKey, IsClustered, KeepsMore}
-use Rattle.law_stored_rows.proofs.Values.{same_value, apart_by_keys, one_key}
-use Rattle.law_stored_rows.proofs.Pairs.{same_or_not, rising_now, value_now, others_now}
+use Rattle.law_stored_rows.proofs.{Values.same_value, Values.apart_by_keys, Values.one_key, Pairs.same_or_not, Pairs.rising_now, Pairs.value_now}
+use Rattle.law_stored_rows.proofs.{Pairs.others_now}
 
 -- ---- more is kept
 

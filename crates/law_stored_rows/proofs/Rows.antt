@@ -10,12 +10,9 @@ use Rattle.std.proofs.lemmas.Cmp.{tied_itself}
 use Rattle.std.proofs.lemmas.Bool.Decides.{eqb_tells}
 use Rattle.std.proofs.lemmas.List.Elements.{All-from_recursion}
 use Rattle.std.proofs.lemmas.Option.{slice_get_within}
-use Rattle.inno_types.specs.declared.value.Value.{Value}
-use Rattle.inno_types.specs.declared.value.Schema.{Schema}
-use Rattle.inno_db.specs.Database.{Database, Place, place_cmp, rows_of}
-use Rattle.inno_db.specs.Order.{place_cmp_total}
-use Rattle.inno_db.proofs.Tables.{place_cmp-IsAntisymmetric}
-use Rattle.inno_db.proofs.Keys.{IsKeyed, AreAtTheirKeys, key_in-at}
+use Rattle.inno_types.specs.{declared.value.Value.Value, declared.value.Schema.Schema}
+use Rattle.inno_db.specs.{Database.Database, Database.Place, Database.place_cmp, Database.rows_of, Order.place_cmp_total}
+use Rattle.inno_db.proofs.{Tables.place_cmp-IsAntisymmetric, Keys.IsKeyed, Keys.AreAtTheirKeys, Keys.key_in-at}
 use Rattle.law_db.specs.Fitting.{AreRowsOf}
 use Rattle.law_stored_rows.specs.Fitting.{FitsTable, FitsAt, AreFitting}
 use Rattle.law_stored_rows.proofs.FittingValues.{fits_row}

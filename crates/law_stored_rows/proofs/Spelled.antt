@@ -6,9 +6,7 @@ use Rattle.std.proofs.lemmas.Bool.Decides.{nat_tests}
 use Rattle.std.proofs.lemmas.List.Elements.{All-nil, All-cons}
 use Rattle.inno_types.specs.declared.stmt.Literal.{Literal}
 use Rattle.inno_types.specs.declared.stmt.Literal.TheVariants as literal
-use Rattle.inno_types.specs.declared.stmt.Expr.{Expr}
-use Rattle.inno_types.specs.declared.stmt.Set.{Set}
-use Rattle.inno_types.specs.declared.stmt.Stmt.{Stmt}
+use Rattle.inno_types.specs.{declared.stmt.Expr.Expr, declared.stmt.Set.Set, declared.stmt.Stmt.Stmt}
 use Rattle.sql_grammar.specs.declared.token.Token.{Token}
 use Rattle.sql_grammar.specs.Grammar.{number_of, plain_number, negative_number, Lit, Commas, Tuple, Strength, Expression, Assignment, Statement, Spells}
 use Rattle.sql_grammar.specs.Grammar as grammar

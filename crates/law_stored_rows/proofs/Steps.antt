@@ -1,26 +1,20 @@
 -- The steps of a change and of a taking back: what each makes of the rows, and of what its key says of the place.
 use Rattle.std.proofs.Common.{◌≡◌, ◌≢◌, ◌∙◌, sym, ap, subst, ℕ, Bool, true, false, cond, List, [], ◌∷◌, Option, None, Some, slice_get}
 use Rattle.std.specs.List.{list_any}
-use Rattle.inno_types.specs.declared.value.Value.{Value}
-use Rattle.inno_types.specs.declared.value.Schema.{Schema}
+use Rattle.inno_types.specs.{declared.value.Value.Value, declared.value.Schema.Schema}
 use Rattle.inno_db.specs.Database.{key_of}
 use Rattle.store_api.specs.declared.answers.Version.{Version as Coded}
 use Rattle.key_codec.specs.Keys.{entry_code}
 use Rattle.entries.specs.Pairs.{Pair, value_of}
-use Rattle.row_versions.specs.declared.kept.Kept.{Kept}
-use Rattle.row_versions.specs.declared.place.Place.{Place}
-use Rattle.row_versions.specs.declared.version.Version.{Version}
+use Rattle.row_versions.specs.{declared.kept.Kept.Kept, declared.place.Place.Place, declared.version.Version.Version}
 use Rattle.row_versions.specs.Chains.{Chains, versions_at, newest, older, Pushes, Pops}
-use Rattle.law_stored_rows.specs.Edits.{clustered_index, key_index, Puts}
-use Rattle.law_stored_rows.specs.Entries.{value_in, has_value, entry_of, TellAlikeBut}
+use Rattle.law_stored_rows.specs.{Edits.clustered_index, Edits.key_index, Edits.Puts, Entries.value_in, Entries.has_value, Entries.entry_of}
+use Rattle.law_stored_rows.specs.{Entries.TellAlikeBut, Steps.PutsRecord, Steps.PutsEntry, Tables.place_in, Tables.Said, Tables.AreCodedAs, Tables.SaysNow}
 use Rattle.law_stored_rows.specs.Records.{row_shown, shown, IsCodeOf, IsRecordWith, LeadTo}
-use Rattle.law_stored_rows.specs.Steps.{PutsRecord, PutsEntry}
-use Rattle.law_stored_rows.specs.Tables.{place_in, Said, AreCodedAs, SaysNow}
-use Rattle.law_stored_rows.proofs.Values.{value_itself}
+use Rattle.law_stored_rows.proofs.{Values.value_itself, Keys.entry_changed}
 use Rattle.law_stored_rows.proofs.RowRecords.{first_record, next_record, record_read, record_back, nothing_back}
 use Rattle.law_stored_rows.proofs.Entries.{marked, is_marked, put, is_put, taken, is_taken, unmarked, is_unmarked}
 use Rattle.law_stored_rows.proofs.Tables.{pushed_here, pushed_elsewhere, popped_here, popped_elsewhere, record_changed}
-use Rattle.law_stored_rows.proofs.Keys.{entry_changed}
 
 -- ---- records
 

@@ -5,20 +5,16 @@ use Rattle.std.specs.Prelude.{slice_get, slice_set, slice_index_or, FitsSigned, 
 use Rattle.std.specs.Int.{w64}
 use Rattle.std.proofs.lemmas.Bool.Decides.{nat_tests}
 use Rattle.std.proofs.lemmas.List.Elements.{All-nil, All-cons, All-head, All-tail, All-set}
-use Rattle.inno_types.specs.declared.value.Value.{Value}
-use Rattle.inno_types.specs.declared.value.Value.TheVariants.{Null, Int, Text}
-use Rattle.inno_types.specs.declared.value.Column.{Column}
-use Rattle.inno_types.specs.declared.value.Schema.{Schema}
-use Rattle.inno_types.specs.declared.stmt.Literal.{Literal}
+use Rattle.inno_types.specs.{declared.value.Value.Value, declared.value.Value.TheVariants.Null, declared.value.Value.TheVariants.Int}
+use Rattle.inno_types.specs.{declared.value.Value.TheVariants.Text, declared.value.Column.Column, declared.value.Schema.Schema, declared.stmt.Literal.Literal}
 use Rattle.inno_types.specs.declared.stmt.Literal.TheVariants as literal
 use Rattle.inno_types.specs.declared.stmt.Expr.{Expr}
 use Rattle.inno_types.specs.declared.stmt.Expr.TheVariants as expr
-use Rattle.inno_types.specs.declared.stmt.Set.{Set}
-use Rattle.inno_types.specs.declared.reply.SqlError.TheVariants.{OutOfRange}
-use Rattle.inno_db.specs.Database.{key_of}
-use Rattle.inno_db.specs.Names.{column_place, value_at}
+use Rattle.inno_types.specs.{declared.stmt.Set.Set, declared.reply.SqlError.TheVariants.OutOfRange}
+use Rattle.inno_db.specs.{Database.key_of, Names.column_place, Names.value_at}
 use Rattle.inno_db.specs.Expressions.{Valued, and_then, on_two, negated, in_range, is_bigint, both, literal_given, expr_value}
-use Rattle.inno_db.specs.Storing.{misfit, unless_refused, stored, place_in_tuple, literal_at, values_from, put_in, put_at, assigned, all_assigned, row_of_tuple}
+use Rattle.inno_db.specs.Storing.{misfit, unless_refused, stored, place_in_tuple, literal_at, values_from, put_in, put_at, assigned, all_assigned}
+use Rattle.inno_db.specs.Storing.{row_of_tuple}
 use Rattle.key_codec.specs.Keys.{Has64Bits}
 use Rattle.law_db.proofs.Values.{ok_same, never, and_then-ok}
 use Rattle.law_stored_rows.specs.Numbers.{LiteralHas64Bits, ExprHas64Bits}

@@ -3,24 +3,17 @@ use Rattle.std.proofs.Common.{◌≡◌, ◌≢◌, ◌∙◌, sym, ap, subst, r
 use Rattle.std.proofs.Common.{arith}
 use Rattle.std.proofs.lemmas.Bool.{cases_eq, cond-true, cond-false}
 use Rattle.std.proofs.lemmas.Option.{slice_get_within}
-use Rattle.inno_types.specs.declared.value.Value.{Value}
-use Rattle.inno_types.specs.declared.value.Key.{Key}
-use Rattle.inno_types.specs.declared.value.Schema.{Schema}
+use Rattle.inno_types.specs.{declared.value.Value.Value, declared.value.Key.Key, declared.value.Schema.Schema}
 use Rattle.inno_db.specs.Database.{key_of}
 use Rattle.store_api.specs.declared.answers.Version.{Version as Coded}
 use Rattle.entries.specs.Pairs.{Pair, value_of}
-use Rattle.row_versions.specs.declared.kept.Kept.{Kept}
-use Rattle.row_versions.specs.declared.place.Place.{Place}
-use Rattle.row_versions.specs.declared.version.Version.{Version}
+use Rattle.row_versions.specs.{declared.kept.Kept.Kept, declared.place.Place.Place, declared.version.Version.Version}
 use Rattle.row_versions.specs.Chains.{Chains, versions_at, is_same_place, older, Pushes, Pops}
-use Rattle.law_stored_rows.specs.Edits.{with_value, clustered_index, key_index, Puts}
-use Rattle.law_stored_rows.specs.Entries.{is_same_value, entry_of, HasEntries}
-use Rattle.law_stored_rows.specs.Records.{IsCodeOf, IsRecordWith, IsClustered, KeepsMore}
+use Rattle.law_stored_rows.specs.{Edits.with_value, Edits.clustered_index, Edits.key_index, Edits.Puts, Entries.is_same_value, Entries.entry_of}
+use Rattle.law_stored_rows.specs.{Entries.HasEntries, Records.IsCodeOf, Records.IsRecordWith, Records.IsClustered, Records.KeepsMore}
 use Rattle.law_stored_rows.specs.Tables.{place_in, in_table, Said, AreClustered, AreKeyed, AreCodedAs, LagAt}
-use Rattle.law_stored_rows.proofs.Values.{in_one_table, in_other_table, place_itself, key_there}
-use Rattle.law_stored_rows.proofs.Pairs.{at_index, at_others, other_rows, no_key}
-use Rattle.law_stored_rows.proofs.RowRecords.{clustered_after, clustered_still}
-use Rattle.law_stored_rows.proofs.Entries.{entries_alike}
+use Rattle.law_stored_rows.proofs.{Values.in_one_table, Values.in_other_table, Values.place_itself, Values.key_there, Pairs.at_index, Pairs.at_others}
+use Rattle.law_stored_rows.proofs.{Pairs.other_rows, Pairs.no_key, RowRecords.clustered_after, RowRecords.clustered_still, Entries.entries_alike}
 
 abbrev pub at : ℕ → Value → Place
 at table value = record { table = table; key = value }

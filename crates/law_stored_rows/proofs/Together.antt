@@ -3,26 +3,18 @@ use Rattle.std.proofs.Common.{◌≡◌, ◌≢◌, ◌∙◌, sym, ap, subst, r
 use Rattle.std.specs.Prelude.{◌==◌, ◌&&◌}
 use Rattle.std.specs.List.{list_any}
 use Rattle.std.proofs.lemmas.Option.{slice_get_within}
-use Rattle.inno_types.specs.declared.value.Key.{Key}
-use Rattle.inno_types.specs.declared.value.Schema.{Schema}
+use Rattle.inno_types.specs.{declared.value.Key.Key, declared.value.Schema.Schema}
 use Rattle.store_api.specs.declared.answers.Version.{Version as Coded}
 use Rattle.entries.specs.Pairs.{Pair, value_of}
-use Rattle.row_versions.specs.declared.kept.Kept.{Kept}
-use Rattle.row_versions.specs.declared.place.Place.{Place}
-use Rattle.row_versions.specs.declared.version.Version.{Version}
+use Rattle.row_versions.specs.{declared.kept.Kept.Kept, declared.place.Place.Place, declared.version.Version.Version}
 use Rattle.row_versions.specs.Chains.{Chains, versions_at, is_same_place, newest, older, Pushes, Pops}
-use Rattle.law_stored_rows.specs.Edits.{clustered_index, key_index}
-use Rattle.law_stored_rows.specs.Entries.{value_in, has_value, entry_of, TellAlike}
-use Rattle.law_stored_rows.specs.Records.{row_shown, shown, IsCodeOf, LeadTo}
-use Rattle.law_stored_rows.specs.Steps.{PutsRecord, PutsEntry}
+use Rattle.law_stored_rows.specs.{Edits.clustered_index, Edits.key_index, Entries.value_in, Entries.has_value, Entries.entry_of, Entries.TellAlike}
+use Rattle.law_stored_rows.specs.{Records.row_shown, Records.shown, Records.IsCodeOf, Records.LeadTo, Steps.PutsRecord, Steps.PutsEntry}
 use Rattle.law_stored_rows.specs.Tables.{place_in, Said, AreCodedAs, AreCoded, what_is_there, LagAt}
-use Rattle.law_stored_rows.proofs.Values.{one_place}
+use Rattle.law_stored_rows.proofs.{Values.one_place, Keys.now_says, Keys.lag_says, Keys.change_over, RowRecords.pointer_followed, Pairs.at_others}
+use Rattle.law_stored_rows.proofs.{Pairs.no_key, FromTables.decoded}
 use Rattle.law_stored_rows.proofs.Tables.{at, lag_stays, pushed_here, pushed_elsewhere, popped_here, popped_elsewhere}
-use Rattle.law_stored_rows.proofs.Keys.{now_says, lag_says, change_over}
 use Rattle.law_stored_rows.proofs.Steps.{replaced_record, record_taken_back, old_marked, new_put, new_taken, old_unmarked}
-use Rattle.law_stored_rows.proofs.RowRecords.{pointer_followed}
-use Rattle.law_stored_rows.proofs.Pairs.{at_others, no_key}
-use Rattle.law_stored_rows.proofs.FromTables.{decoded}
 
 -- what is said once one key says something else of one place
 abbrev says_of : Said → Place → ℕ → List Version → Said

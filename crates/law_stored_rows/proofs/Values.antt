@@ -10,20 +10,16 @@ use Rattle.std.specs.declared.cmp.Ordering.TheVariants.{Less, Equal, Greater}
 use Rattle.std.specs.Cmp.{IsTotalOrder, nat_cmp_total, int_cmp_total, on_total, then_total, tied_itself}
 use Rattle.std.specs.Cmp.Lexicographic.{nat_list_cmp_total}
 use Rattle.std.specs.FinMap.{IsAntisymmetric, nat_cmp-IsAntisymmetric, int_cmp-IsAntisymmetric, slice_cmp-IsAntisymmetric}
-use Rattle.inno_types.specs.declared.value.Kind.{Kind}
-use Rattle.inno_types.specs.declared.value.Value.{Value}
-use Rattle.inno_types.specs.declared.value.Value.TheVariants.{Null, Int, Text}
-use Rattle.inno_types.specs.declared.value.Column.{Column}
-use Rattle.inno_types.specs.declared.value.Schema.{Schema}
+use Rattle.inno_types.specs.{declared.value.Kind.Kind, declared.value.Value.Value, declared.value.Value.TheVariants.Null}
+use Rattle.inno_types.specs.{declared.value.Value.TheVariants.Int, declared.value.Value.TheVariants.Text, declared.value.Column.Column}
+use Rattle.inno_types.specs.{declared.value.Schema.Schema}
 use Rattle.inno_db.specs.Database.{value_cmp, rank_of, number_of, text_of, key_of}
 use Rattle.store_api.specs.declared.answers.Version.{Version as Coded}
 use Rattle.key_codec.specs.Keys.{HasKey, HasEntry, IsOfKindOrNull, Has64Bits, key_code}
 use Rattle.key_codec.proofs.Once as once
 use Rattle.row_codec.specs.Rows.{FitsColumn, IsRowOf}
-use Rattle.row_versions.specs.declared.place.Place.{Place}
-use Rattle.row_versions.specs.Chains.{is_same_place}
-use Rattle.law_stored_rows.specs.Entries.{is_same_value, value_in}
-use Rattle.law_stored_rows.specs.Records.{IsCodeOf}
+use Rattle.row_versions.specs.{declared.place.Place.Place, Chains.is_same_place}
+use Rattle.law_stored_rows.specs.{Entries.is_same_value, Entries.value_in, Records.IsCodeOf}
 
 -- ---- values
 

@@ -2,17 +2,13 @@
 use Rattle.std.specs.Prelude.{◌≡◌, ℕ, Bool, true, false, not, if◌then◌else◌, List, [], ◌∷◌, Option, None, Some, slice_get, slice_index_or, is_some}
 use Rattle.std.specs.List.{list_any}
 use Rattle.std.specs.Ordering.{is_eq}
-use Rattle.inno_types.specs.declared.value.Value.{Value}
-use Rattle.inno_types.specs.declared.value.Value.TheVariants.{Null}
-use Rattle.inno_types.specs.declared.value.Column.{Column}
-use Rattle.inno_types.specs.declared.value.Kind.{Kind}
-use Rattle.inno_types.specs.declared.value.Schema.{Schema}
+use Rattle.inno_types.specs.{declared.value.Value.Value, declared.value.Value.TheVariants.Null, declared.value.Column.Column, declared.value.Kind.Kind}
+use Rattle.inno_types.specs.{declared.value.Schema.Schema}
 use Rattle.inno_db.specs.Database.{value_cmp}
 use Rattle.key_codec.specs.Keys.{HasKey, HasEntry, key_code, entry_code}
 use Rattle.row_codec.specs.Rows.{mark_code}
 use Rattle.entries.specs.Pairs.{Pair, AreRising, value_of}
-use Rattle.row_versions.specs.declared.version.Version.{Version}
-use Rattle.row_versions.specs.Chains.{newest}
+use Rattle.row_versions.specs.{declared.version.Version.Version, Chains.newest}
 
 abbrev pub is_same_value : Value → Value → Bool
 is_same_value value other = is_eq (value_cmp value other)

@@ -1,16 +1,12 @@
 -- A database with one row: CREATE TABLE t (id BIGINT, a VARBINARY(32), PRIMARY KEY (id), KEY (a)), and a row put into t.
 use Rattle.std.specs.Prelude.{ℕ, List, [], ◌∷◌, Some, None, pos, codes, true, false}
 use Rattle.std.specs.FinMap.{from_entries}
-use Rattle.inno_types.specs.declared.value.Kind.TheVariants.{BigInt, VarBinary}
-use Rattle.inno_types.specs.declared.value.Schema.{Schema}
-use Rattle.inno_types.specs.declared.value.Value.{Value}
-use Rattle.inno_types.specs.declared.value.Value.TheVariants.{Int, Null}
+use Rattle.inno_types.specs.{declared.value.Kind.TheVariants.BigInt, declared.value.Kind.TheVariants.VarBinary, declared.value.Schema.Schema}
+use Rattle.inno_types.specs.{declared.value.Value.Value, declared.value.Value.TheVariants.Int, declared.value.Value.TheVariants.Null}
 use Rattle.inno_types.specs.declared.stmt.DeclaredKind.TheVariants as declared
 use Rattle.inno_types.specs.declared.stmt.Definition.{Definition}
 use Rattle.inno_types.specs.declared.stmt.Definition.TheVariants as definition
-use Rattle.inno_db.specs.declared.change.Change.TheVariants.{Put}
-use Rattle.inno_db.specs.Changes.{apply_one}
-use Rattle.inno_db.specs.Database.{Database}
+use Rattle.inno_db.specs.{declared.change.Change.TheVariants.Put, Changes.apply_one, Database.Database}
 
 abbrev pub table_name : List ℕ
 table_name = codes "t"

@@ -1,12 +1,9 @@
 -- Rows, changes and databases that fit their tables, so that they can be coded.
 use Rattle.std.specs.Prelude.{◌≡◌, List, ◌++◌, Some, IsSomeAnd, slice_get}
 use Rattle.std.specs.FinMap.{get}
-use Rattle.inno_types.specs.declared.value.Value.{Value}
-use Rattle.inno_types.specs.declared.value.Column.{Column}
-use Rattle.inno_types.specs.declared.value.Schema.{Schema}
-use Rattle.inno_db.specs.declared.change.Change.{Change}
-use Rattle.inno_db.specs.declared.change.Change.TheVariants.{Create, Put, Remove}
-use Rattle.inno_db.specs.Database.{Database, Place, key_of}
+use Rattle.inno_types.specs.{declared.value.Value.Value, declared.value.Column.Column, declared.value.Schema.Schema}
+use Rattle.inno_db.specs.{declared.change.Change.Change, declared.change.Change.TheVariants.Create, declared.change.Change.TheVariants.Put}
+use Rattle.inno_db.specs.{declared.change.Change.TheVariants.Remove, Database.Database, Database.Place, Database.key_of}
 use Rattle.key_codec.specs.Keys.{IsOfKind}
 use Rattle.row_codec.specs.Rows.{IsRowOf}
 use Rattle.law_stored_rows.specs.Storable.{IsStorable, AreStorable}

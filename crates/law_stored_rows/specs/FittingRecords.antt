@@ -1,10 +1,7 @@
 -- What an index keeps of a row besides its clustered record.
 use Rattle.std.specs.Prelude.{◌≡◌, ℕ, List, Some, slice_get, slice_index_or}
-use Rattle.inno_types.specs.declared.value.Value.{Value}
-use Rattle.inno_types.specs.declared.value.Value.TheVariants.{Null}
-use Rattle.inno_types.specs.declared.value.Column.{Column}
-use Rattle.inno_types.specs.declared.value.Key.{Key}
-use Rattle.inno_types.specs.declared.value.Schema.{Schema}
+use Rattle.inno_types.specs.{declared.value.Value.Value, declared.value.Value.TheVariants.Null, declared.value.Column.Column, declared.value.Key.Key}
+use Rattle.inno_types.specs.{declared.value.Schema.Schema}
 use Rattle.key_codec.specs.Keys.{IsOfKindOrNull, entry_code}
 use Rattle.row_codec.specs.Rows.{IsKeyOf}
 

@@ -2,16 +2,13 @@
 use Rattle.std.specs.Prelude.{◌≡◌, List, All, Some, FitsSigned}
 use Rattle.std.specs.Int.{w64}
 use Rattle.std.specs.FinMap.{get}
-use Rattle.inno_types.specs.declared.value.Value.{Value}
-use Rattle.inno_types.specs.declared.stmt.Literal.{Literal}
+use Rattle.inno_types.specs.{declared.value.Value.Value, declared.stmt.Literal.Literal}
 use Rattle.inno_types.specs.declared.stmt.Literal.TheVariants as literal
 use Rattle.inno_types.specs.declared.stmt.Expr.{Expr}
 use Rattle.inno_types.specs.declared.stmt.Expr.TheVariants as expr
-use Rattle.inno_types.specs.declared.stmt.Stmt.{Stmt}
-use Rattle.inno_types.specs.declared.stmt.Stmt.TheVariants.{Insert, Update}
-use Rattle.inno_db.specs.declared.change.Change.{Change}
-use Rattle.inno_db.specs.declared.change.Change.TheVariants.{Create, Put, Remove}
-use Rattle.inno_db.specs.Database.{Database, Place}
+use Rattle.inno_types.specs.{declared.stmt.Stmt.Stmt, declared.stmt.Stmt.TheVariants.Insert, declared.stmt.Stmt.TheVariants.Update}
+use Rattle.inno_db.specs.{declared.change.Change.Change, declared.change.Change.TheVariants.Create, declared.change.Change.TheVariants.Put}
+use Rattle.inno_db.specs.{declared.change.Change.TheVariants.Remove, Database.Database, Database.Place}
 use Rattle.key_codec.specs.Keys.{Has64Bits}
 
 abbrev pub LiteralHas64Bits : Literal → Type 0

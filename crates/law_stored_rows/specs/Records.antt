@@ -1,16 +1,12 @@
 -- What a clustered record says of its row: the newest version, and by roll pointers those before it.
 use Rattle.std.specs.Prelude.{◌≡◌, ◌≢◌, ℕ, Bool, true, false, List, [], ◌∷◌, Option, None, Some, slice_get, is_some, All}
-use Rattle.inno_types.specs.declared.value.Value.{Value}
-use Rattle.inno_types.specs.declared.value.Column.{Column}
-use Rattle.inno_types.specs.declared.value.Kind.{Kind}
-use Rattle.inno_types.specs.declared.value.Schema.{Schema}
+use Rattle.inno_types.specs.{declared.value.Value.Value, declared.value.Column.Column, declared.value.Kind.Kind, declared.value.Schema.Schema}
 use Rattle.store_api.specs.declared.answers.Version.{Version as Coded}
 use Rattle.inno_db.specs.Database.{key_of}
 use Rattle.key_codec.specs.Keys.{HasKey, Has64Bits, key_code}
 use Rattle.row_codec.specs.Rows.{IsRowOf, IsRecordOf, IsVersion}
 use Rattle.entries.specs.Pairs.{Pair, AreRising, value_of}
-use Rattle.row_versions.specs.declared.kept.Kept.{Kept}
-use Rattle.row_versions.specs.declared.version.Version.{Version}
+use Rattle.row_versions.specs.{declared.kept.Kept.Kept, declared.version.Version.Version}
 
 -- A marked version is a row that was deleted: readers find no row there.
 abbrev pub row_shown : Bool → List Value → Option (List Value)

@@ -1,14 +1,10 @@
 -- One step of a change: a record or an entry is put, replaced or removed.
 use Rattle.std.specs.Prelude.{◌≡◌, ℕ, List, Option, Some, slice_get}
-use Rattle.inno_types.specs.declared.value.Column.{Column}
-use Rattle.inno_types.specs.declared.value.Key.{Key}
-use Rattle.inno_types.specs.declared.value.Schema.{Schema}
+use Rattle.inno_types.specs.{declared.value.Column.Column, declared.value.Key.Key, declared.value.Schema.Schema}
 use Rattle.store_api.specs.declared.answers.Version.{Version as Coded}
 use Rattle.key_codec.specs.Keys.{entry_code}
 use Rattle.entries.specs.Pairs.{Pair}
-use Rattle.law_stored_rows.specs.Edits.{clustered_index, key_index, Puts}
-use Rattle.law_stored_rows.specs.Entries.{value_in}
-use Rattle.law_stored_rows.specs.Records.{IsCodeOf}
+use Rattle.law_stored_rows.specs.{Edits.clustered_index, Edits.key_index, Edits.Puts, Entries.value_in, Records.IsCodeOf}
 
 -- At the key of this version, which these bytes are the record of, the table has this now.
 pub record PutsRecord (schemas : List Schema) (old new : ℕ → List Pair) (table : ℕ) (schema : Schema) (key bytes : List ℕ) (coded : Coded)

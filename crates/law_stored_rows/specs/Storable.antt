@@ -1,10 +1,7 @@
 -- Which tables can be stored: each row has a key, and what an index is given is not too long for it. An index takes keys
 -- of at most 67 bytes and values of at most 1,024.
 use Rattle.std.specs.Prelude.{◌≡◌, ◌≤◌, ℕ, ◌+◌, true, List, All, Some, length, remove, slice_get, sum_by}
-use Rattle.inno_types.specs.declared.value.Kind.{Kind}
-use Rattle.inno_types.specs.declared.value.Column.{Column}
-use Rattle.inno_types.specs.declared.value.Key.{Key}
-use Rattle.inno_types.specs.declared.value.Schema.{Schema}
+use Rattle.inno_types.specs.{declared.value.Kind.Kind, declared.value.Column.Column, declared.value.Key.Key, declared.value.Schema.Schema}
 use Rattle.inno_db.specs.declared.limits.TheConstants.{MOST_KEYS}
 use Rattle.key_codec.specs.Keys.{key_width}
 

@@ -1,19 +1,12 @@
 -- When indexes and kept versions are the rows of all tables, and what keys say of rows while changes are under way.
 use Rattle.std.specs.Prelude.{◌≡◌, ℕ, ◌<◌, ◌≤◌, ◌==◌, ◌&&◌, true, false, if◌then◌else◌, List, [], length, Option, None, Some, slice_get}
 use Rattle.std.specs.List.{list_any}
-use Rattle.inno_types.specs.declared.value.Value.{Value}
-use Rattle.inno_types.specs.declared.value.Column.{Column}
-use Rattle.inno_types.specs.declared.value.Key.{Key}
-use Rattle.inno_types.specs.declared.value.Schema.{Schema}
+use Rattle.inno_types.specs.{declared.value.Value.Value, declared.value.Column.Column, declared.value.Key.Key, declared.value.Schema.Schema}
 use Rattle.inno_db.specs.Database.{key_of}
 use Rattle.entries.specs.Pairs.{Pair}
-use Rattle.row_versions.specs.declared.kept.Kept.{Kept}
-use Rattle.row_versions.specs.declared.place.Place.{Place}
-use Rattle.row_versions.specs.declared.version.Version.{Version}
-use Rattle.row_versions.specs.Chains.{Chains, versions_at, is_same_place, older}
-use Rattle.law_stored_rows.specs.Edits.{clustered_index, key_index}
-use Rattle.law_stored_rows.specs.Entries.{HasEntries, has_value}
-use Rattle.law_stored_rows.specs.Records.{IsClustered}
+use Rattle.row_versions.specs.{declared.kept.Kept.Kept, declared.place.Place.Place, declared.version.Version.Version, Chains.Chains, Chains.versions_at}
+use Rattle.row_versions.specs.{Chains.is_same_place, Chains.older}
+use Rattle.law_stored_rows.specs.{Edits.clustered_index, Edits.key_index, Entries.HasEntries, Entries.has_value, Records.IsClustered}
 
 -- the place of a row in a table
 abbrev pub place_in : ℕ → Schema → List Value → Place

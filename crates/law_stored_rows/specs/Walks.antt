@@ -2,17 +2,12 @@
 use Rattle.std.specs.Prelude.{List, ◌≡◌, ℕ, Bool, true, [], Option, Some}
 use Rattle.std.specs.Ordering.{is_le}
 use Rattle.std.specs.declared.cmp.Ordering.TheVariants.{Less}
-use Rattle.inno_types.specs.declared.value.Kind.{Kind}
-use Rattle.inno_types.specs.declared.value.Value.{Value}
-use Rattle.inno_types.specs.declared.value.Schema.{Schema}
+use Rattle.inno_types.specs.{declared.value.Kind.Kind, declared.value.Value.Value, declared.value.Schema.Schema}
 use Rattle.inno_db.specs.Database.{value_cmp}
 use Rattle.key_codec.specs.Keys.{HasKey, key_code}
 use Rattle.entries.specs.Pairs.{Pair, key_cmp}
-use Rattle.row_versions.specs.declared.kept.Kept.{Kept}
-use Rattle.row_versions.specs.declared.place.Place.{Place}
-use Rattle.row_versions.specs.Chains.{Chains}
-use Rattle.law_stored_rows.specs.Records.{IsRecordWith}
-use Rattle.law_stored_rows.specs.Tables.{in_table}
+use Rattle.row_versions.specs.{declared.kept.Kept.Kept, declared.place.Place.Place, Chains.Chains}
+use Rattle.law_stored_rows.specs.{Records.IsRecordWith, Tables.in_table}
 
 -- The pair is the record of a place that has versions, and this holds of the place.
 pub record IsRecordOfA (P : Place → Type 0) (table : ℕ) (schema : Schema) (kind : Kind) (kept : ℕ → Option Kept) (chains : Chains) (pair : Pair) : Type 0 where

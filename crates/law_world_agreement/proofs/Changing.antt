@@ -7,26 +7,18 @@ use Rattle.std.proofs.lemmas.Bool.Decides.{nat_tests, eqb_tells}
 use Rattle.std.proofs.lemmas.List.{get_or-set_same, get_or-set_other, length-set}
 use Rattle.std.proofs.lemmas.Option.{slice_get_within}
 use Rattle.inno_types.specs.declared.value.Schema.{Schema}
-use Rattle.inno_db.specs.declared.change.Change.{Change}
-use Rattle.inno_db.specs.declared.change.Change.TheVariants.{Create}
-use Rattle.inno_model.specs.declared.event.Event.{Event}
-use Rattle.inno_model.specs.declared.event.Event.TheVariants.{Changed}
-use Rattle.inno_model.specs.Past.{own}
-use Rattle.row_versions.specs.declared.place.Place.{Place}
-use Rattle.row_versions.specs.Chains.{Chains, Pushes}
+use Rattle.inno_db.specs.{declared.change.Change.Change, declared.change.Change.TheVariants.Create}
+use Rattle.inno_model.specs.{declared.event.Event.Event, declared.event.Event.TheVariants.Changed, Past.own}
+use Rattle.row_versions.specs.{declared.place.Place.Place, Chains.Chains, Chains.Pushes}
 use Rattle.txn_table.specs.Txns.{Txns, with_id as with_txn_id}
 use Rattle.law_past_agreement.specs.Slots.{Slot, fresh, id_of_work, txn_of_work, with_place, with_id, set_work, GivesId, id_for}
 use Rattle.law_past_agreement.specs.Slots as slots
-use Rattle.law_past_agreement.specs.Rows.{place_in, row_of}
-use Rattle.law_past_agreement.specs.Order.{created, IsOfRow, IsTabled}
-use Rattle.law_past_agreement.specs.Agreement.{IsAgreed, owed_by_all}
+use Rattle.law_past_agreement.specs.{Rows.place_in, Rows.row_of, Order.created, Order.IsOfRow, Order.IsTabled, Agreement.IsAgreed, Agreement.owed_by_all}
 use Rattle.law_past_agreement.proofs.Agree.{agreed_changed, agreed_created}
 use Rattle.world.specs.State.{WorldState, Session, Work, IsSession, HasWork}
-use Rattle.law_world_agreement.specs.Agreement.{sight_of, work_at, slots_from, Agrees}
-use Rattle.law_world_agreement.specs.Steps.{HasOneMore, IsChangedBy}
-use Rattle.law_world_agreement.proofs.Settled.{slot_if, slot_at, slots_count, settled}
-use Rattle.law_world_agreement.proofs.Opening.{joined_of, own_counts, mine_tells}
-use Rattle.law_world_agreement.proofs.Ending.{work_of, slot_work}
+use Rattle.law_world_agreement.specs.{Agreement.sight_of, Agreement.work_at, Agreement.slots_from, Agreement.Agrees, Steps.HasOneMore, Steps.IsChangedBy}
+use Rattle.law_world_agreement.proofs.{Settled.slot_if, Settled.slot_at, Settled.slots_count, Settled.settled, Opening.joined_of, Opening.own_counts}
+use Rattle.law_world_agreement.proofs.{Opening.mine_tells, Ending.work_of, Ending.slot_work}
 
 -- the slots behind a change: the session's transaction has its id, and one place more
 abbrev pub once_of : ℕ → Option Place → List Slot → List Slot

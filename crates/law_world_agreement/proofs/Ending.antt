@@ -3,18 +3,15 @@ use Rattle.std.proofs.Common.{◌≡◌, ◌≢◌, ℕ, ◌+◌, ◌-◌, ◌<�
 use Rattle.std.specs.Prelude.{slice_get, option_map, is_some}
 use Rattle.std.proofs.lemmas.List.{length-set}
 use Rattle.std.proofs.lemmas.Option.{slice_get_within}
-use Rattle.inno_model.specs.declared.event.Event.TheVariants.{Committed, RolledBack}
-use Rattle.inno_model.specs.Past.{own}
+use Rattle.inno_model.specs.{declared.event.Event.TheVariants.Committed, declared.event.Event.TheVariants.RolledBack, Past.own}
 use Rattle.row_versions.specs.Chains.{Chains}
 use Rattle.sql_history.specs.Settings.{at_end}
 use Rattle.entries.specs.Index.{Paged}
 use Rattle.law_past_agreement.specs.Slots.{Slot, fresh, txn_of_work, places_of_work, writer_without}
-use Rattle.law_past_agreement.specs.Rows.{place_in}
-use Rattle.law_past_agreement.specs.Agreement.{IsWorkOf, WorkAgrees, owed_by_all}
-use Rattle.law_past_agreement.proofs.Ids.{ids_of}
-use Rattle.law_past_agreement.proofs.Agree.{agreed_committed, agreed_rolled_back}
-use Rattle.world.specs.State.{WorldState, Session, Work, HasWork}
-use Rattle.world.specs.Endings.{committed, rolled_back, IsCommitted, IsRolledBack}
+use Rattle.law_past_agreement.specs.{Rows.place_in, Agreement.IsWorkOf, Agreement.WorkAgrees, Agreement.owed_by_all}
+use Rattle.law_past_agreement.proofs.{Ids.ids_of, Agree.agreed_committed, Agree.agreed_rolled_back}
+use Rattle.world.specs.{State.WorldState, State.Session, State.Work, State.HasWork, Endings.committed, Endings.rolled_back, Endings.IsCommitted}
+use Rattle.world.specs.{Endings.IsRolledBack}
 use Rattle.law_world_agreement.specs.Agreement.{work_at, slots_from, Agrees}
 use Rattle.law_world_agreement.proofs.Settled.{slot_if, slot_at, one_settled}
 use Rattle.law_world_agreement.proofs.Opening.{set_here, set_other, agrees_of, joined_of, own_counts, mine_tells}

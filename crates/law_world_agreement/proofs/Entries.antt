@@ -5,29 +5,20 @@ use Rattle.std.specs.Prelude.{slice_get, option_map, is_some}
 use Rattle.std.proofs.lemmas.Bool.{cases_eq}
 use Rattle.std.proofs.lemmas.List.{get_or-set_same, get_or-set_other}
 use Rattle.std.proofs.lemmas.Option.{slice_get_cases}
-use Rattle.inno_types.specs.declared.value.Schema.{Schema}
-use Rattle.inno_types.specs.declared.reply.Item.{Item}
-use Rattle.inno_types.specs.declared.reply.Reply.{Reply}
+use Rattle.inno_types.specs.{declared.value.Schema.Schema, declared.reply.Item.Item, declared.reply.Reply.Reply}
 use Rattle.inno_db.specs.declared.change.Change.{Change}
-use Rattle.inno_model.specs.declared.event.Event.{Event}
+use Rattle.inno_model.specs.{declared.event.Event.Event, Past.own, Past.started, Past.under_way}
 use Rattle.inno_model.specs.declared.event.Event.TheVariants.{Started, Ended, Acked, Undone, Signal}
-use Rattle.inno_model.specs.Past.{own, started, under_way}
-use Rattle.row_versions.specs.declared.place.Place.{Place}
-use Rattle.row_versions.specs.Chains.{Chains, Pops}
+use Rattle.row_versions.specs.{declared.place.Place.Place, Chains.Chains, Chains.Pops}
 use Rattle.txn_table.specs.Txns.{Txns}
 use Rattle.law_past_agreement.specs.Slots.{Slot, fresh, first, but_first, places_of_work, without_place}
-use Rattle.law_past_agreement.specs.Rows.{place_in}
-use Rattle.law_past_agreement.specs.Order.{IsOfRow, IsUndoable, MayCome}
-use Rattle.law_past_agreement.specs.Agreement.{IsAgreed, owed_by_all}
+use Rattle.law_past_agreement.specs.{Rows.place_in, Order.IsOfRow, Order.IsUndoable, Order.MayCome, Agreement.IsAgreed, Agreement.owed_by_all}
 use Rattle.law_past_agreement.proofs.Rows.{own_undone}
 use Rattle.law_past_agreement.proofs.Agree.{agreed_started, agreed_ended, agreed_acked, agreed_signal, agreed_undone}
 use Rattle.world.specs.State.{WorldState, Session, Work}
-use Rattle.law_world_agreement.specs.Agreement.{sight_of, work_at, slots_from, Agrees}
-use Rattle.law_world_agreement.specs.Steps.{IsEntered, IsTakenBackBy}
-use Rattle.law_world_agreement.proofs.Settled.{slot_if, slot_at, settled}
-use Rattle.law_world_agreement.proofs.Opening.{joined_of, own_counts, mine_tells}
-use Rattle.law_world_agreement.proofs.Ending.{work_of, slot_work}
-use Rattle.law_world_agreement.proofs.Changing.{one_session, one_work, none_of_some}
+use Rattle.law_world_agreement.specs.{Agreement.sight_of, Agreement.work_at, Agreement.slots_from, Agreement.Agrees, Steps.IsEntered, Steps.IsTakenBackBy}
+use Rattle.law_world_agreement.proofs.{Settled.slot_if, Settled.slot_at, Settled.settled, Opening.joined_of, Opening.own_counts, Opening.mine_tells}
+use Rattle.law_world_agreement.proofs.{Ending.work_of, Ending.slot_work, Changing.one_session, Changing.one_work, Changing.none_of_some}
 
 -- lists in which each slot has the work that it had settle on the world's sessions
 module _ (chains : Chains) (writer : Option ℕ) (h : List Event) (old new : WorldState) (agrees : Agrees chains writer old) (entered : IsEntered h old new) where

@@ -1,19 +1,14 @@
 -- The first world, and sessions that join.
-use Rattle.std.proofs.Common.{◌≡◌, ◌⊎◌, inl, inr, ⊎_elim, ℕ, zero, suc, ◌+◌, List, [], ◌∷◌, ◌++◌, length, map, get_or, Option, Some, None, refl, sym, ap, subst}
-use Rattle.std.proofs.Common.{◌∙◌, arith, length-append}
+use Rattle.std.proofs.Common.{◌≡◌, ◌⊎◌, inl, inr, ⊎_elim, ℕ, zero, suc, ◌+◌, List, [], ◌∷◌, ◌++◌, length, map, get_or, Option, Some, None, refl, sym, ap}
+use Rattle.std.proofs.Common.{subst, ◌∙◌, arith, length-append}
 use Rattle.std.specs.Prelude.{slice_get, option_map}
-use Rattle.inno_model.specs.declared.event.Event.TheVariants.{Opened}
-use Rattle.inno_model.specs.Past.{own}
+use Rattle.inno_model.specs.{declared.event.Event.TheVariants.Opened, Past.own}
 use Rattle.row_versions.specs.Chains.{Chains}
-use Rattle.law_past_agreement.specs.Slots.{Slot, fresh}
-use Rattle.law_past_agreement.specs.Rows.{place_in}
-use Rattle.law_past_agreement.specs.Agreement.{owed_by_all}
+use Rattle.law_past_agreement.specs.{Slots.Slot, Slots.fresh, Rows.place_in, Agreement.owed_by_all}
 use Rattle.law_past_agreement.proofs.Agree.{agreed_first, agreed_joined}
 use Rattle.world.specs.State.{WorldState, Session, Work}
-use Rattle.law_world_agreement.specs.Agreement.{work_at, slots_from, Agrees}
-use Rattle.law_world_agreement.specs.Steps.{IsJoined, IsFirst}
-use Rattle.law_world_agreement.proofs.Settled.{slot_if, slot_at, settled}
-use Rattle.law_world_agreement.proofs.Changing.{none_of_some}
+use Rattle.law_world_agreement.specs.{Agreement.work_at, Agreement.slots_from, Agreement.Agrees, Steps.IsJoined, Steps.IsFirst}
+use Rattle.law_world_agreement.proofs.{Settled.slot_if, Settled.slot_at, Settled.settled, Changing.none_of_some}
 
 -- indexes, versions and counts are not spoken of
 pub agrees_alike : (chains : Chains) (writer : Option ℕ) (a b : WorldState) → Agrees chains writer a → b.names ≡ a.names → b.past ≡ a.past

@@ -1,39 +1,31 @@
 -- A transaction that is opened, and a view that is taken.
-use Rattle.std.proofs.Common.{◌≡◌, ◌≢◌, ◌⊎◌, inr, ⊎_elim, ℕ, zero, suc, ◌+◌, ◌<◌, ◌^◌, eqb, true, false, List, [], ◌∷◌, ◌++◌, length, map, get_or, set, Option}
-use Rattle.std.proofs.Common.{Some, None, refl, sym, ap, subst, ◌∙◌, arith}
+use Rattle.std.proofs.Common.{◌≡◌, ◌≢◌, ◌⊎◌, inr, ⊎_elim, ℕ, zero, suc, ◌+◌, ◌<◌, ◌^◌, eqb, true, false, List, [], ◌∷◌, ◌++◌, length, map, get_or, set}
+use Rattle.std.proofs.Common.{Option, Some, None, refl, sym, ap, subst, ◌∙◌, arith}
 use Rattle.std.specs.Prelude.{slice_get, slice_set, option_map, is_some}
 use Rattle.std.proofs.lemmas.Bool.{cases_eq}
 use Rattle.std.proofs.lemmas.Bool.Decides.{nat_tests}
 use Rattle.std.proofs.lemmas.List.{length-set}
 use Rattle.std.proofs.lemmas.Option.{slice_get_within}
-use Rattle.inno_types.specs.declared.lock.Level.{Level}
-use Rattle.inno_types.specs.declared.value.Schema.{Schema}
-use Rattle.inno_model.specs.declared.event.Event.{Event}
-use Rattle.inno_model.specs.declared.event.Event.TheVariants.{Begin, View}
-use Rattle.inno_model.specs.Past.{is_of, own, begins, IsOpen}
+use Rattle.inno_types.specs.{declared.lock.Level.Level, declared.value.Schema.Schema}
+use Rattle.inno_model.specs.{declared.event.Event.Event, declared.event.Event.TheVariants.Begin, declared.event.Event.TheVariants.View, Past.is_of, Past.own}
+use Rattle.inno_model.specs.{Past.begins, Past.IsOpen}
 use Rattle.inno_model.proofs.Untouched.{untouched}
 use Rattle.txn_table.specs.Txns.{Txns}
 use Rattle.row_versions.specs.Chains.{Chains}
 use Rattle.law_past_agreement.specs.Slots.{Slot, fresh}
 use Rattle.law_past_agreement.specs.Slots as slots
-use Rattle.law_past_agreement.specs.Rows.{place_in}
+use Rattle.law_past_agreement.specs.{Rows.place_in, Agreement.WorkAgrees, Agreement.SlotAgrees, Agreement.IsIdle, Agreement.owed_by_all}
 use Rattle.law_past_agreement.proofs.Ids.{ids_of}
-use Rattle.law_past_agreement.specs.Agreement.{WorkAgrees, SlotAgrees, IsIdle, owed_by_all}
 use Rattle.read_view.specs.Sight.{Sight}
 use Rattle.txn_table.specs.Txns.{ids_of as active_of}
-use Rattle.law_past_agreement.specs.Slots.{id_of_work}
-use Rattle.law_past_agreement.specs.Agreement.{IsWorkOf, IsViewOf}
-use Rattle.law_past_agreement.specs.Ids.{id_of, given}
-use Rattle.law_past_agreement.specs.Slots.{with_view}
-use Rattle.law_past_agreement.proofs.Ids.{AreIds}
-use Rattle.law_past_agreement.proofs.Standing.{standing_some}
+use Rattle.law_past_agreement.specs.{Slots.id_of_work, Slots.with_view, Agreement.IsWorkOf, Agreement.IsViewOf, Ids.id_of, Ids.given}
+use Rattle.law_past_agreement.proofs.{Ids.AreIds, Standing.standing_some, Agree.agreed_begin, Agree.agreed_view}
 use Rattle.read_view.specs.Sight.{is_seen}
 use Rattle.std.proofs.lemmas.List.{get_or-set_same, get_or-set_other}
-use Rattle.law_past_agreement.proofs.Agree.{agreed_begin, agreed_view}
 use Rattle.world.specs.State.{WorldState, Session, Work, IsSession, HasWork}
 use Rattle.world.specs.Sessions.{fresh_work}
-use Rattle.law_world_agreement.specs.Agreement.{work_at, slot_of, slots_from, Agrees}
-use Rattle.law_world_agreement.specs.Steps.{session_begun, opened, viewed}
+use Rattle.law_world_agreement.specs.{Agreement.work_at, Agreement.slot_of, Agreement.slots_from, Agreement.Agrees, Steps.session_begun, Steps.opened}
+use Rattle.law_world_agreement.specs.{Steps.viewed}
 use Rattle.law_world_agreement.proofs.Settled.{slot_if, slot_at, slots_count, with_slots, one_settled}
 
 pub set_here : {X : Type 0} (xs : List X) (i : ℕ) (x a : X) → slice_get xs i ≡ Some x → slice_get (slice_set xs i a) i ≡ Some a

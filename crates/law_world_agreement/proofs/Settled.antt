@@ -1,18 +1,15 @@
 -- What is kept of sessions, in the words of the past, as lists agree with it.
-use Rattle.std.proofs.Common.{◌≡◌, ◌≢◌, ⊎_elim, ℕ, zero, suc, ◌+◌, ◌<◌, ◌≤◌, List, [], ◌∷◌, length, map, get_or, set, Option, Some, None, refl, sym, ap, subst}
-use Rattle.std.proofs.Common.{◌∙◌, arith}
+use Rattle.std.proofs.Common.{◌≡◌, ◌≢◌, ⊎_elim, ℕ, zero, suc, ◌+◌, ◌<◌, ◌≤◌, List, [], ◌∷◌, length, map, get_or, set, Option, Some, None, refl, sym, ap}
+use Rattle.std.proofs.Common.{subst, ◌∙◌, arith}
 use Rattle.std.specs.Prelude.{slice_get, option_map}
 use Rattle.std.proofs.lemmas.Bool.{cases_eq}
 use Rattle.std.proofs.lemmas.List.{get_or-set_same, get_or-set_other}
 use Rattle.inno_types.specs.declared.value.Schema.{Schema}
-use Rattle.inno_model.specs.declared.event.Event.{Event}
-use Rattle.inno_model.specs.Past.{own}
+use Rattle.inno_model.specs.{declared.event.Event.Event, Past.own}
 use Rattle.txn_table.specs.Txns.{Txns}
-use Rattle.row_versions.specs.declared.place.Place.{Place}
-use Rattle.row_versions.specs.Chains.{Chains}
-use Rattle.law_past_agreement.specs.Slots.{Slot, fresh}
-use Rattle.law_past_agreement.specs.Rows.{place_in}
-use Rattle.law_past_agreement.specs.Agreement.{IsAgreed, WorkAgrees, SlotAgrees, owed_by_all}
+use Rattle.row_versions.specs.{declared.place.Place.Place, Chains.Chains}
+use Rattle.law_past_agreement.specs.{Slots.Slot, Slots.fresh, Rows.place_in, Agreement.IsAgreed, Agreement.WorkAgrees, Agreement.SlotAgrees}
+use Rattle.law_past_agreement.specs.{Agreement.owed_by_all}
 use Rattle.world.specs.State.{Session, Work}
 use Rattle.law_world_agreement.specs.Agreement.{work_at, slot_of, slots_from}
 

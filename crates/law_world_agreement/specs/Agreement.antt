@@ -1,15 +1,12 @@
 -- That a world agrees with its past.
 use Rattle.std.specs.Prelude.{◌≡◌, ℕ, ◌+◌, List, [], ◌∷◌, map, length, Option, Some, None, option_map}
 use Rattle.inno_types.specs.declared.value.Schema.{Schema}
-use Rattle.inno_model.specs.declared.event.Event.{Event}
-use Rattle.inno_model.specs.Past.{own, started}
+use Rattle.inno_model.specs.{declared.event.Event.Event, Past.own, Past.started}
 use Rattle.read_view.specs.Sight.{Sight}
-use Rattle.row_versions.specs.declared.place.Place.{Place}
-use Rattle.row_versions.specs.Chains.{Chains}
+use Rattle.row_versions.specs.{declared.place.Place.Place, Chains.Chains}
 use Rattle.law_past_agreement.specs.Slots.{Slot}
 use Rattle.law_past_agreement.specs.Slots as slots
-use Rattle.law_past_agreement.specs.Rows.{place_in}
-use Rattle.law_past_agreement.specs.Agreement.{IsAgreed, owed_by_all}
+use Rattle.law_past_agreement.specs.{Rows.place_in, Agreement.IsAgreed, Agreement.owed_by_all}
 use Rattle.world.specs.State.{WorldState, Session, Work, Seen, HasWork}
 
 -- ---- sessions and transactions

@@ -1,19 +1,15 @@
 -- What the steps of transactions make of a world, each with its entry.
 use Rattle.std.specs.Prelude.{◌≡◌, ◌≢◌, ℕ, ◌+◌, ◌==◌, if◌then◌else◌, [], ◌∷◌, ◌++◌, List, length, slice_get, option_map, Some, None}
-use Rattle.inno_types.specs.declared.value.Schema.{Schema}
+use Rattle.inno_types.specs.{declared.value.Schema.Schema, declared.lock.Level.Level}
 use Rattle.std.specs.FinMap.{get}
-use Rattle.inno_db.specs.Database.{Database}
-use Rattle.inno_db.specs.declared.change.Change.{Change}
-use Rattle.inno_model.specs.declared.event.Event.{Event}
-use Rattle.inno_model.specs.declared.event.Event.TheVariants.{Opened, Changed, Undone}
-use Rattle.inno_types.specs.declared.lock.Level.{Level}
+use Rattle.inno_db.specs.{Database.Database, declared.change.Change.Change}
+use Rattle.inno_model.specs.{declared.event.Event.Event, declared.event.Event.TheVariants.Opened, declared.event.Event.TheVariants.Changed}
+use Rattle.inno_model.specs.{declared.event.Event.TheVariants.Undone}
 use Rattle.txn_table.specs.Txns.{ids_of, with_id as with_txn_id}
-use Rattle.row_versions.specs.declared.place.Place.{Place}
-use Rattle.row_versions.specs.Chains.{Chains, in_model, versions_at}
-use Rattle.law_past_agreement.specs.Slots.{id_for}
-use Rattle.law_past_agreement.specs.Agreement.{IsOpenedWith}
-use Rattle.world.specs.State.{WorldState, Session, Work, HasWork}
-use Rattle.world.specs.Sessions.{fresh_work, begun, begin_added, view_added}
+use Rattle.row_versions.specs.{declared.place.Place.Place, Chains.Chains, Chains.in_model, Chains.versions_at}
+use Rattle.law_past_agreement.specs.{Slots.id_for, Agreement.IsOpenedWith}
+use Rattle.world.specs.{State.WorldState, State.Session, State.Work, State.HasWork, Sessions.fresh_work, Sessions.begun, Sessions.begin_added}
+use Rattle.world.specs.{Sessions.view_added}
 use Rattle.sql_history.specs.Settings.{at_begin}
 
 -- the session as it has begun its next transaction

@@ -2,29 +2,18 @@
 use Rattle.std.proofs.Common.{◌≡◌, ◌⊎◌, ◌+◌, ap, inl, inr, ⊎_elim, ℕ, ◌≤◌, List, Option, Some, None, sym, subst, ◌∙◌, arith}
 use Rattle.std.specs.Prelude.{◌<◌, length, slice_get, IfSome}
 use Rattle.std.proofs.lemmas.Bool.{cases_eq}
-use Rattle.inno_types.specs.declared.value.Schema.{Schema}
-use Rattle.store_api.specs.declared.answers.Undo.{Undo}
-use Rattle.store_api.specs.declared.moves.Move.{Move}
+use Rattle.inno_types.specs.{declared.value.Schema.Schema, declared.value.Value.Value}
+use Rattle.store_api.specs.{declared.answers.Undo.Undo, declared.moves.Move.Move}
 use Rattle.store_api.specs.declared.moves.Move.TheVariants.{At, End, Done, Step, Latch, Again, Full, TooDeep, Failed, Bad, NoMemory}
-use Rattle.entries.specs.Index.{Index}
-use Rattle.entries.specs.Calls.{Delays, Inserts, Replaces}
+use Rattle.entries.specs.{Index.Index, Calls.Delays, Calls.Inserts, Calls.Replaces}
 use Rattle.law_stored_rows.specs.Edits.{clustered_index, key_index}
-use Rattle.world.specs.State.{WorldState, Session, Work}
-use Rattle.world.specs.Indexes.{InIndex, InsertsWith, ReplacesWith}
-use Rattle.inno_types.specs.declared.value.Value.{Value}
+use Rattle.world.specs.{State.WorldState, State.Session, State.Work, Indexes.InIndex, Indexes.InsertsWith, Indexes.ReplacesWith}
 use Rattle.inno_db.specs.declared.change.Change.{Change}
 use Rattle.row_versions.specs.Chains.{Chains}
-use Rattle.row_changes.specs.declared.record_change.RecordChange.{RecordChange}
-use Rattle.row_changes.specs.declared.entry_put.EntryPut.{EntryPut}
-use Rattle.row_changes.specs.declared.keys_change.KeysChange.{KeysChange}
-use Rattle.row_changes.specs.declared.key_entries.KeyEntries.{KeyEntries}
-use Rattle.row_changes.specs.declared.row_change.RowChange.{RowChange}
-use Rattle.row_changes.specs.declared.row_change.RowChange.TheVariants.{Record}
-use Rattle.row_changes.specs.Entering.{Enters}
-use Rattle.row_changes.specs.KeyEntries.{AreEntries}
-use Rattle.row_changes.specs.Keys.{IsEntering, IsChangingKeys}
-use Rattle.row_changes.specs.Rows.{IsChangingRow, table_of}
-use Rattle.row_changes.specs.Awaited.{AwaitsAt, AwaitsIn, IsOfTable}
+use Rattle.row_changes.specs.{declared.record_change.RecordChange.RecordChange, declared.entry_put.EntryPut.EntryPut}
+use Rattle.row_changes.specs.{declared.keys_change.KeysChange.KeysChange, declared.key_entries.KeyEntries.KeyEntries, declared.row_change.RowChange.RowChange}
+use Rattle.row_changes.specs.{declared.row_change.RowChange.TheVariants.Record, Entering.Enters, KeyEntries.AreEntries, Keys.IsEntering, Keys.IsChangingKeys}
+use Rattle.row_changes.specs.{Rows.IsChangingRow, Rows.table_of, Awaited.AwaitsAt, Awaited.AwaitsIn, Awaited.IsOfTable}
 
 -- who is awaited in an index was so before, or is this actor
 abbrev pub AwaitsHere : ℕ → Index → Index → Type 0

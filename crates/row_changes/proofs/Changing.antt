@@ -1,42 +1,27 @@
 -- What stays known of a record that is being changed.
-use Rattle.std.proofs.Common.{◌≡◌, ◌≢◌, ◌⊎◌, inl, inr, ⊎_elim, ℕ, ◌<◌, true, false, List, Option, Some, None, refl, sym, ap, subst, ◌∙◌, arith}
-use Rattle.std.specs.Prelude.{slice_get, IfSome, is_some, Ok, Err}
+use Rattle.std.proofs.Common.{◌≡◌, ◌≢◌, ◌⊎◌, inl, inr, ⊎_elim, ℕ, ◌<◌, true, false, List, Option, Some, None, refl, sym, ap, subst, ◌∙◌, arith, cond, Bool}
+use Rattle.std.specs.Prelude.{slice_get, IfSome, is_some, Ok, Err, slice_set, length}
 use Rattle.std.proofs.lemmas.Bool.{cases_eq}
-use Rattle.inno_types.specs.declared.value.Value.{Value}
-use Rattle.inno_types.specs.declared.value.Schema.{Schema}
-use Rattle.entries.specs.Pairs.{Pair, value_of}
-use Rattle.entries.specs.Index.{Index, Told, Goes, AreKept}
-use Rattle.law_stored_rows.specs.Edits.{clustered_index}
-use Rattle.std.specs.Prelude.{slice_set, length}
+use Rattle.inno_types.specs.{declared.value.Value.Value, declared.value.Schema.Schema}
+use Rattle.entries.specs.{Pairs.Pair, Pairs.value_of, Index.Index, Index.Told, Index.Goes, Index.AreKept, Calls.Fetches}
+use Rattle.law_stored_rows.specs.{Edits.clustered_index, Records.IsCodeOf}
 use Rattle.std.proofs.lemmas.List.{length-set}
 use Rattle.row_versions.specs.Versions.{Stays}
 use Rattle.world.specs.State.{WorldState, Session, Work, IsSession, with_session}
-use Rattle.world.specs.Stores.{StoreGoes}
+use Rattle.world.specs.{Stores.StoreGoes, Indexes.Calls, Undoing.IsReady, Undoing.IsUnchanged, Undoing.MakesRoom, Sessions.with_room}
 use Rattle.world.proofs.Stores.{store_stays}
-use Rattle.world.specs.Indexes.{Calls}
-use Rattle.entries.specs.Calls.{Fetches}
 use Rattle.row_changes.proofs.Worlds.{stays_if}
-use Rattle.world.specs.Undoing.{IsReady, IsUnchanged, MakesRoom}
-use Rattle.world.specs.Sessions.{with_room}
 use Rattle.txn_table.specs.Txns.{Txns, is_there, id_at}
-use Rattle.row_changes.specs.declared.record_change.RecordChange.{RecordChange}
-use Rattle.row_changes.specs.declared.record_change.RecordStage.{RecordStage}
+use Rattle.row_changes.specs.{declared.record_change.RecordChange.RecordChange, declared.record_change.RecordStage.RecordStage, Coding.Decodes}
+use Rattle.row_changes.specs.{Asides.IsReadied, Asides.StepsAside, Entries.IsThere, Pairs.RowsStay, Pairs.Hinders, declared.row_edit.RowEdit.RowEdit}
+use Rattle.row_changes.specs.{declared.row_edit.RowEdit.TheVariants.Put, declared.row_edit.RowEdit.TheVariants.Remove, Edits.IsPut, Edits.FindsRow}
+use Rattle.row_changes.specs.{Edits.HasNoRow, Edits.LacksRow, declared.record_change.RecordReached.TheVariants.Went}
+use Rattle.row_changes.specs.{declared.record_change.RecordReached.TheVariants.Hindered}
 use Rattle.row_changes.specs.declared.record_change.RecordStage.TheVariants.{Enter, Room, Find, Insert, Replace}
-use Rattle.store_api.specs.declared.answers.Version.{Version}
+use Rattle.store_api.specs.{declared.answers.Version.Version, declared.moves.Move.Move}
 use Rattle.row_codec.specs.Rows.{IsRecordOf}
-use Rattle.row_changes.specs.Coding.{Decodes}
-use Rattle.row_changes.specs.Asides.{IsReadied, StepsAside}
-use Rattle.row_changes.specs.Entries.{IsThere}
-use Rattle.row_changes.specs.Pairs.{RowsStay, Hinders}
 use Rattle.row_changes.specs.Records.{IsListed, IsFormer, StageHolds, IsChangingRecord, GoesOnWithRecord, HindersRecord, IsSpoiled, ChangesRecord}
 use Rattle.row_changes.specs.Records.{record_steps, when_missed, when_found}
-use Rattle.row_changes.specs.declared.row_edit.RowEdit.{RowEdit}
-use Rattle.row_changes.specs.declared.row_edit.RowEdit.TheVariants.{Put, Remove}
-use Rattle.row_changes.specs.Edits.{IsPut, FindsRow, HasNoRow, LacksRow}
-use Rattle.law_stored_rows.specs.Records.{IsCodeOf}
-use Rattle.std.proofs.Common.{cond, Bool, true, false}
-use Rattle.row_changes.specs.declared.record_change.RecordReached.TheVariants.{Went, Hindered}
-use Rattle.store_api.specs.declared.moves.Move.{Move}
 use Rattle.store_api.specs.declared.moves.Move.TheVariants as moves
 use Rattle.row_changes.proofs.Sessions.{one_session, aside_of_stay, same_pairs, same_versions, set_here, set_other}
 

@@ -1,18 +1,16 @@
 -- A transaction is given its id, and its change is entered.
 use Rattle.std.proofs.Common.{◌≡◌, ◌≢◌, ℕ, ◌+◌, ◌==◌, true, false, List, ◌∷◌, length, Option, Some, None, refl, sym, ap, subst, ◌∙◌, eq-eqb}
-use Rattle.std.proofs.lemmas.List.{length-map}
+use Rattle.std.proofs.lemmas.List.{length-map, length-set}
 use Rattle.std.specs.Prelude.{slice_get, option_map}
 use Rattle.std.proofs.lemmas.Bool.{cond-true, cond-false, ne_eqb}
 use Rattle.std.proofs.lemmas.Option.{slice_get-map}
-use Rattle.std.proofs.lemmas.List.{length-set}
 use Rattle.inno_db.specs.declared.change.Change.{Change}
 use Rattle.inno_model.specs.declared.event.Event.TheVariants.{Changed}
 use Rattle.store_api.specs.declared.answers.Standing.{Standing}
 use Rattle.txn_table.specs.Txns.{Txns, with_id}
 use Rattle.world.specs.State.{WorldState, Session, Work, HasWork, txn_of, id_of, standing_of}
 use Rattle.world.specs.Sessions.{of_txn, change_txn, work_with_id, identified, change_added}
-use Rattle.row_changes.specs.Records.{IsListed, id_for, txns_with_id}
-use Rattle.row_changes.specs.Entering.{GivesId, Enters}
+use Rattle.row_changes.specs.{Records.IsListed, Records.id_for, Records.txns_with_id, Entering.GivesId, Entering.Enters}
 use Rattle.row_changes.proofs.Sessions.{one_found, set_here, set_other}
 
 -- what a session tells of its transaction

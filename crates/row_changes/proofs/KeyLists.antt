@@ -3,10 +3,7 @@ use Rattle.std.proofs.Common.{◌≡◌, ◌≢◌, ⊎_elim, ◌∙◌, sym, ap
 use Rattle.std.proofs.Common.{arith}
 use Rattle.std.proofs.lemmas.Bool.{cases_eq}
 use Rattle.std.proofs.lemmas.Option.{slice_get_within, slice_get-get_or}
-use Rattle.inno_types.specs.declared.value.Value.{Value}
-use Rattle.inno_types.specs.declared.value.Key.{Key}
-use Rattle.inno_types.specs.declared.value.Column.{Column}
-use Rattle.inno_types.specs.declared.value.Schema.{Schema}
+use Rattle.inno_types.specs.{declared.value.Value.Value, declared.value.Key.Key, declared.value.Column.Column, declared.value.Schema.Schema}
 use Rattle.key_codec.specs.Keys.{IsOfKindOrNull, entry_code}
 use Rattle.row_codec.specs.Rows.{IsRowOf}
 use Rattle.law_stored_rows.proofs.Coding.{value_in-kind}

@@ -4,29 +4,19 @@ use Rattle.std.proofs.Common.{length, Option, None, Some, slice_get, arith}
 use Rattle.std.specs.Prelude.{◌&&◌}
 use Rattle.std.proofs.lemmas.Bool.{cases_eq, eqb-true}
 use Rattle.std.proofs.lemmas.Option.{slice_get_within}
-use Rattle.inno_types.specs.declared.value.Value.{Value}
-use Rattle.inno_types.specs.declared.value.Key.{Key}
-use Rattle.inno_types.specs.declared.value.Schema.{Schema}
+use Rattle.inno_types.specs.{declared.value.Value.Value, declared.value.Key.Key, declared.value.Schema.Schema}
 use Rattle.inno_db.specs.Database.{key_of}
 use Rattle.store_api.specs.declared.answers.Version.{Version as Coded}
 use Rattle.entries.specs.Pairs.{Pair}
-use Rattle.row_versions.specs.declared.kept.Kept.{Kept}
+use Rattle.row_versions.specs.{declared.kept.Kept.Kept, declared.place.Place.Place, declared.version.Version.Version, Chains.Chains, Chains.versions_at}
+use Rattle.row_versions.specs.{Chains.is_same_place, Chains.newest}
 use Rattle.row_codec.specs.Rows.{version_code}
-use Rattle.row_versions.specs.declared.place.Place.{Place}
-use Rattle.row_versions.specs.declared.version.Version.{Version}
-use Rattle.row_versions.specs.Chains.{Chains, versions_at, is_same_place, newest}
-use Rattle.law_stored_rows.specs.Edits.{key_index, Puts}
-use Rattle.law_stored_rows.specs.Entries.{value_in, entry_of, TellAlike}
-use Rattle.law_stored_rows.specs.Records.{IsCodeOf, shown}
-use Rattle.law_stored_rows.specs.Steps.{PutsEntry}
-use Rattle.law_stored_rows.specs.Tables.{Said, AreCodedAs, AreCoded, SaysNow}
-use Rattle.law_stored_rows.proofs.Values.{same_place, same_value}
+use Rattle.law_stored_rows.specs.{Edits.key_index, Edits.Puts, Entries.value_in, Entries.entry_of, Entries.TellAlike, Records.IsCodeOf, Records.shown}
+use Rattle.law_stored_rows.specs.{Steps.PutsEntry, Tables.Said, Tables.AreCodedAs, Tables.AreCoded, Tables.SaysNow}
+use Rattle.law_stored_rows.proofs.{Values.same_place, Values.same_value, Entries.value_again, Entries.without_row, Steps.old_marked, Steps.new_put}
+use Rattle.law_stored_rows.proofs.{Steps.first_put}
 use Rattle.law_stored_rows.proofs.Keys.{now_says, others_say, lag_says, said_alike, change_over}
-use Rattle.law_stored_rows.proofs.Entries.{value_again, without_row}
-use Rattle.law_stored_rows.proofs.Steps.{old_marked, new_put, first_put}
-use Rattle.row_changes.specs.Edits.{IsRowFor}
-use Rattle.row_changes.specs.KeyEntries.{value_stays, IsEntryIn}
-use Rattle.row_changes.specs.Keys.{SaySoFar}
+use Rattle.row_changes.specs.{Edits.IsRowFor, KeyEntries.value_stays, KeyEntries.IsEntryIn, Keys.SaySoFar}
 use Rattle.row_changes.proofs.Sessions.{one_found}
 
 -- what is said once one key says something else of one place

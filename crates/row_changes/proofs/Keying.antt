@@ -7,40 +7,24 @@ use Rattle.law_stored_rows.proofs.Coding.{short_entries, value_in-kind}
 use Rattle.law_stored_rows.specs.Steps.{PutsEntry as PutsStored}
 use Rattle.world.specs.State.{IsIndex}
 use Rattle.std.specs.Prelude.{IfSome, IfOk, Result, Ok, Err}
-use Rattle.store_api.specs.declared.NoMemory.{NoMemory}
-use Rattle.inno_types.specs.declared.value.Value.{Value}
-use Rattle.inno_types.specs.declared.value.Key.{Key}
-use Rattle.inno_types.specs.declared.value.Schema.{Schema}
+use Rattle.store_api.specs.{declared.NoMemory.NoMemory, declared.moves.Move.Move}
+use Rattle.inno_types.specs.{declared.value.Value.Value, declared.value.Key.Key, declared.value.Schema.Schema}
 use Rattle.inno_db.specs.Database.{key_of}
-use Rattle.store_api.specs.declared.moves.Move.{Move}
 use Rattle.store_api.specs.declared.moves.Move.TheVariants as moves
-use Rattle.entries.specs.Pairs.{Pair}
-use Rattle.entries.specs.Index.{Index}
-use Rattle.law_stored_rows.specs.Storable.{IsStorable}
-use Rattle.row_versions.specs.declared.place.Place.{Place}
-use Rattle.row_versions.specs.declared.version.Version.{Version}
-use Rattle.row_versions.specs.Chains.{Chains}
-use Rattle.law_stored_rows.specs.Edits.{clustered_index, key_index}
-use Rattle.law_stored_rows.specs.Records.{shown}
-use Rattle.world.specs.State.{WorldState}
-use Rattle.row_changes.specs.declared.entry_put.EntryPut.{EntryPut}
-use Rattle.row_changes.specs.declared.entry_put.PutPhase.{PutPhase}
-use Rattle.row_changes.specs.declared.entry_put.PutPhase.TheVariants.{Look}
-use Rattle.row_changes.specs.declared.keys_change.KeysChange.{KeysChange}
-use Rattle.row_changes.specs.declared.key_entries.KeyEntries.{KeyEntries}
-use Rattle.row_changes.specs.declared.reached.Reached.TheVariants.{Done, Hindered}
-use Rattle.row_changes.specs.Pairs.{RowsStay, PutsPair, Hinders}
+use Rattle.entries.specs.{Pairs.Pair, Index.Index}
+use Rattle.law_stored_rows.specs.{Storable.IsStorable, Edits.clustered_index, Edits.key_index, Records.shown}
+use Rattle.row_versions.specs.{declared.place.Place.Place, declared.version.Version.Version, Chains.Chains}
+use Rattle.world.specs.{State.WorldState, Told.pairs_of, Told.IsTold}
+use Rattle.row_changes.specs.{declared.entry_put.EntryPut.EntryPut, declared.entry_put.PutPhase.PutPhase, declared.entry_put.PutPhase.TheVariants.Look}
+use Rattle.row_changes.specs.{declared.keys_change.KeysChange.KeysChange, declared.key_entries.KeyEntries.KeyEntries}
+use Rattle.row_changes.specs.{declared.reached.Reached.TheVariants.Done, declared.reached.Reached.TheVariants.Hindered, Pairs.RowsStay, Pairs.PutsPair}
+use Rattle.row_changes.specs.{Pairs.Hinders, Edits.IsRowFor, Edits.IsKeyAt, Records.IsTable}
 use Rattle.row_changes.specs.Entries.{unmarked, marked, put_steps, GoesOnPutting, HindersEntry, PutsEntry}
 use Rattle.law_stored_rows.proofs.Pairs.{no_key}
-use Rattle.row_changes.specs.Edits.{IsRowFor, IsKeyAt}
-use Rattle.row_changes.specs.Records.{IsTable}
-use Rattle.world.specs.Told.{pairs_of, IsTold}
 use Rattle.row_changes.specs.KeyEntries.{value_stays, StayBetween, IsEntryIn, IsEntryFor, AreEntries}
 use Rattle.row_changes.specs.Keys.{gone, without_row, said_next, HasRowsSoFar, IsEntering, IsChangingKeys, keys_steps, keys_next, StaysBesideKeys}
 use Rattle.row_changes.specs.Keys.{GoesOnWithKeys, ChangesKeys}
-use Rattle.row_changes.proofs.Sessions.{one_found}
-use Rattle.row_changes.proofs.Changing.{same_rows}
-use Rattle.row_changes.proofs.Pushed.{at_primary}
+use Rattle.row_changes.proofs.{Sessions.one_found, Changing.same_rows, Pushed.at_primary}
 use Rattle.row_changes.proofs.KeySteps.{plain, code_of, Says, pass, mark, put_after, put_first, key_done, over, stays_alike, puts_entry}
 use Rattle.row_changes.proofs.Telling.{stays_told, rows_again, coded_again, put_told, put_pairs}
 

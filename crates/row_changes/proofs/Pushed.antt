@@ -2,26 +2,19 @@
 use Rattle.std.proofs.Common.{◌≡◌, ◌≢◌, ◌∙◌, sym, ap, subst, refl, ℕ, ◌-◌, ◌^◌, ◌<◌, ◌==◌, Bool, true, false, cond, List, [], Option, None, Some, slice_get}
 use Rattle.std.proofs.Common.{arith}
 use Rattle.std.specs.Prelude.{IfSome}
-use Rattle.inno_types.specs.declared.value.Value.{Value}
-use Rattle.inno_types.specs.declared.value.Schema.{Schema}
+use Rattle.inno_types.specs.{declared.value.Value.Value, declared.value.Schema.Schema}
 use Rattle.inno_db.specs.Database.{key_of}
 use Rattle.store_api.specs.declared.answers.Version.{Version as Coded}
 use Rattle.entries.specs.Pairs.{Pair, value_of}
-use Rattle.row_versions.specs.declared.kept.Kept.{Kept}
+use Rattle.row_versions.specs.{declared.kept.Kept.Kept, declared.version.Version.Version, Chains.Chains, Chains.Pushes}
 use Rattle.row_codec.specs.Rows.{version_code}
-use Rattle.row_versions.specs.declared.version.Version.{Version}
-use Rattle.row_versions.specs.Chains.{Chains, Pushes}
-use Rattle.law_stored_rows.specs.Edits.{clustered_index, Puts}
-use Rattle.law_stored_rows.specs.Records.{IsCodeOf, shown, row_shown}
-use Rattle.law_stored_rows.specs.Tables.{AreCodedAs, AreCoded, what_is_there, place_in}
-use Rattle.law_stored_rows.proofs.Values.{one_key, key_there}
-use Rattle.law_stored_rows.proofs.Steps.{new_record, replaced_record}
-use Rattle.row_changes.specs.declared.row_edit.RowEdit.{RowEdit}
-use Rattle.row_changes.specs.declared.row_edit.RowEdit.TheVariants.{Put, Remove}
+use Rattle.law_stored_rows.specs.{Edits.clustered_index, Edits.Puts, Records.IsCodeOf, Records.shown, Records.row_shown, Tables.AreCodedAs, Tables.AreCoded}
+use Rattle.law_stored_rows.specs.{Tables.what_is_there, Tables.place_in}
+use Rattle.law_stored_rows.proofs.{Values.one_key, Values.key_there, Steps.new_record, Steps.replaced_record}
+use Rattle.row_changes.specs.{declared.row_edit.RowEdit.RowEdit, declared.row_edit.RowEdit.TheVariants.Put, declared.row_edit.RowEdit.TheVariants.Remove}
+use Rattle.row_changes.specs.{Records.id_for, Rows.row_after, Rows.primary_of}
 use Rattle.row_changes.specs.Edits.{IsRowFor, IsKeyAt, FitsEdit, IsPut, version_by}
 use Rattle.row_changes.proofs.KeySteps.{plain, code_of}
-use Rattle.row_changes.specs.Records.{id_for}
-use Rattle.row_changes.specs.Rows.{row_after, primary_of}
 
 -- ---- the version and its place
 

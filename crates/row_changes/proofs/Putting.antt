@@ -1,18 +1,12 @@
 -- An entry that is being put, where the call of its index was hindered.
 use Rattle.std.proofs.Common.{◌≡◌, ◌≢◌, ℕ, false, List, None, refl, sym, ap, subst}
 use Rattle.inno_types.specs.declared.value.Schema.{Schema}
-use Rattle.store_api.specs.declared.moves.Move.{Move}
-use Rattle.store_api.specs.declared.moves.Move.TheVariants.{Done}
+use Rattle.store_api.specs.{declared.moves.Move.Move, declared.moves.Move.TheVariants.Done}
 use Rattle.entries.specs.Calls.{Inserts}
-use Rattle.world.specs.State.{WorldState, IsIndex}
-use Rattle.world.specs.Indexes.{Changes}
-use Rattle.row_changes.specs.declared.entry_put.EntryPut.{EntryPut}
-use Rattle.row_changes.specs.declared.entry_put.PutPhase.{PutPhase}
-use Rattle.row_changes.specs.declared.entry_put.PutPhase.TheVariants.{Insert}
-use Rattle.row_changes.specs.declared.reached.Reached.TheVariants.{Hindered}
-use Rattle.row_changes.specs.Entries.{IsThere, PutPhaseHolds, IsPutting, PutsEntry}
-use Rattle.row_changes.proofs.Changing.{told_kept}
-use Rattle.row_changes.proofs.Worlds.{insert_keeps, insert_hinders, change_stays_if}
+use Rattle.world.specs.{State.WorldState, State.IsIndex, Indexes.Changes}
+use Rattle.row_changes.specs.{declared.entry_put.EntryPut.EntryPut, declared.entry_put.PutPhase.PutPhase, declared.entry_put.PutPhase.TheVariants.Insert}
+use Rattle.row_changes.specs.{declared.reached.Reached.TheVariants.Hindered, Entries.IsThere, Entries.PutPhaseHolds, Entries.IsPutting, Entries.PutsEntry}
+use Rattle.row_changes.proofs.{Changing.told_kept, Worlds.insert_keeps, Worlds.insert_hinders, Worlds.change_stays_if}
 
 pub insert_hindered : (actor : ℕ) (value : List ℕ) (old new : WorldState) (put : EntryPut) (move : Move) → IsPutting old put → put.phase ≡ Insert
     → Changes put.index actor None (λ before after answer. Inserts actor put.entry value before after answer) old new move → move ≢ Done

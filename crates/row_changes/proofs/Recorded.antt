@@ -3,47 +3,33 @@ use Rattle.std.proofs.Common.{◌≡◌, ◌≢◌, inl, inr, ℕ, ◌+◌, ◌=
 use Rattle.std.proofs.Common.{arith}
 use Rattle.std.specs.Prelude.{slice_get, is_some}
 use Rattle.std.proofs.lemmas.List.{length-set}
-use Rattle.inno_types.specs.declared.value.Value.{Value}
-use Rattle.inno_types.specs.declared.value.Schema.{Schema}
+use Rattle.inno_types.specs.{declared.value.Value.Value, declared.value.Schema.Schema}
 use Rattle.inno_db.specs.declared.change.Change.{Change}
-use Rattle.inno_model.specs.declared.event.Event.{Event}
-use Rattle.inno_model.specs.declared.event.Event.TheVariants.{Changed}
-use Rattle.store_api.specs.declared.answers.Version.{Version}
-use Rattle.store_api.specs.declared.answers.Undo.{Undo}
-use Rattle.store_api.specs.declared.moves.Move.{Move}
+use Rattle.inno_model.specs.{declared.event.Event.Event, declared.event.Event.TheVariants.Changed}
+use Rattle.store_api.specs.{declared.answers.Version.Version, declared.answers.Undo.Undo, declared.moves.Move.Move}
 use Rattle.store_api.specs.declared.moves.Move.TheVariants as moves
-use Rattle.entries.specs.Index.{Index, Goes, AreKept}
-use Rattle.entries.specs.Calls.{is_done}
-use Rattle.row_codec.specs.Rows.{version_code}
+use Rattle.entries.specs.{Index.Index, Index.Goes, Index.AreKept, Calls.is_done, Pairs.value_of}
+use Rattle.row_codec.specs.Rows.{version_code, IsRowOf, IsKeyOf, IsRecordOf}
 use Rattle.law_stored_rows.proofs.Coding.{short_key, short_value}
-use Rattle.law_stored_rows.specs.Edits.{clustered_index, with_value}
+use Rattle.law_stored_rows.specs.{Edits.clustered_index, Edits.with_value, Storable.IsStorable, Records.row_shown}
 use Rattle.world.specs.State.{WorldState, Session, Work, IsIndex, HasWork}
 use Rattle.world.specs.Stores.{StoreGoes}
 use Rattle.txn_table.specs.Txns.{Txns}
 use Rattle.world.specs.Indexes.{MayLog, IsLogged, KeepsIf, Changes, Brings, StaysBeside, InsertsWith, ReplacesWith}
-use Rattle.row_changes.specs.declared.record_change.RecordChange.{RecordChange}
-use Rattle.row_changes.specs.declared.record_change.RecordStage.TheVariants.{Insert, Replace}
-use Rattle.row_changes.specs.declared.record_change.RecordReached.TheVariants.{Recorded, Hindered}
-use Rattle.row_changes.specs.Entries.{IsThere}
-use Rattle.row_changes.specs.Entering.{Enters}
+use Rattle.row_changes.specs.{declared.record_change.RecordChange.RecordChange, declared.record_change.RecordStage.TheVariants.Insert}
+use Rattle.row_changes.specs.{declared.record_change.RecordStage.TheVariants.Replace, declared.record_change.RecordReached.TheVariants.Recorded}
+use Rattle.row_changes.specs.{declared.record_change.RecordReached.TheVariants.Hindered, Entries.IsThere, Entering.Enters}
+use Rattle.row_changes.specs.{declared.record_change.RecordStage.RecordStage, declared.row_edit.RowEdit.RowEdit, declared.row_edit.RowEdit.TheVariants.Put}
+use Rattle.row_changes.specs.{declared.row_edit.RowEdit.TheVariants.Remove, Pairs.Hinders}
 use Rattle.row_changes.specs.Records.{IsListed, HasRoom, IsChangingRecord, txns_with_id, ChangesWork, Records, ChangesRecord, id_for, undo_of_new}
 use Rattle.row_changes.specs.Records.{undo_of_former, RecordsEdit, row_found}
-use Rattle.row_changes.specs.declared.record_change.RecordStage.{RecordStage}
 use Rattle.key_codec.specs.Keys.{key_width}
-use Rattle.row_changes.specs.declared.row_edit.RowEdit.{RowEdit}
-use Rattle.row_changes.specs.declared.row_edit.RowEdit.TheVariants.{Put, Remove}
 use Rattle.row_changes.specs.Edits.{change_of, rows_put, FitsEdit, IsPut, version_by}
-use Rattle.row_codec.specs.Rows.{IsRowOf, IsKeyOf, IsRecordOf}
-use Rattle.law_stored_rows.specs.Storable.{IsStorable}
 use Rattle.std.proofs.Common.{[], ◌^◌}
 use Rattle.key_codec.proofs.Lengths.{length-key_code}
 use Rattle.inno_types.specs.declared.value.Column.{Column}
-use Rattle.law_stored_rows.specs.Records.{row_shown}
-use Rattle.entries.specs.Pairs.{value_of}
-use Rattle.row_changes.specs.Pairs.{Hinders}
-use Rattle.row_changes.proofs.Sessions.{one_found, one_session, set_here, set_other}
-use Rattle.row_changes.proofs.Ids.{one_work}
-use Rattle.row_changes.proofs.Changing.{listed_on, stage_at, hindered, told_only}
+use Rattle.row_changes.proofs.{Sessions.one_found, Sessions.one_session, Sessions.set_here, Sessions.set_other, Ids.one_work, Changing.listed_on}
+use Rattle.row_changes.proofs.{Changing.stage_at, Changing.hindered, Changing.told_only}
 use Rattle.row_changes.proofs.Worlds.{HasStayed, places_if, stays_if, insert_keeps, insert_hinders, replace_keeps, replace_hinders}
 
 -- ---- what the call asks

@@ -4,8 +4,7 @@ use Rattle.std.specs.Prelude.{slice_get, slice_set}
 use Rattle.entries.specs.Index.{AreKept}
 use Rattle.row_versions.specs.Versions.{Versions, Stays}
 use Rattle.world.specs.State.{WorldState, Session, IsSession}
-use Rattle.row_changes.specs.Asides.{StepsAside}
-use Rattle.row_changes.specs.Pairs.{RowsStay}
+use Rattle.row_changes.specs.{Asides.StepsAside, Pairs.RowsStay}
 
 pub set_here : {X : Type 0} (xs : List X) (i : ℕ) (x a : X) → slice_get xs i ≡ Some x → slice_get (slice_set xs i a) i ≡ Some a
 set_here [] i x a there = absurd (cc)

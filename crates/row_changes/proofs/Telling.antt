@@ -4,17 +4,11 @@ use Rattle.std.specs.Prelude.{IfSome, IsSome}
 use Rattle.std.proofs.lemmas.Bool.{cases_eq, cond-true, cond-false}
 use Rattle.std.proofs.lemmas.Bool.Decides.{eqb_tells}
 use Rattle.inno_types.specs.declared.value.Schema.{Schema}
-use Rattle.entries.specs.Pairs.{Pair}
-use Rattle.entries.specs.Index.{Goes, AreKept}
-use Rattle.row_versions.specs.declared.kept.Kept.{Kept}
-use Rattle.row_versions.specs.Versions.{Stays}
-use Rattle.row_versions.specs.Chains.{Chains}
-use Rattle.law_stored_rows.specs.Edits.{with_value, Puts}
-use Rattle.law_stored_rows.specs.Tables.{Said, AreCodedAs}
-use Rattle.world.specs.State.{WorldState}
-use Rattle.row_changes.specs.Pairs.{RowsStay, PutsPair}
-use Rattle.world.specs.Told.{pairs_in, pairs_of, IsTold}
-use Rattle.row_changes.specs.Told.{AreRowsAs}
+use Rattle.entries.specs.{Pairs.Pair, Index.Goes, Index.AreKept}
+use Rattle.row_versions.specs.{declared.kept.Kept.Kept, Versions.Stays, Chains.Chains}
+use Rattle.law_stored_rows.specs.{Edits.with_value, Edits.Puts, Tables.Said, Tables.AreCodedAs}
+use Rattle.world.specs.{State.WorldState, Told.pairs_in, Told.pairs_of, Told.IsTold}
+use Rattle.row_changes.specs.{Pairs.RowsStay, Pairs.PutsPair, Told.AreRowsAs}
 
 -- what is told was told before
 pub told_before : (step : List Pair → List Pair → Type 0) (old new : Option (List Pair)) → Goes step old new → IsSome new → IsSome old

@@ -2,44 +2,29 @@
 use Rattle.std.proofs.Common.{◌≡◌, ⊎_elim, ◌∙◌, sym, ap, subst, refl, ℕ, ◌^◌, ◌<◌, false, List, [], Option, None, Some, arith}
 use Rattle.std.specs.Prelude.{IfSome, IsTrue, is_some}
 use Rattle.std.proofs.lemmas.Bool.{cases_eq}
-use Rattle.inno_types.specs.declared.value.Value.{Value}
-use Rattle.inno_types.specs.declared.value.Schema.{Schema}
+use Rattle.inno_types.specs.{declared.value.Value.Value, declared.value.Schema.Schema}
 use Rattle.store_api.specs.declared.answers.Version.{Version as Coded}
-use Rattle.store_api.specs.declared.answers.Undo.{Undo}
-use Rattle.store_api.specs.declared.moves.Move.{Move}
+use Rattle.store_api.specs.{declared.answers.Undo.Undo, declared.moves.Move.Move}
 use Rattle.entries.specs.Pairs.{value_of}
-use Rattle.row_versions.specs.Versions.{Versions, Stays}
-use Rattle.row_versions.specs.declared.version.Version.{Version}
-use Rattle.row_versions.specs.Chains.{Chains, versions_at, newest, Pushes}
-use Rattle.law_stored_rows.specs.Edits.{clustered_index}
-use Rattle.law_stored_rows.specs.Records.{IsCodeOf, row_shown, KeepsMore}
-use Rattle.law_stored_rows.specs.Tables.{AreCodedAs, what_is_there}
-use Rattle.law_stored_rows.proofs.Tables.{lag_stays, pushed_here, pushed_elsewhere, coded_still}
-use Rattle.law_stored_rows.proofs.FromTables.{decoded, absent}
-use Rattle.world.specs.State.{WorldState, Session, Work, HasWork}
-use Rattle.world.specs.Indexes.{KeepsVersion}
-use Rattle.row_changes.specs.declared.record_change.RecordChange.{RecordChange}
-use Rattle.row_changes.specs.declared.record_change.RecordStage.{RecordStage}
-use Rattle.row_changes.specs.declared.record_change.RecordStage.TheVariants.{Enter}
+use Rattle.row_versions.specs.{Versions.Versions, Versions.Stays, declared.version.Version.Version, Chains.Chains, Chains.versions_at, Chains.newest}
+use Rattle.row_versions.specs.{Chains.Pushes}
+use Rattle.law_stored_rows.specs.{Edits.clustered_index, Records.IsCodeOf, Records.row_shown, Records.KeepsMore, Tables.AreCodedAs, Tables.what_is_there}
+use Rattle.law_stored_rows.proofs.{Tables.lag_stays, Tables.pushed_here, Tables.pushed_elsewhere, Tables.coded_still, FromTables.decoded, FromTables.absent}
+use Rattle.world.specs.{State.WorldState, State.Session, State.Work, State.HasWork, Indexes.KeepsVersion}
+use Rattle.row_changes.specs.{declared.record_change.RecordChange.RecordChange, declared.record_change.RecordStage.RecordStage}
+use Rattle.row_changes.specs.{declared.record_change.RecordStage.TheVariants.Enter}
 use Rattle.row_changes.specs.declared.record_change.RecordReached.TheVariants as records
-use Rattle.row_changes.specs.declared.keys_change.KeysChange.{KeysChange}
-use Rattle.row_changes.specs.declared.row_change.RowChange.{RowChange}
-use Rattle.row_changes.specs.declared.row_change.RowChange.TheVariants.{Record, Keys}
-use Rattle.row_changes.specs.declared.reached.Reached.{Reached}
-use Rattle.row_changes.specs.declared.reached.Reached.TheVariants.{Went, Hindered}
-use Rattle.row_changes.specs.Asides.{StepsAside}
-use Rattle.row_changes.specs.Edits.{IsRowFor, IsKeyAt, version_by}
+use Rattle.row_changes.specs.{declared.keys_change.KeysChange.KeysChange, declared.row_change.RowChange.RowChange}
+use Rattle.row_changes.specs.{declared.row_change.RowChange.TheVariants.Record, declared.row_change.RowChange.TheVariants.Keys}
+use Rattle.row_changes.specs.{declared.reached.Reached.Reached, declared.reached.Reached.TheVariants.Went, declared.reached.Reached.TheVariants.Hindered}
+use Rattle.row_changes.specs.{Asides.StepsAside, Edits.IsRowFor, Edits.IsKeyAt, Edits.version_by, Told.HasRows, Keys.IsChangingKeys}
 use Rattle.row_codec.specs.Rows.{version_code}
 use Rattle.world.specs.Told.{pairs_of, IsTold}
-use Rattle.row_changes.specs.Told.{HasRows}
 use Rattle.row_changes.specs.Records.{IsChangingRecord, GoesOnWithRecord, ChangesRecord, record_steps, id_for, PutsFirst, PutsOver, PutsVersion, RecordsEdit}
 use Rattle.row_changes.specs.Records.{undo_of_new, undo_of_former}
-use Rattle.row_changes.specs.Keys.{IsChangingKeys}
 use Rattle.row_changes.specs.Rows.{row_after, primary_of, place_of, PushesEdit, IsChangingRow, ChangesRow}
-use Rattle.row_changes.proofs.Sessions.{one_found, one_session}
-use Rattle.row_changes.proofs.Ids.{one_work}
+use Rattle.row_changes.proofs.{Sessions.one_found, Sessions.one_session, Ids.one_work, Keying.table_kept}
 use Rattle.row_changes.proofs.Telling.{HasPut, told_if, rows_if, coded_again, pairs_told, puts_pairs, tells}
-use Rattle.row_changes.proofs.Keying.{table_kept}
 use Rattle.row_changes.proofs.Pushed.{key_at, at_primary, shown_fits, after_fits, small_id, first_rows, next_rows}
 
 -- ---- while the record is not there yet

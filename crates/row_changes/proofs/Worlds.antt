@@ -3,15 +3,12 @@ use Rattle.std.proofs.Common.{◌≡◌, ◌≢◌, ◌⊎◌, inr, ⊎_elim, �
 use Rattle.std.proofs.lemmas.Bool.{cases_eq}
 use Rattle.store_api.specs.declared.moves.Move.{Move}
 use Rattle.store_api.specs.declared.moves.Move.TheVariants.{At, End, Done, Step, Latch, Again, Full, TooDeep, Failed, Bad, NoMemory}
-use Rattle.entries.specs.Pairs.{Pair, value_of}
+use Rattle.entries.specs.{Pairs.Pair, Pairs.value_of, Index.Index, Index.AreKept, Index.HasGone}
 use Rattle.std.specs.Prelude.{IfSome, is_some}
-use Rattle.entries.specs.Index.{Index, AreKept, HasGone}
 use Rattle.entries.specs.Calls.{Delays, IsKeptOff, Fetches, NextKeys, Inserts, Replaces, Removes}
-use Rattle.world.specs.State.{WorldState}
-use Rattle.world.specs.Indexes.{InIndex, Calls, Changes}
+use Rattle.world.specs.{State.WorldState, Indexes.InIndex, Indexes.Calls, Indexes.Changes}
 use Rattle.law_stored_rows.specs.Edits.{with_value}
-use Rattle.row_changes.specs.Entries.{IsThere}
-use Rattle.row_changes.specs.Pairs.{RowsStay, PutsPair, Hinders}
+use Rattle.row_changes.specs.{Entries.IsThere, Pairs.RowsStay, Pairs.PutsPair, Pairs.Hinders}
 
 -- the pairs are kept, and each actor's place
 abbrev pub HasStayed : Index → Index → Type 0

@@ -2,8 +2,7 @@
 use Rattle.std.specs.Prelude.{◌≡◌, ◌≢◌, ℕ, length, slice_get}
 use Rattle.entries.specs.Index.{AreKept}
 use Rattle.row_versions.specs.Versions.{Stays}
-use Rattle.world.specs.State.{WorldState, Session, IsSession}
-use Rattle.world.specs.Stores.{StoreGoes}
+use Rattle.world.specs.{State.WorldState, State.Session, State.IsSession, Stores.StoreGoes}
 
 -- the session has other rooms for entries and undo records, and all else as it was
 pub record IsReadied (before after : Session) : Type 0 where

@@ -1,9 +1,8 @@
 -- What decoding a record answers.
 use Rattle.std.specs.Prelude.{ℕ, List, Result, Ok, Err}
 use Rattle.inno_types.specs.declared.value.Schema.{Schema}
-use Rattle.store_api.specs.declared.answers.Version.{Version}
-use Rattle.store_api.specs.declared.moves.Move.{Move}
-use Rattle.store_api.specs.declared.moves.Move.TheVariants.{Bad, NoMemory}
+use Rattle.store_api.specs.{declared.answers.Version.Version, declared.moves.Move.Move, declared.moves.Move.TheVariants.Bad}
+use Rattle.store_api.specs.{declared.moves.Move.TheVariants.NoMemory}
 use Rattle.row_codec.specs.Rows.{IsRecordOf}
 use Rattle.law_stored_rows.specs.Records.{IsCodeOf}
 

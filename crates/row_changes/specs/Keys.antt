@@ -1,29 +1,15 @@
 -- What is known while the keys of a table take over a change of a row, and what each step does.
 use Rattle.std.specs.Prelude.{◌≡◌, ℕ, ◌+◌, ◌-◌, ◌*◌, ◌^◌, ◌<◌, ◌≤◌, List, ◌∷◌, length, slice_get, Option, None, Some, IfSome}
-use Rattle.inno_types.specs.declared.value.Value.{Value}
-use Rattle.inno_types.specs.declared.value.Schema.{Schema}
+use Rattle.inno_types.specs.{declared.value.Value.Value, declared.value.Schema.Schema}
 use Rattle.store_api.specs.declared.moves.Move.{Move}
 use Rattle.entries.specs.Index.{AreKept}
-use Rattle.row_versions.specs.Versions.{Stays}
-use Rattle.row_versions.specs.declared.place.Place.{Place}
-use Rattle.row_versions.specs.declared.version.Version.{Version}
-use Rattle.row_versions.specs.Chains.{Chains, versions_at, newest}
-use Rattle.law_stored_rows.specs.Edits.{clustered_index, key_index}
-use Rattle.law_stored_rows.specs.Tables.{Said, LagAt}
-use Rattle.world.specs.State.{WorldState}
-use Rattle.world.specs.Stores.{StoreGoes}
-use Rattle.row_changes.specs.declared.entry_put.EntryPut.{EntryPut}
-use Rattle.row_changes.specs.declared.entry_put.PutPhase.TheVariants.{Look}
-use Rattle.row_changes.specs.declared.keys_change.KeysChange.{KeysChange}
-use Rattle.row_changes.specs.declared.reached.Reached.{Reached}
-use Rattle.row_changes.specs.declared.reached.Reached.TheVariants.{Went, Done, Hindered}
-use Rattle.row_changes.specs.Pairs.{RowsStay}
-use Rattle.row_changes.specs.Entries.{IsPutting, put_steps, HindersEntry}
-use Rattle.row_changes.specs.Edits.{IsRowFor, IsKeyAt}
-use Rattle.row_changes.specs.Records.{IsTable}
-use Rattle.row_changes.specs.KeyEntries.{IsEntryFor}
-use Rattle.world.specs.Told.{IsTold}
-use Rattle.row_changes.specs.Told.{AreRowsAs, HasRows}
+use Rattle.row_versions.specs.{Versions.Stays, declared.place.Place.Place, declared.version.Version.Version, Chains.Chains, Chains.versions_at, Chains.newest}
+use Rattle.law_stored_rows.specs.{Edits.clustered_index, Edits.key_index, Tables.Said, Tables.LagAt}
+use Rattle.world.specs.{State.WorldState, Stores.StoreGoes, Told.IsTold}
+use Rattle.row_changes.specs.{declared.entry_put.EntryPut.EntryPut, declared.entry_put.PutPhase.TheVariants.Look, declared.keys_change.KeysChange.KeysChange}
+use Rattle.row_changes.specs.{declared.reached.Reached.Reached, declared.reached.Reached.TheVariants.Went, declared.reached.Reached.TheVariants.Done}
+use Rattle.row_changes.specs.{declared.reached.Reached.TheVariants.Hindered, Pairs.RowsStay, Entries.IsPutting, Entries.put_steps, Entries.HindersEntry}
+use Rattle.row_changes.specs.{Edits.IsRowFor, Edits.IsKeyAt, Records.IsTable, KeyEntries.IsEntryFor, Told.AreRowsAs, Told.HasRows}
 
 -- ---- what keys say meanwhile
 

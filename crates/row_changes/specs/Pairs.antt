@@ -2,12 +2,10 @@
 use Rattle.std.specs.Prelude.{◌≡◌, ◌≢◌, ◌⊎◌, ℕ, List, Option, None}
 use Rattle.store_api.specs.declared.moves.Move.{Move}
 use Rattle.store_api.specs.declared.moves.Move.TheVariants.{At, End, Done, Latch, Full, TooDeep, NoMemory}
-use Rattle.entries.specs.Index.{Index, Goes, AreKept}
-use Rattle.entries.specs.Calls.{Delays, LacksPages, IsKeptOff}
+use Rattle.entries.specs.{Index.Index, Index.Goes, Index.AreKept, Calls.Delays, Calls.LacksPages, Calls.IsKeptOff}
 use Rattle.row_versions.specs.Versions.{Stays}
 use Rattle.law_stored_rows.specs.Edits.{with_value}
-use Rattle.world.specs.State.{WorldState}
-use Rattle.world.specs.Stores.{StoreGoes}
+use Rattle.world.specs.{State.WorldState, Stores.StoreGoes}
 
 -- no pair has changed anywhere, and no actor's place
 pub record RowsStay (old new : WorldState) : Type 0 where

@@ -1,35 +1,24 @@
 -- What is known of a record that is being changed between its steps, and what each step does.
-use Rattle.std.specs.Prelude.{◌≡◌, ◌≢◌, ◌⊎◌, ℕ, ◌+◌, ◌-◌, ◌^◌, ◌<◌, ◌≤◌, ◌==◌, if◌then◌else◌, true, false, List, [], ◌∷◌, length, slice_get, Option, None, Some}
-use Rattle.inno_types.specs.declared.value.Value.{Value}
-use Rattle.inno_types.specs.declared.value.Schema.{Schema}
+use Rattle.std.specs.Prelude.{◌≡◌, ◌≢◌, ◌⊎◌, ℕ, ◌+◌, ◌-◌, ◌^◌, ◌<◌, ◌≤◌, ◌==◌, if◌then◌else◌, true, false, List, [], ◌∷◌, length, slice_get, Option, None}
+use Rattle.std.specs.Prelude.{Some}
+use Rattle.inno_types.specs.{declared.value.Value.Value, declared.value.Schema.Schema}
 use Rattle.inno_db.specs.declared.change.Change.{Change}
 use Rattle.inno_model.specs.declared.event.Event.TheVariants.{Changed}
-use Rattle.store_api.specs.declared.answers.Version.{Version}
-use Rattle.store_api.specs.declared.answers.Undo.{Undo}
-use Rattle.store_api.specs.declared.moves.Move.{Move}
-use Rattle.store_api.specs.declared.moves.Move.TheVariants.{Done, End}
-use Rattle.entries.specs.Pairs.{value_of}
-use Rattle.entries.specs.Index.{Index, Told, Goes, AreKept}
+use Rattle.store_api.specs.{declared.answers.Version.Version, declared.answers.Undo.Undo, declared.moves.Move.Move, declared.moves.Move.TheVariants.Done}
+use Rattle.store_api.specs.{declared.moves.Move.TheVariants.End}
+use Rattle.entries.specs.{Pairs.value_of, Index.Index, Index.Told, Index.Goes, Index.AreKept}
 use Rattle.row_codec.specs.Rows.{IsRecordOf, version_code}
 use Rattle.txn_table.specs.Txns.{Txns, is_there, id_at, with_id}
-use Rattle.law_stored_rows.specs.Storable.{IsStorable}
-use Rattle.law_stored_rows.specs.Edits.{clustered_index, with_value}
-use Rattle.law_stored_rows.specs.Records.{IsCodeOf, row_shown}
+use Rattle.law_stored_rows.specs.{Storable.IsStorable, Edits.clustered_index, Edits.with_value, Records.IsCodeOf, Records.row_shown}
 use Rattle.world.specs.State.{WorldState, Session, Work, Logged, HasWork}
-use Rattle.world.specs.Stores.{StoreGoes}
-use Rattle.world.specs.Indexes.{KeepsIf}
-use Rattle.world.specs.Undoing.{MakesRoom}
-use Rattle.row_changes.specs.declared.record_change.RecordChange.{RecordChange}
-use Rattle.row_changes.specs.declared.record_change.RecordStage.{RecordStage}
+use Rattle.world.specs.{Stores.StoreGoes, Indexes.KeepsIf, Undoing.MakesRoom}
+use Rattle.row_changes.specs.{declared.record_change.RecordChange.RecordChange, declared.record_change.RecordStage.RecordStage}
+use Rattle.row_changes.specs.{declared.record_change.RecordReached.RecordReached, declared.record_change.RecordReached.TheVariants.Went}
+use Rattle.row_changes.specs.{declared.record_change.RecordReached.TheVariants.Recorded, declared.record_change.RecordReached.TheVariants.Hindered}
+use Rattle.row_changes.specs.{declared.row_edit.RowEdit.RowEdit, declared.row_edit.RowEdit.TheVariants.Put, declared.row_edit.RowEdit.TheVariants.Remove}
+use Rattle.row_changes.specs.{Asides.StepsAside, Entries.IsThere, Pairs.Hinders}
 use Rattle.row_changes.specs.declared.record_change.RecordStage.TheVariants.{Enter, Room, Find, Insert, Replace}
-use Rattle.row_changes.specs.declared.record_change.RecordReached.{RecordReached}
-use Rattle.row_changes.specs.declared.record_change.RecordReached.TheVariants.{Went, Recorded, Hindered}
-use Rattle.row_changes.specs.declared.row_edit.RowEdit.{RowEdit}
-use Rattle.row_changes.specs.declared.row_edit.RowEdit.TheVariants.{Put, Remove}
 use Rattle.row_changes.specs.Edits.{change_of, rows_put, FitsEdit, IsPut, FindsRow, version_by, LacksRow}
-use Rattle.row_changes.specs.Asides.{StepsAside}
-use Rattle.row_changes.specs.Entries.{IsThere}
-use Rattle.row_changes.specs.Pairs.{Hinders}
 
 -- the longest undo record: seven bytes, a key and a value
 abbrev pub most_undo_bytes : ℕ

@@ -1,25 +1,18 @@
 -- What is known of a whole change of a row between its steps, and what each step does.
 use Rattle.std.specs.Prelude.{◌≡◌, ℕ, ◌+◌, ◌-◌, ◌*◌, ◌<◌, List, length, slice_get, Option, None, Some}
-use Rattle.inno_types.specs.declared.value.Value.{Value}
-use Rattle.inno_types.specs.declared.value.Schema.{Schema}
+use Rattle.inno_types.specs.{declared.value.Value.Value, declared.value.Schema.Schema}
 use Rattle.inno_db.specs.Database.{key_of}
 use Rattle.store_api.specs.declared.moves.Move.{Move}
-use Rattle.row_versions.specs.declared.place.Place.{Place}
-use Rattle.row_versions.specs.Chains.{Chains, Pushes}
+use Rattle.row_versions.specs.{declared.place.Place.Place, Chains.Chains, Chains.Pushes}
 use Rattle.world.specs.State.{WorldState, Session, Work, HasWork}
-use Rattle.row_changes.specs.declared.row_edit.RowEdit.{RowEdit}
-use Rattle.row_changes.specs.declared.row_edit.RowEdit.TheVariants.{Put, Remove}
-use Rattle.row_changes.specs.declared.record_change.RecordChange.{RecordChange}
+use Rattle.row_changes.specs.{declared.row_edit.RowEdit.RowEdit, declared.row_edit.RowEdit.TheVariants.Put, declared.row_edit.RowEdit.TheVariants.Remove}
+use Rattle.row_changes.specs.{declared.record_change.RecordChange.RecordChange}
 use Rattle.row_changes.specs.declared.record_change.RecordReached.TheVariants as records
-use Rattle.row_changes.specs.declared.row_change.RowChange.{RowChange}
-use Rattle.row_changes.specs.declared.row_change.RowChange.TheVariants.{Record, Keys}
-use Rattle.row_changes.specs.declared.reached.Reached.{Reached}
-use Rattle.row_changes.specs.declared.reached.Reached.TheVariants.{Went, Done, Hindered}
-use Rattle.row_changes.specs.Pairs.{RowsStay}
-use Rattle.row_changes.specs.Asides.{StepsAside}
+use Rattle.row_changes.specs.{declared.row_change.RowChange.RowChange, declared.row_change.RowChange.TheVariants.Record}
+use Rattle.row_changes.specs.{declared.row_change.RowChange.TheVariants.Keys, declared.reached.Reached.Reached, declared.reached.Reached.TheVariants.Went}
+use Rattle.row_changes.specs.{declared.reached.Reached.TheVariants.Done, declared.reached.Reached.TheVariants.Hindered, Pairs.RowsStay, Asides.StepsAside}
+use Rattle.row_changes.specs.{Told.HasRows, Keys.IsChangingKeys, Keys.GoesOnWithKeys, Keys.HindersKeys, Keys.keys_steps}
 use Rattle.row_changes.specs.Records.{IsTable, IsChangingRecord, GoesOnWithRecord, HindersRecord, ChangesRecord, record_steps, id_for}
-use Rattle.row_changes.specs.Told.{HasRows}
-use Rattle.row_changes.specs.Keys.{IsChangingKeys, GoesOnWithKeys, HindersKeys, keys_steps}
 
 -- the row that readers of the newest rows find after it
 abbrev pub row_after : RowEdit → Option (List Value)

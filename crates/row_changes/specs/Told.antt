@@ -1,8 +1,7 @@
 -- When a world's indexes and versions are certain rows.
 use Rattle.row_versions.specs.Chains.{Chains}
 use Rattle.law_stored_rows.specs.Tables.{Said, AreCodedAs, AreCoded}
-use Rattle.world.specs.State.{WorldState}
-use Rattle.world.specs.Told.{IsTold, pairs_of}
+use Rattle.world.specs.{State.WorldState, Told.IsTold, Told.pairs_of}
 
 -- the indexes, and the versions behind roll pointers, are these rows, of which the keys say this
 abbrev pub AreRowsAs : Chains → Said → WorldState → Type 0

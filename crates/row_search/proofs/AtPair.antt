@@ -2,46 +2,27 @@
 use Rattle.std.proofs.Common.{Vec, Global, zero, suc, ◌≡◌, ◌≢◌, ◌∙◌, sym, ap, subst, refl, ℕ, ◌<◌, ◌≤◌, ◌+◌, Bool, true, false, List, [], ◌∷◌, ◌++◌, length}
 use Rattle.std.proofs.Common.{Option, Some, inl, inr, arith}
 use Rattle.std.specs.Prelude.{IsTrue, option_map}
-use Rattle.inno_types.specs.declared.value.Value.{Value}
-use Rattle.inno_types.specs.declared.value.Schema.{Schema}
+use Rattle.inno_types.specs.{declared.value.Value.Value, declared.value.Schema.Schema}
 use Rattle.store_api.specs.declared.answers.Version.{Version as Coded}
-use Rattle.entries.specs.Pairs.{Pair}
+use Rattle.entries.specs.Pairs.{Pair, key_cmp}
 use Rattle.inno_types.specs.Order.{IsBelow}
-use Rattle.row_versions.specs.declared.kept.Kept.{Kept}
-use Rattle.row_versions.specs.Versions.{IsPointer}
-use Rattle.row_versions.specs.declared.version.Version.{Version}
-use Rattle.row_versions.specs.Chains.{older}
-use Rattle.law_stored_rows.specs.Records.{shown, IsCodeOf, LeadTo, IsRecordWith}
-use Rattle.world.specs.State.{WorldState, index_of}
-use Rattle.world.specs.Undoing.{IsUnchanged}
-use Rattle.row_search.specs.declared.scan.Scan.{Scan}
+use Rattle.row_versions.specs.{declared.kept.Kept.Kept, Versions.IsPointer, declared.version.Version.Version, Chains.older}
+use Rattle.law_stored_rows.specs.{Records.shown, Records.IsCodeOf, Records.LeadTo, Records.IsRecordWith, Entries.value_in, Tables.HasItsColumns}
+use Rattle.world.specs.{State.WorldState, State.index_of, Undoing.IsUnchanged}
+use Rattle.row_search.specs.{declared.scan.Scan.Scan, Sights.sees_by, Sights.rows_seen, FoundRows.AreFound, Ranges.primary_part, Ranges.lies_in}
+use Rattle.row_search.specs.{Ranges.lies_up_to, Tables.ShowsRows, declared.glance.Glance.Glance, declared.search.RowSearch.RowSearch, Visits.glance_at}
+use Rattle.row_search.specs.{Visits.phase_after, declared.found.FoundRow.FoundRow, Owners.TellsSame, Owners.IsOwner, Steps.IsSameScan, Steps.GoesOn}
 use Rattle.row_search.specs.declared.phase.Phase.TheVariants.{Follow, Look, Walk, Keep, Sort, Leave}
-use Rattle.row_search.specs.Sights.{sees_by, rows_seen}
-use Rattle.row_search.specs.FoundRows.{AreFound}
-use Rattle.row_search.specs.Ranges.{primary_part, lies_in, lies_up_to}
-use Rattle.row_search.specs.Tables.{ShowsRows}
 use Rattle.row_search.specs.Searches.{place_in, IsSearching, IsComing, IsSeenAt, Finds, HasToGo, pairs_behind}
-use Rattle.row_search.specs.declared.glance.Glance.{Glance}
-use Rattle.row_search.specs.declared.search.RowSearch.{RowSearch}
-use Rattle.row_search.specs.Visits.{glance_at, phase_after}
 use Rattle.inno_db.specs.Database.{key_of}
 use Rattle.key_codec.specs.Keys.{entry_code}
 use Rattle.sql_plan.specs.Visits.{primary_key, index_key}
-use Rattle.law_stored_rows.specs.Entries.{value_in}
-use Rattle.law_stored_rows.specs.Tables.{HasItsColumns}
-use Rattle.row_search.specs.declared.found.FoundRow.{FoundRow}
-use Rattle.row_search.specs.Owners.{TellsSame, IsOwner}
 use Rattle.row_search.proofs.Keys.{IsHome, home, fits_in, keyed_is, key_there_at}
-use Rattle.row_search.specs.Steps.{IsSameScan, GoesOn}
-use Rattle.row_search.proofs.Called.{OfRecord}
-use Rattle.row_search.proofs.Worlds.{unchanged_itself, moves_itself}
+use Rattle.row_search.proofs.{Called.OfRecord, Worlds.unchanged_itself, Worlds.moves_itself, Given.searching_on, Exits.same_scan, InOrder.permuted}
+use Rattle.row_search.proofs.{InOrder.rises}
 use Rattle.row_search.proofs.Ways.{IsOnWay, code_recorded, code_led, from_record, from_pointer, may_ask, nothing_led}
-use Rattle.row_search.proofs.Given.{searching_on}
-use Rattle.row_search.proofs.Exits.{same_scan}
 use Rattle.std.specs.Ordering.{is_lt}
 use Rattle.std.specs.List.Sorted.{IsPermutation, IsSortedBy}
-use Rattle.entries.specs.Pairs.{key_cmp}
-use Rattle.row_search.proofs.InOrder.{permuted, rises}
 use Rattle.row_search.proofs.Visited.{after_goes, glance_goes, follows_on, is_walked, up_to_place, no_row_there, other_row_there, own_row_there}
 
 -- ---- look

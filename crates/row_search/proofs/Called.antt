@@ -1,19 +1,12 @@
 -- What the calls of a step have answered, said of what the step was given.
 use Rattle.std.proofs.Common.{◌≡◌, subst, ℕ, Bool, List}
-use Rattle.inno_types.specs.declared.value.Value.{Value}
-use Rattle.inno_types.specs.declared.value.Schema.{Schema}
+use Rattle.inno_types.specs.{declared.value.Value.Value, declared.value.Schema.Schema}
 use Rattle.store_api.specs.declared.moves.Move.{Move}
 use Rattle.store_api.specs.declared.answers.Version.{Version as Coded}
 use Rattle.row_codec.specs.Rows.{IsRecordOf, IsVersion}
-use Rattle.entries.specs.Index.{Index}
-use Rattle.entries.specs.Calls.{Seeks, Follows, Fetches}
-use Rattle.world.specs.State.{WorldState}
-use Rattle.world.specs.Indexes.{Calls}
-use Rattle.row_search.specs.declared.scan.Scan.{Scan}
-use Rattle.row_search.specs.declared.phase.Phase.{Phase}
-use Rattle.row_search.specs.declared.search.RowSearch.{RowSearch}
-use Rattle.row_search.specs.Owners.{IsOwner}
-use Rattle.row_search.specs.Steps.{GoesOn}
+use Rattle.entries.specs.{Index.Index, Calls.Seeks, Calls.Follows, Calls.Fetches}
+use Rattle.world.specs.{State.WorldState, Indexes.Calls}
+use Rattle.row_search.specs.{declared.scan.Scan.Scan, declared.phase.Phase.Phase, declared.search.RowSearch.RowSearch, Owners.IsOwner, Steps.GoesOn}
 use Rattle.row_search.proofs.Worlds.{recast}
 
 pub seek_called : {i j : ℕ} {from bound : List ℕ} {a : Move} {old new : WorldState} (actor : ℕ) (b : Move) → from ≡ bound → i ≡ j → a ≡ b

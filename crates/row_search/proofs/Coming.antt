@@ -5,26 +5,20 @@ use Rattle.std.specs.List.{AllByRecursion}
 use Rattle.std.specs.Ordering.{is_le, is_lt}
 use Rattle.std.specs.declared.cmp.Ordering.TheVariants.{Less, Equal}
 use Rattle.std.proofs.lemmas.Bool.{true≢false}
-use Rattle.inno_types.specs.declared.value.Value.{Value}
-use Rattle.inno_types.specs.declared.value.Schema.{Schema}
+use Rattle.inno_types.specs.{declared.value.Value.Value, declared.value.Schema.Schema, Ranges.is_from, Ranges.is_up_to, Ranges.is_within}
 use Rattle.inno_db.specs.Database.{key_of}
 use Rattle.key_codec.specs.Keys.{HasKey, key_code}
 use Rattle.entries.specs.Pairs.{Pair, key_cmp, IsFirstOf, NonePasses}
 use Rattle.entries.proofs.Order.{key_cmp_total, key_itself}
 use Rattle.law_stored_rows.specs.Entries.{is_same_value}
 use Rattle.law_stored_rows.proofs.Values.{value_itself, one_key}
-use Rattle.inno_types.specs.Ranges.{is_from, is_up_to, is_within}
 use Rattle.sql_plan.specs.Visits.{kind_at, index_key}
-use Rattle.row_search.specs.declared.found.FoundRow.{FoundRow}
-use Rattle.row_search.specs.declared.scan.Scan.{Scan}
-use Rattle.row_search.specs.FoundRows.{IsSeenRow, AreFound}
+use Rattle.row_search.specs.{declared.found.FoundRow.FoundRow, declared.scan.Scan.Scan, FoundRows.IsSeenRow, FoundRows.AreFound, Tables.HaveKeys}
+use Rattle.row_search.specs.{Searches.IsComing, Searches.IsSeenAt}
 use Rattle.row_search.specs.Ranges.{bound_bytes, primary_part, lies_in, lies_up_to, lies_below}
-use Rattle.row_search.specs.Tables.{HaveKeys}
-use Rattle.row_search.specs.Searches.{IsComing, IsSeenAt}
 use Rattle.row_search.proofs.KeyOrder.{le_lt, not_lt, not_le, le_not, lt_less, le_apart, begins_before, up_to_below}
-use Rattle.row_search.proofs.Keys.{IsHome, one_place, part_is}
-use Rattle.row_search.proofs.Lists.{all_so, all_both}
-use Rattle.row_search.proofs.Rows.{test_cases, found_same, found_pass, found_push}
+use Rattle.row_search.proofs.{Keys.IsHome, Keys.one_place, Keys.part_is, Lists.all_so, Lists.all_both, Rows.test_cases, Rows.found_same, Rows.found_pass}
+use Rattle.row_search.proofs.{Rows.found_push}
 
 both_tests : (a b : Bool) → (a && b) ≡ true → (a ≡ true) × (b ≡ true)
 both_tests true true e = (refl, refl)

@@ -2,35 +2,23 @@
 use Rattle.std.proofs.Common.{◌≡◌, ◌≢◌, ◌∙◌, sym, ap, subst, refl, ℕ, ◌<◌, ◌≤◌, Bool, true, false, List, [], ◌∷◌, length, Option, None, Some, inl, arith}
 use Rattle.std.specs.Prelude.{IfSome, is_some, MatchOption}
 use Rattle.std.specs.Ordering.{is_le, is_lt}
-use Rattle.inno_types.specs.declared.value.Value.{Value}
-use Rattle.inno_types.specs.declared.value.Schema.{Schema}
+use Rattle.inno_types.specs.{declared.value.Value.Value, declared.value.Schema.Schema, Order.IsBelow}
 use Rattle.entries.specs.Pairs.{Pair, AreRising, key_cmp, value_of, first_from, IsFirstOf, NonePasses}
-use Rattle.inno_types.specs.Order.{IsBelow}
 use Rattle.entries.specs.Calls.{HasKey as IsAtKey, Seeks, Follows, next_of}
-use Rattle.store_api.specs.declared.moves.Move.{Move}
-use Rattle.store_api.specs.declared.moves.Move.TheVariants.{At, End}
+use Rattle.store_api.specs.{declared.moves.Move.Move, declared.moves.Move.TheVariants.At, declared.moves.Move.TheVariants.End}
 use Rattle.entries.proofs.Found.{first_is}
-use Rattle.row_versions.specs.declared.kept.Kept.{Kept}
-use Rattle.row_versions.specs.Versions.{Stays}
-use Rattle.row_versions.specs.declared.version.Version.{Version}
+use Rattle.row_versions.specs.{declared.kept.Kept.Kept, Versions.Stays, declared.version.Version.Version}
 use Rattle.law_stored_rows.specs.Records.{LeadTo, IsRecordWith}
-use Rattle.world.specs.State.{WorldState, index_of}
-use Rattle.world.specs.Indexes.{Calls}
-use Rattle.world.specs.Undoing.{IsUnchanged}
-use Rattle.row_search.specs.declared.scan.Scan.{Scan}
-use Rattle.row_search.specs.declared.phase.Phase.{Phase}
+use Rattle.world.specs.{State.WorldState, State.index_of, Indexes.Calls, Undoing.IsUnchanged}
+use Rattle.row_search.specs.{declared.scan.Scan.Scan, declared.phase.Phase.Phase, Sights.rows_seen, FoundRows.AreFound, Tables.most_versions}
+use Rattle.row_search.specs.{Tables.HoldsTable, Tables.ShowsRows, Visits.phase_at, Visits.IsGivenPhase}
 use Rattle.row_search.specs.declared.phase.Phase.TheVariants.{Seek, Follow, Fetch, Look, Walk, Keep, Sort, Leave}
-use Rattle.row_search.specs.Sights.{rows_seen}
-use Rattle.row_search.specs.FoundRows.{AreFound}
 use Rattle.row_search.specs.Ranges.{bound_bytes, primary_part, lies_in, lies_up_to, lies_below}
-use Rattle.row_search.specs.Tables.{most_versions, HoldsTable, ShowsRows}
 use Rattle.row_search.specs.Searches.{place_in, PhaseHolds, IsSearching, Finds, HasToGo, pairs_behind}
-use Rattle.row_search.specs.Visits.{phase_at, IsGivenPhase}
 use Rattle.row_search.specs.Steps.{OnlyMoves, IsSameScan, GoesOn, Waits, PhaseWaits}
-use Rattle.row_search.proofs.Worlds.{call_moves, call_unchanged, moves_unchanged, seek_put_off}
-use Rattle.row_search.proofs.Coming.{comes_first, none_first, comes_next, none_next}
-use Rattle.row_search.proofs.Counts.{fewer_behind_first, fewer_behind_next}
-use Rattle.row_search.proofs.Given.{searching_on, holds_at, finds_at, nears_at}
+use Rattle.row_search.proofs.{Worlds.call_moves, Worlds.call_unchanged, Worlds.moves_unchanged, Worlds.seek_put_off, Coming.comes_first, Coming.none_first}
+use Rattle.row_search.proofs.{Coming.comes_next, Coming.none_next, Counts.fewer_behind_first, Counts.fewer_behind_next, Given.searching_on, Given.holds_at}
+use Rattle.row_search.proofs.{Given.finds_at, Given.nears_at}
 
 pub same_scan : (scan : Scan) → IsSameScan scan scan
 same_scan scan = record { table = refl; which = refl; range = refl; sight = refl }

@@ -1,37 +1,22 @@
 -- How the step ends that reads the clustered record of an entry.
 use Rattle.std.proofs.Common.{◌≡◌, ◌≢◌, ◌∙◌, sym, ap, subst, refl, ℕ, Bool, List, [], ◌∷◌, Option, None, Some, inl, inr, arith}
-use Rattle.inno_types.specs.declared.value.Value.{Value}
-use Rattle.inno_types.specs.declared.value.Kind.{Kind}
-use Rattle.inno_types.specs.declared.value.Schema.{Schema}
+use Rattle.inno_types.specs.{declared.value.Value.Value, declared.value.Kind.Kind, declared.value.Schema.Schema, Order.IsBelow}
 use Rattle.key_codec.specs.Keys.{HasKey, key_code}
 use Rattle.entries.specs.Pairs.{Pair, value_of}
-use Rattle.inno_types.specs.Order.{IsBelow}
 use Rattle.entries.specs.Calls.{HasKey as IsAtKey, Fetches}
-use Rattle.store_api.specs.declared.moves.Move.{Move}
-use Rattle.store_api.specs.declared.moves.Move.TheVariants.{End, Done}
-use Rattle.row_versions.specs.declared.kept.Kept.{Kept}
-use Rattle.row_versions.specs.declared.version.Version.{Version}
-use Rattle.row_versions.specs.Chains.{first_seen}
+use Rattle.store_api.specs.{declared.moves.Move.Move, declared.moves.Move.TheVariants.End, declared.moves.Move.TheVariants.Done}
+use Rattle.row_versions.specs.{declared.kept.Kept.Kept, declared.version.Version.Version, Chains.first_seen}
 use Rattle.law_stored_rows.specs.Records.{IsRecordWith, IsClustered}
 use Rattle.law_stored_rows.proofs.RowRecords.{no_record}
 use Rattle.sql_plan.specs.Visits.{kind_at, index_key}
-use Rattle.world.specs.State.{WorldState, index_of}
-use Rattle.world.specs.Indexes.{Calls}
-use Rattle.world.specs.Undoing.{IsUnchanged}
-use Rattle.row_search.specs.declared.scan.Scan.{Scan}
-use Rattle.row_search.specs.declared.phase.Phase.TheVariants.{Follow, Fetch, Look}
-use Rattle.row_search.specs.Sights.{sees_by, rows_seen}
-use Rattle.row_search.specs.Ranges.{primary_part}
-use Rattle.row_search.specs.Tables.{most_versions, HoldsTable, ShowsRows}
-use Rattle.row_search.specs.Searches.{place_in, IsSearching, IsRecordKept, pairs_behind}
-use Rattle.row_search.specs.Steps.{OnlyMoves, GoesOn, Waits}
-use Rattle.row_search.proofs.Worlds.{call_unchanged, moves_unchanged, fetch_put_off}
-use Rattle.row_search.proofs.Keys.{IsHome, home, part_is, kind_is}
-use Rattle.row_search.proofs.Coming.{passes_by}
-use Rattle.row_search.proofs.Ways.{at_key}
-use Rattle.row_search.proofs.Given.{searching_on}
-use Rattle.row_search.proofs.Exits.{same_scan, told_at, waits}
-use Rattle.row_search.proofs.Visited.{none_some, follows_on, is_walked, up_to_place}
+use Rattle.world.specs.{State.WorldState, State.index_of, Indexes.Calls, Undoing.IsUnchanged}
+use Rattle.row_search.specs.{declared.scan.Scan.Scan, declared.phase.Phase.TheVariants.Follow, declared.phase.Phase.TheVariants.Fetch}
+use Rattle.row_search.specs.{declared.phase.Phase.TheVariants.Look, Sights.sees_by, Sights.rows_seen, Ranges.primary_part, Tables.most_versions}
+use Rattle.row_search.specs.{Tables.HoldsTable, Tables.ShowsRows, Searches.place_in, Searches.IsSearching, Searches.IsRecordKept, Searches.pairs_behind}
+use Rattle.row_search.specs.{Steps.OnlyMoves, Steps.GoesOn, Steps.Waits}
+use Rattle.row_search.proofs.{Worlds.call_unchanged, Worlds.moves_unchanged, Worlds.fetch_put_off, Keys.IsHome, Keys.home, Keys.part_is, Keys.kind_is}
+use Rattle.row_search.proofs.{Coming.passes_by, Ways.at_key, Given.searching_on, Exits.same_scan, Exits.told_at, Exits.waits, Visited.none_some}
+use Rattle.row_search.proofs.{Visited.follows_on, Visited.is_walked, Visited.up_to_place}
 
 -- a value whose key has no record has no row
 no_row_at : (schema : Schema) (kept : ℕ → Option Kept) (pairs : List Pair) (versions_at : Value → List Version) (seen : ℕ → Bool) (value : Value)

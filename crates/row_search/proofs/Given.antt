@@ -4,32 +4,20 @@ use Rattle.std.proofs.Common.{inr, arith}
 use Rattle.std.specs.Prelude.{IfSome, is_some}
 use Rattle.std.proofs.lemmas.Bool.{true≢false}
 use Rattle.std.proofs.lemmas.Bool.Decides.{nat_tests}
-use Rattle.inno_types.specs.declared.value.Value.{Value}
-use Rattle.inno_types.specs.declared.value.Schema.{Schema}
+use Rattle.inno_types.specs.{declared.value.Value.Value, declared.value.Schema.Schema, Order.IsBelow}
 use Rattle.entries.specs.Pairs.{Pair, AreRising, value_of}
-use Rattle.inno_types.specs.Order.{IsBelow}
 use Rattle.entries.specs.Calls.{HasKey as IsAtKey}
-use Rattle.row_versions.specs.declared.kept.Kept.{Kept}
-use Rattle.row_versions.specs.declared.version.Version.{Version}
-use Rattle.row_versions.specs.Chains.{first_seen}
+use Rattle.row_versions.specs.{declared.kept.Kept.Kept, declared.version.Version.Version, Chains.first_seen}
 use Rattle.law_stored_rows.specs.Records.{IsRecordWith}
 use Rattle.inno_types.specs.Ranges.{is_from, is_up_to}
 use Rattle.world.specs.State.{WorldState, index_of}
-use Rattle.row_search.specs.declared.side.Side.{Side}
-use Rattle.row_search.specs.declared.side.Side.TheVariants.{Before, Within, Behind}
-use Rattle.row_search.specs.declared.scan.Scan.{Scan}
-use Rattle.row_search.specs.declared.phase.Phase.{Phase}
-use Rattle.row_search.specs.declared.phase.Phase.TheVariants.{Fetch, Look}
-use Rattle.row_search.specs.Sights.{sees_by, rows_seen}
-use Rattle.row_search.specs.FoundRows.{AreFound}
-use Rattle.row_search.specs.Ranges.{IsOnSide, primary_part, lies_up_to, lies_below}
-use Rattle.row_search.specs.Tables.{most_versions, ShowsTable, HoldsTable, ShowsRows}
+use Rattle.row_search.specs.{declared.side.Side.Side, declared.side.Side.TheVariants.Before, declared.side.Side.TheVariants.Within}
+use Rattle.row_search.specs.{declared.side.Side.TheVariants.Behind, declared.scan.Scan.Scan, declared.phase.Phase.Phase}
+use Rattle.row_search.specs.{declared.phase.Phase.TheVariants.Fetch, declared.phase.Phase.TheVariants.Look, Sights.sees_by, Sights.rows_seen}
+use Rattle.row_search.specs.{FoundRows.AreFound, Ranges.IsOnSide, Ranges.primary_part, Ranges.lies_up_to, Ranges.lies_below, Tables.most_versions}
+use Rattle.row_search.specs.{Tables.ShowsTable, Tables.HoldsTable, Tables.ShowsRows, Visits.phase_at, Steps.OnlyMoves}
 use Rattle.row_search.specs.Searches.{place_in, PhaseHolds, IsSearching, IsRecordKept, IsComing, IsSeenAmong, PhaseFinds, HasToGo, pairs_behind}
-use Rattle.row_search.specs.Visits.{phase_at}
-use Rattle.row_search.specs.Steps.{OnlyMoves}
-use Rattle.row_search.proofs.Keys.{whole_key}
-use Rattle.row_search.proofs.Coming.{is_in, comes_behind, comes_before}
-use Rattle.row_search.proofs.Ways.{at_key}
+use Rattle.row_search.proofs.{Keys.whole_key, Coming.is_in, Coming.comes_behind, Coming.comes_before, Ways.at_key}
 
 -- ---- what is told of one index twice is one thing
 

@@ -1,13 +1,9 @@
 -- What a reader sees of a version, told by the head of its record.
 use Rattle.std.proofs.Common.{◌≡◌, ◌∙◌, sym, ap, subst, Bool, true, false, cond}
 use Rattle.store_api.specs.declared.answers.Version.{Version}
-use Rattle.row_codec.specs.declared.read.Head.{Head}
-use Rattle.row_codec.specs.Heads.{version_head}
-use Rattle.row_search.specs.declared.glance.Glance.{Glance}
-use Rattle.row_search.specs.declared.glance.Glance.TheVariants.{Older, Deleted, Row}
-use Rattle.row_search.specs.declared.sight.Sight.{Sight}
-use Rattle.row_search.specs.Sights.{sees_by}
-use Rattle.row_search.specs.Visits.{glance_at}
+use Rattle.row_codec.specs.{declared.read.Head.Head, Heads.version_head}
+use Rattle.row_search.specs.{declared.glance.Glance.Glance, declared.glance.Glance.TheVariants.Older, declared.glance.Glance.TheVariants.Deleted}
+use Rattle.row_search.specs.{declared.glance.Glance.TheVariants.Row, declared.sight.Sight.Sight, Sights.sees_by, Visits.glance_at}
 
 module _ (sight : Sight) (head : Head) (version : Version) (same : head ≡ version_head version) where
   abbrev told_by : Bool → Glance

@@ -1,6 +1,6 @@
 -- Rows that were found, once they are in the order of their keys.
-use Rattle.std.proofs.Common.{◌≡◌, ◌≢◌, ◌∙◌, sym, ap, subst, refl, ℕ, suc, ◌+◌, ◌≤◌, Bool, true, false, cond, List, [], ◌∷◌, length, Option, None, Some, arith}
-use Rattle.std.proofs.Common.{slice_index_or}
+use Rattle.std.proofs.Common.{◌≡◌, ◌≢◌, ◌∙◌, sym, ap, subst, refl, ℕ, suc, ◌+◌, ◌≤◌, Bool, true, false, cond, List, [], ◌∷◌, length, Option, None, Some}
+use Rattle.std.proofs.Common.{arith, slice_index_or}
 use Rattle.std.specs.List.{AllByRecursion}
 use Rattle.std.specs.List.Sorted.{IsPermutation, IsSortedBy}
 use Rattle.std.specs.Ordering.{is_lt}
@@ -10,8 +10,7 @@ use Rattle.std.proofs.lemmas.Bool.{true≢false}
 use Rattle.std.proofs.lemmas.List.Elements.{recursion_from_All, All-from_recursion}
 use Rattle.std.proofs.lemmas.List.Sorted.{All-permutation, sum_by-IsPermutation}
 use Rattle.std.proofs.lemmas.List.Sums.{sum_by-cons}
-use Rattle.inno_types.specs.declared.value.Value.{Value}
-use Rattle.inno_types.specs.declared.value.Schema.{Schema}
+use Rattle.inno_types.specs.{declared.value.Value.Value, declared.value.Schema.Schema}
 use Rattle.inno_db.specs.Database.{key_of}
 use Rattle.key_codec.specs.Keys.{HasKey}
 use Rattle.entries.specs.Pairs.{key_cmp}
@@ -21,9 +20,7 @@ use Rattle.law_stored_rows.proofs.Values.{value_itself, one_key}
 use Rattle.sql_plan.specs.Visits.{kind_at, primary_key}
 use Rattle.row_search.specs.declared.found.FoundRow.{FoundRow}
 use Rattle.row_search.specs.FoundRows.{IsSeenRow, times_found, once_if, RiseByKey, AreFound}
-use Rattle.row_search.proofs.KeyOrder.{flipped}
-use Rattle.row_search.proofs.Keys.{IsHome}
-use Rattle.row_search.proofs.Lists.{all_so}
+use Rattle.row_search.proofs.{KeyOrder.flipped, Keys.IsHome, Lists.all_so}
 
 pub permuted : (schema : Schema) (row_at : Value → Option (List Value)) (which : ℕ) (p : List Value → Bool) (rows sorted : List FoundRow) → which ≢ 0
     → IsPermutation rows sorted → AreFound schema which row_at p rows → AreFound schema which row_at p sorted

@@ -5,11 +5,10 @@ use Rattle.std.specs.Cmp.{IsTotalOrder, nat_cmp_total}
 use Rattle.std.specs.Cmp.Lexicographic.{slice_cmp, lists_total}
 use Rattle.std.specs.declared.cmp.Ordering.{Ordering}
 use Rattle.std.specs.declared.cmp.Ordering.TheVariants.{Less, Equal, Greater}
-use Rattle.inno_types.specs.declared.stmt.Bound.{Bound}
-use Rattle.inno_types.specs.declared.stmt.Bound.TheVariants.{Open, With, Without}
+use Rattle.inno_types.specs.{declared.stmt.Bound.Bound, declared.stmt.Bound.TheVariants.Open, declared.stmt.Bound.TheVariants.With}
+use Rattle.inno_types.specs.{declared.stmt.Bound.TheVariants.Without, Ranges.beside, Ranges.is_from, Ranges.is_up_to}
 use Rattle.entries.specs.Pairs.{key_cmp}
 use Rattle.entries.proofs.Order.{key_cmp_is, same_key}
-use Rattle.inno_types.specs.Ranges.{beside, is_from, is_up_to}
 use Rattle.row_search.specs.Ranges.{bound_bytes}
 
 -- ---- any total order

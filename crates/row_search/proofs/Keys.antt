@@ -5,23 +5,16 @@ use Rattle.std.specs.Prelude.{IfSome}
 use Rattle.std.specs.List.{AllByRecursion}
 use Rattle.std.proofs.lemmas.Bool.Decides.{nat_tests}
 use Rattle.std.proofs.lemmas.List.Elements.{recursion_from_All}
-use Rattle.inno_types.specs.declared.value.Value.{Value}
-use Rattle.inno_types.specs.declared.value.Column.{Column}
-use Rattle.inno_types.specs.declared.value.Key.{Key}
-use Rattle.inno_types.specs.declared.value.Kind.{Kind}
-use Rattle.inno_types.specs.declared.value.Schema.{Schema}
-use Rattle.inno_types.specs.declared.value.Value.TheVariants.{Null, Int, Text}
+use Rattle.inno_types.specs.{declared.value.Value.Value, declared.value.Column.Column, declared.value.Key.Key, declared.value.Kind.Kind}
+use Rattle.inno_types.specs.{declared.value.Schema.Schema, declared.value.Value.TheVariants.Null, declared.value.Value.TheVariants.Int}
+use Rattle.inno_types.specs.{declared.value.Value.TheVariants.Text}
 use Rattle.key_codec.specs.Keys.{HasKey, IsOfKindOrNull, key_code, key_width, entry_front, entry_code}
 use Rattle.row_codec.specs.Rows.{FitsColumn, IsRowOf}
 use Rattle.key_codec.proofs.Lengths.{length-key_code}
 use Rattle.entries.specs.Pairs.{Pair}
-use Rattle.row_versions.specs.declared.kept.Kept.{Kept}
-use Rattle.row_versions.specs.declared.version.Version.{Version}
-use Rattle.row_versions.specs.Chains.{first_seen}
-use Rattle.law_stored_rows.specs.Entries.{value_in}
-use Rattle.law_stored_rows.specs.Records.{IsClustered, IsRowAt, IsSomeKey}
-use Rattle.law_stored_rows.proofs.Values.{one_key}
-use Rattle.law_stored_rows.proofs.Found.{rows_at_home}
+use Rattle.row_versions.specs.{declared.kept.Kept.Kept, declared.version.Version.Version, Chains.first_seen}
+use Rattle.law_stored_rows.specs.{Entries.value_in, Records.IsClustered, Records.IsRowAt, Records.IsSomeKey}
+use Rattle.law_stored_rows.proofs.{Values.one_key, Found.rows_at_home}
 use Rattle.sql_plan.specs.Visits.{kind_if, kind_at, primary_key, entry_if, index_key}
 use Rattle.row_search.specs.Ranges.{primary_part}
 

@@ -7,25 +7,16 @@ use Rattle.std.specs.FinMap.{find, is_sorted}
 use Rattle.std.specs.FinMap.Entries.{below_all, same_entries}
 use Rattle.std.specs.declared.cmp.Ordering.TheVariants.{Less}
 use Rattle.std.proofs.lemmas.List.Sums.{sum_by-cons}
-use Rattle.inno_types.specs.declared.value.Value.{Value}
-use Rattle.inno_types.specs.declared.value.Schema.{Schema}
-use Rattle.inno_types.specs.declared.stmt.Filter.{Filter}
-use Rattle.inno_db.specs.Database.{key_of, value_cmp}
-use Rattle.inno_db.specs.Conditions.{matches, truth_of, is_true}
-use Rattle.inno_db.specs.declared.truth.Truth.{Truth}
-use Rattle.inno_db.specs.declared.truth.Truth.TheVariants.{True, False, Unknown}
+use Rattle.inno_types.specs.{declared.value.Value.Value, declared.value.Schema.Schema, declared.stmt.Filter.Filter, Ranges.is_within}
+use Rattle.inno_db.specs.{Database.key_of, Database.value_cmp, Conditions.matches, Conditions.truth_of, Conditions.is_true, declared.truth.Truth.Truth}
+use Rattle.inno_db.specs.{declared.truth.Truth.TheVariants.True, declared.truth.Truth.TheVariants.False, declared.truth.Truth.TheVariants.Unknown}
 use Rattle.entries.specs.Pairs.{key_cmp}
 use Rattle.law_stored_rows.specs.Entries.{is_same_value}
-use Rattle.law_stored_rows.proofs.Values.{value_total, same_value}
-use Rattle.law_stored_rows.proofs.FirstPlaces.{keys_order}
-use Rattle.sql_plan.specs.declared.choice.Plan.{Plan}
-use Rattle.inno_types.specs.Ranges.{is_within}
-use Rattle.sql_plan.specs.Visits.{kind_at, primary_key, index_key}
-use Rattle.sql_plan.specs.Covers.{CoversMatches}
+use Rattle.law_stored_rows.proofs.{Values.value_total, Values.same_value, FirstPlaces.keys_order}
+use Rattle.sql_plan.specs.{declared.choice.Plan.Plan, Visits.kind_at, Visits.primary_key, Visits.index_key, Covers.CoversMatches}
 use Rattle.row_search.specs.declared.found.FoundRow.{FoundRow}
 use Rattle.row_search.specs.FoundRows.{IsSeenRow, times_found, once_if, RiseByKey, AreFound}
-use Rattle.row_search.proofs.Keys.{IsHome, fits_in}
-use Rattle.row_search.proofs.Others.{bits_in}
+use Rattle.row_search.proofs.{Keys.IsHome, Keys.fits_in, Others.bits_in}
 
 -- the rows behind their primary values
 abbrev placed : Schema → List FoundRow → List (Value × List Value)

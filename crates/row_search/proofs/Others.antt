@@ -5,32 +5,19 @@ use Rattle.std.specs.Prelude.{IsTrue, is_some, All}
 use Rattle.std.specs.List.{list_any}
 use Rattle.std.proofs.lemmas.Bool.{or_left, or_right}
 use Rattle.std.proofs.lemmas.List.Elements.{All-head, All-tail}
-use Rattle.inno_types.specs.declared.value.Value.{Value}
-use Rattle.inno_types.specs.declared.value.Kind.{Kind}
-use Rattle.inno_types.specs.declared.value.Key.{Key}
-use Rattle.inno_types.specs.declared.value.Schema.{Schema}
+use Rattle.inno_types.specs.{declared.value.Value.Value, declared.value.Kind.Kind, declared.value.Key.Key, declared.value.Schema.Schema}
 use Rattle.key_codec.specs.Keys.{HasKey, HasEntry, Has64Bits, key_code, entry_code}
 use Rattle.entries.specs.Pairs.{Pair, value_of}
-use Rattle.row_versions.specs.declared.kept.Kept.{Kept}
-use Rattle.row_versions.specs.declared.version.Version.{Version}
-use Rattle.row_versions.specs.Chains.{first_seen, newest}
-use Rattle.law_stored_rows.specs.Entries.{value_in, has_value, HasEntries}
-use Rattle.law_stored_rows.specs.Records.{IsRecordWith, IsClustered, KeepsMore}
-use Rattle.law_stored_rows.proofs.Values.{value_itself}
-use Rattle.law_stored_rows.proofs.RowRecords.{leads_still, no_record}
+use Rattle.row_versions.specs.{declared.kept.Kept.Kept, declared.version.Version.Version, Chains.first_seen, Chains.newest}
+use Rattle.law_stored_rows.specs.{Entries.value_in, Entries.has_value, Entries.HasEntries, Records.IsRecordWith, Records.IsClustered, Records.KeepsMore}
+use Rattle.law_stored_rows.proofs.{Values.value_itself, RowRecords.leads_still, RowRecords.no_record}
 use Rattle.sql_plan.specs.Visits.{kind_at, index_key}
 use Rattle.world.specs.State.{WorldState}
-use Rattle.row_search.specs.declared.sight.Sight.{Sight}
-use Rattle.row_search.specs.declared.scan.Scan.{Scan}
-use Rattle.row_search.specs.declared.phase.Phase.{Phase}
+use Rattle.row_search.specs.{declared.sight.Sight.Sight, declared.scan.Scan.Scan, declared.phase.Phase.Phase, declared.search.RowSearch.RowSearch}
+use Rattle.row_search.specs.{Sights.sees_by, Sights.rows_seen, Ranges.primary_part, Tables.HaveKeys, Others.KeepsWay, Others.KeepsFound}
+use Rattle.row_search.specs.{Others.KeepsSearching, Others.NeedsNoVersion, Visits.phase_anew}
 use Rattle.row_search.specs.declared.phase.Phase.TheVariants.{Seek, Follow, Fetch, Look, Walk, Keep, Sort, Leave}
-use Rattle.row_search.specs.declared.search.RowSearch.{RowSearch}
-use Rattle.row_search.specs.Sights.{sees_by, rows_seen}
-use Rattle.row_search.specs.Ranges.{primary_part}
-use Rattle.row_search.specs.Tables.{HaveKeys}
 use Rattle.row_search.specs.Searches.{IsSearching, PhaseHolds, PhaseFinds, Finds, place_in}
-use Rattle.row_search.specs.Others.{KeepsWay, KeepsFound, KeepsSearching, NeedsNoVersion}
-use Rattle.row_search.specs.Visits.{phase_anew}
 use Rattle.row_search.proofs.Keys.{home, kind_is, key_is_value, keyed_is, fits_in}
 use Rattle.entries.specs.Calls.{HasKey as IsAtKey}
 

@@ -4,8 +4,7 @@ use Rattle.std.specs.Bool.{Decides}
 use Rattle.std.proofs.lemmas.Bool.{true≢false}
 use Rattle.std.proofs.lemmas.Bool.Decides.{nat_tests}
 use Rattle.std.proofs.lemmas.List.{append_cancel_right, same_from_push}
-use Rattle.key_codec.specs.Keys.{padded}
-use Rattle.key_codec.specs.Numbers.{u64_bytes}
+use Rattle.key_codec.specs.{Keys.padded, Numbers.u64_bytes}
 use Rattle.key_codec.proofs.Once.{same_u64, same_padded}
 use Rattle.row_search.specs.Owners.{TellsSame}
 

@@ -3,39 +3,24 @@ use Rattle.std.proofs.Common.{◌≡◌, ◌≢◌, ◌∙◌, sym, ap, subst, r
 use Rattle.std.proofs.Common.{inl, inr, arith}
 use Rattle.std.specs.Prelude.{IfSome, IsTrue, is_some}
 use Rattle.std.proofs.lemmas.Bool.{true≢false}
-use Rattle.inno_types.specs.declared.value.Value.{Value}
-use Rattle.inno_types.specs.declared.value.Schema.{Schema}
+use Rattle.inno_types.specs.{declared.value.Value.Value, declared.value.Schema.Schema}
 use Rattle.store_api.specs.declared.answers.Version.{Version as Coded}
 use Rattle.entries.specs.Pairs.{Pair}
 use Rattle.inno_types.specs.Order.{IsBelow}
 use Rattle.entries.specs.Calls.{HasKey as IsAtKey}
-use Rattle.row_versions.specs.declared.kept.Kept.{Kept}
-use Rattle.row_versions.specs.declared.version.Version.{Version}
-use Rattle.row_versions.specs.Chains.{older}
+use Rattle.row_versions.specs.{declared.kept.Kept.Kept, declared.version.Version.Version, Chains.older}
 use Rattle.law_stored_rows.specs.Records.{LeadTo}
 use Rattle.inno_types.specs.Ranges.{is_within}
 use Rattle.sql_plan.specs.Visits.{index_key}
-use Rattle.world.specs.State.{WorldState, index_of}
-use Rattle.world.specs.Undoing.{IsUnchanged}
-use Rattle.row_search.specs.declared.found.FoundRow.{FoundRow}
-use Rattle.row_search.specs.declared.scan.Scan.{Scan}
-use Rattle.row_search.specs.declared.phase.Phase.{Phase}
-use Rattle.row_search.specs.declared.phase.Phase.TheVariants.{Follow}
-use Rattle.row_search.specs.Sights.{sees_by, rows_seen}
-use Rattle.row_search.specs.FoundRows.{AreFound}
-use Rattle.row_search.specs.Ranges.{primary_part, lies_up_to}
-use Rattle.row_search.specs.Tables.{most_versions, ShowsRows}
+use Rattle.world.specs.{State.WorldState, State.index_of, Undoing.IsUnchanged}
+use Rattle.row_search.specs.{declared.found.FoundRow.FoundRow, declared.scan.Scan.Scan, declared.phase.Phase.Phase, declared.phase.Phase.TheVariants.Follow}
+use Rattle.row_search.specs.{Sights.sees_by, Sights.rows_seen, FoundRows.AreFound, Ranges.primary_part, Ranges.lies_up_to, Tables.most_versions}
+use Rattle.row_search.specs.{Tables.ShowsRows, Visits.glance_at, Visits.phase_after, declared.glance.Glance.Glance, declared.glance.Glance.TheVariants.Older}
+use Rattle.row_search.specs.{declared.glance.Glance.TheVariants.Deleted, declared.glance.Glance.TheVariants.Row, Steps.OnlyMoves, Steps.IsSameScan}
+use Rattle.row_search.specs.{Steps.GoesOn}
 use Rattle.row_search.specs.Searches.{place_in, PhaseHolds, IsSearching, IsComing, IsSeenAmong, IsSeenAt, PhaseFinds, Finds, HasToGo, pairs_behind}
-use Rattle.row_search.specs.Visits.{glance_at, phase_after}
-use Rattle.row_search.specs.declared.glance.Glance.{Glance}
-use Rattle.row_search.specs.declared.glance.Glance.TheVariants.{Older, Deleted, Row}
-use Rattle.row_search.specs.Steps.{OnlyMoves, IsSameScan, GoesOn}
-use Rattle.row_search.proofs.Worlds.{moves_unchanged}
-use Rattle.row_search.proofs.Keys.{IsHome, home}
-use Rattle.row_search.proofs.Coming.{passes_by, is_passed, other_entry, row_kept}
-use Rattle.row_search.proofs.Ways.{IsOnWay, passed_over, no_row, row_there}
-use Rattle.row_search.proofs.Given.{searching_on}
-use Rattle.row_search.proofs.Exits.{same_scan}
+use Rattle.row_search.proofs.{Worlds.moves_unchanged, Keys.IsHome, Keys.home, Coming.passes_by, Coming.is_passed, Coming.other_entry, Coming.row_kept}
+use Rattle.row_search.proofs.{Ways.IsOnWay, Ways.passed_over, Ways.no_row, Ways.row_there, Given.searching_on, Exits.same_scan}
 
 older_few : (versions : List Version) (most : ℕ) → length versions ≤ most → length (older versions) ≤ most
 older_few [] most few = few

@@ -2,25 +2,17 @@
 use Rattle.std.proofs.Common.{◌≡◌, ◌≢◌, ◌∙◌, sym, ap, subst, refl, ℕ, ◌==◌, ◌≤◌, true, false, cond, List, [], ◌∷◌, length, Option, None, Some}
 use Rattle.std.specs.Prelude.{option_map, is_some}
 use Rattle.std.proofs.lemmas.Bool.{or_left, or_right}
-use Rattle.inno_types.specs.declared.value.Value.{Value}
-use Rattle.inno_types.specs.declared.value.Kind.{Kind}
-use Rattle.inno_types.specs.declared.value.Schema.{Schema}
+use Rattle.inno_types.specs.{declared.value.Value.Value, declared.value.Kind.Kind, declared.value.Schema.Schema}
 use Rattle.inno_db.specs.Database.{key_of}
 use Rattle.store_api.specs.declared.answers.Version.{Version as Coded}
 use Rattle.key_codec.specs.Keys.{HasKey, key_code}
 use Rattle.row_codec.proofs.Once.{same_version}
 use Rattle.entries.specs.Pairs.{Pair, value_of}
-use Rattle.row_versions.specs.declared.kept.Kept.{Kept}
-use Rattle.row_versions.specs.Versions.{Versions, leads}
-use Rattle.row_versions.specs.declared.version.Version.{Version}
-use Rattle.row_versions.specs.Chains.{first_seen, older}
+use Rattle.row_versions.specs.{declared.kept.Kept.Kept, Versions.Versions, Versions.leads, declared.version.Version.Version, Chains.first_seen, Chains.older}
 use Rattle.law_stored_rows.specs.Records.{shown, row_shown, IsCodeOf, LeadTo, IsRecordWith, IsClustered}
-use Rattle.law_stored_rows.proofs.Values.{key_there, one_key}
-use Rattle.law_stored_rows.proofs.RowRecords.{record_read, pointer_leads, leads_nowhere}
+use Rattle.law_stored_rows.proofs.{Values.key_there, Values.one_key, RowRecords.record_read, RowRecords.pointer_leads, RowRecords.leads_nowhere}
 use Rattle.sql_plan.specs.Visits.{kind_at, primary_key}
-use Rattle.row_search.specs.declared.scan.Scan.{Scan}
-use Rattle.row_search.specs.Sights.{sees_by}
-use Rattle.row_search.specs.Searches.{IsSeenAmong, IsSeenAt}
+use Rattle.row_search.specs.{declared.scan.Scan.Scan, Sights.sees_by, Searches.IsSeenAmong, Searches.IsSeenAt}
 use Rattle.row_search.proofs.Keys.{kind_is}
 
 -- These bytes are the record of a version behind which these versions are kept.

@@ -3,13 +3,9 @@ use Rattle.std.proofs.Common.{◌≡◌, ◌≢◌, ⊎_elim, ℕ, Option, Some,
 use Rattle.std.proofs.lemmas.Bool.{cases_eq}
 use Rattle.store_api.specs.declared.moves.Move.{Move}
 use Rattle.store_api.specs.declared.moves.Move.TheVariants.{At, End, Done, Step, Latch, Again, Full, TooDeep, Failed, Bad, NoMemory}
-use Rattle.entries.specs.Pairs.{Pair}
-use Rattle.entries.specs.Index.{Index, AreKept, IsAsBefore, IsGiven}
-use Rattle.entries.specs.Calls.{Delays, Seeks, Fetches}
+use Rattle.entries.specs.{Pairs.Pair, Index.Index, Index.AreKept, Index.IsAsBefore, Index.IsGiven, Calls.Delays, Calls.Seeks, Calls.Fetches}
 use Rattle.row_versions.specs.Versions.{Versions, Stays}
-use Rattle.world.specs.State.{WorldState}
-use Rattle.world.specs.Indexes.{Calls}
-use Rattle.world.specs.Undoing.{IsUnchanged}
+use Rattle.world.specs.{State.WorldState, Indexes.Calls, Undoing.IsUnchanged}
 use Rattle.world.proofs.Stores.{store_stays}
 use Rattle.row_search.specs.Steps.{OnlyMoves, MayWait}
 

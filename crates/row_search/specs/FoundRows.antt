@@ -2,11 +2,8 @@
 use Rattle.std.specs.Prelude.{◌≡◌, ℕ, Bool, List, [], ◌∷◌, Option, None, Some, if◌then◌else◌, map, filter}
 use Rattle.std.specs.List.{AllByRecursion, count_by}
 use Rattle.std.specs.declared.cmp.Ordering.TheVariants.{Less}
-use Rattle.inno_types.specs.declared.value.Value.{Value}
-use Rattle.inno_types.specs.declared.value.Schema.{Schema}
-use Rattle.inno_types.specs.declared.stmt.Filter.{Filter}
-use Rattle.inno_db.specs.Database.{key_of}
-use Rattle.inno_db.specs.Conditions.{matches}
+use Rattle.inno_types.specs.{declared.value.Value.Value, declared.value.Schema.Schema, declared.stmt.Filter.Filter}
+use Rattle.inno_db.specs.{Database.key_of, Conditions.matches}
 use Rattle.entries.specs.Pairs.{key_cmp}
 use Rattle.sql_plan.specs.Visits.{primary_key}
 use Rattle.law_stored_rows.specs.Entries.{is_same_value}

@@ -1,20 +1,13 @@
 -- What steps of others leave to a search.
 use Rattle.std.specs.Prelude.{◌≡◌, ◌≤◌, ℕ, List, length, Option, Some}
-use Rattle.inno_types.specs.declared.value.Value.{Value}
-use Rattle.inno_types.specs.declared.value.Schema.{Schema}
-use Rattle.row_versions.specs.declared.kept.Kept.{Kept}
-use Rattle.row_versions.specs.declared.version.Version.{Version}
-use Rattle.row_versions.specs.Chains.{first_seen}
+use Rattle.inno_types.specs.{declared.value.Value.Value, declared.value.Schema.Schema}
+use Rattle.row_versions.specs.{declared.kept.Kept.Kept, declared.version.Version.Version, Chains.first_seen}
 use Rattle.law_stored_rows.specs.Records.{LeadTo, IsRecordWith}
-use Rattle.row_search.specs.declared.sight.Sight.{Sight}
-use Rattle.row_search.specs.declared.phase.Phase.{Phase}
-use Rattle.row_search.specs.declared.phase.Phase.TheVariants.{Look, Walk}
-use Rattle.row_search.specs.Sights.{sees_by}
+use Rattle.row_search.specs.{declared.sight.Sight.Sight, declared.phase.Phase.Phase, declared.phase.Phase.TheVariants.Look}
+use Rattle.row_search.specs.{declared.phase.Phase.TheVariants.Walk, Sights.sees_by, declared.search.RowSearch.RowSearch, Ranges.primary_part}
+use Rattle.row_search.specs.{Searches.IsSearching, Searches.Finds}
 use Rattle.entries.specs.Pairs.{Pair}
 use Rattle.world.specs.State.{WorldState}
-use Rattle.row_search.specs.declared.search.RowSearch.{RowSearch}
-use Rattle.row_search.specs.Ranges.{primary_part}
-use Rattle.row_search.specs.Searches.{IsSearching, Finds}
 
 -- The versions that a search goes along next, from the record that it holds or from its pointer, show the reader the same
 -- row in what is kept now, and are not more.

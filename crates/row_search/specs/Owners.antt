@@ -1,10 +1,7 @@
 -- Whether a key of an index is that of a row.
 use Rattle.std.specs.Prelude.{◌≡◌, ◌≢◌, ℕ, ◌+◌, Bool, true, false, List, Some, slice_get}
-use Rattle.inno_types.specs.declared.value.Value.{Value}
-use Rattle.inno_types.specs.declared.value.Column.{Column}
-use Rattle.inno_types.specs.declared.value.Key.{Key}
-use Rattle.inno_types.specs.declared.value.Kind.{Kind}
-use Rattle.inno_types.specs.declared.value.Schema.{Schema}
+use Rattle.inno_types.specs.{declared.value.Value.Value, declared.value.Column.Column, declared.value.Key.Key, declared.value.Kind.Kind}
+use Rattle.inno_types.specs.{declared.value.Schema.Schema}
 use Rattle.key_codec.specs.Keys.{IsOfKindOrNull, entry_code}
 use Rattle.law_stored_rows.specs.Entries.{value_in}
 

@@ -1,18 +1,14 @@
 -- Where keys of an index lie: beside the bounds of a range, and beside the key that a search has come to.
 use Rattle.std.specs.Prelude.{◌≡◌, ℕ, ◌-◌, Bool, true, false, ◌&&◌, List, [], length, drop}
 use Rattle.std.specs.Ordering.{is_le, is_lt}
-use Rattle.inno_types.specs.declared.value.Value.{Value}
-use Rattle.inno_types.specs.declared.value.Schema.{Schema}
-use Rattle.inno_types.specs.declared.stmt.Bound.{Bound}
-use Rattle.inno_types.specs.declared.stmt.Bound.TheVariants.{Open, With, Without}
-use Rattle.inno_types.specs.declared.stmt.Range.{Range}
+use Rattle.inno_types.specs.{declared.value.Value.Value, declared.value.Schema.Schema, declared.stmt.Bound.Bound, declared.stmt.Bound.TheVariants.Open}
+use Rattle.inno_types.specs.{declared.stmt.Bound.TheVariants.With, declared.stmt.Bound.TheVariants.Without, declared.stmt.Range.Range, Ranges.is_from}
+use Rattle.inno_types.specs.{Ranges.is_up_to, Ranges.is_within}
 use Rattle.key_codec.specs.Keys.{key_width}
 use Rattle.entries.specs.Pairs.{key_cmp}
-use Rattle.inno_types.specs.Ranges.{is_from, is_up_to, is_within}
 use Rattle.sql_plan.specs.Visits.{index_key, kind_at}
-use Rattle.row_search.specs.declared.side.Side.{Side}
-use Rattle.row_search.specs.declared.side.Side.TheVariants.{Before, Within, Behind}
-use Rattle.row_search.specs.declared.scan.Scan.{Scan}
+use Rattle.row_search.specs.{declared.side.Side.Side, declared.side.Side.TheVariants.Before, declared.side.Side.TheVariants.Within}
+use Rattle.row_search.specs.{declared.side.Side.TheVariants.Behind, declared.scan.Scan.Scan}
 
 -- the bytes at which a walk from this bound begins
 abbrev pub bound_bytes : Bound → List ℕ

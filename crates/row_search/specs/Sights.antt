@@ -1,10 +1,8 @@
 -- What a reader sees of the versions of rows.
 use Rattle.std.specs.Prelude.{ℕ, Bool, true, List, Option}
 use Rattle.inno_types.specs.declared.value.Value.{Value}
-use Rattle.row_versions.specs.declared.version.Version.{Version}
-use Rattle.row_versions.specs.Chains.{sees, first_seen}
-use Rattle.row_search.specs.declared.sight.Sight.{Sight}
-use Rattle.row_search.specs.declared.sight.Sight.TheVariants.{View, Newest}
+use Rattle.row_versions.specs.{declared.version.Version.Version, Chains.sees, Chains.first_seen}
+use Rattle.row_search.specs.{declared.sight.Sight.Sight, declared.sight.Sight.TheVariants.View, declared.sight.Sight.TheVariants.Newest}
 
 -- whether the reader sees what a transaction of this id wrote
 abbrev pub sees_by : Sight → ℕ → Bool

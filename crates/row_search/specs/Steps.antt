@@ -1,31 +1,19 @@
 -- What a step of a search does, and what may keep it from going on.
 use Rattle.std.specs.Prelude.{◌≡◌, ◌≢◌, ℕ, List, IsTrue}
-use Rattle.inno_types.specs.declared.value.Value.{Value}
-use Rattle.inno_types.specs.declared.value.Schema.{Schema}
+use Rattle.inno_types.specs.{declared.value.Value.Value, declared.value.Schema.Schema}
 use Rattle.store_api.specs.declared.visits.Visit.TheVariants as unseen
-use Rattle.store_api.specs.declared.moves.Move.{Move}
-use Rattle.store_api.specs.declared.moves.Move.TheVariants.{Failed, Again, Bad, NoMemory}
-use Rattle.entries.specs.Index.{Index, AreKept}
+use Rattle.store_api.specs.{declared.moves.Move.Move, declared.moves.Move.TheVariants.Failed, declared.moves.Move.TheVariants.Again}
+use Rattle.store_api.specs.{declared.moves.Move.TheVariants.Bad, declared.moves.Move.TheVariants.NoMemory}
+use Rattle.entries.specs.{Index.Index, Index.AreKept, Calls.Delays, Calls.Leaves}
 use Rattle.inno_types.specs.Order.{IsBelow}
-use Rattle.entries.specs.Calls.{Delays, Leaves}
-use Rattle.row_versions.specs.Versions.{Versions, Stays}
-use Rattle.row_versions.specs.Calls.{IsUnseen}
-use Rattle.row_versions.specs.declared.version.Version.{Version}
-use Rattle.world.specs.State.{WorldState, index_of}
-use Rattle.world.specs.Stores.{StoreGoes}
-use Rattle.world.specs.Indexes.{Calls}
-use Rattle.world.specs.Undoing.{IsUnchanged}
-use Rattle.row_search.specs.declared.scan.Scan.{Scan}
-use Rattle.row_search.specs.declared.phase.Phase.{Phase}
-use Rattle.row_search.specs.declared.phase.Phase.TheVariants.{Seek, Follow, Fetch, Walk}
-use Rattle.row_search.specs.declared.search.RowSearch.{RowSearch}
-use Rattle.row_search.specs.declared.search.Came.{Came}
-use Rattle.row_search.specs.declared.search.Came.TheVariants.{Went, Done, Hindered, Malformed}
-use Rattle.row_search.specs.Sights.{rows_seen}
-use Rattle.row_search.specs.FoundRows.{AreFound, RiseByKey}
-use Rattle.row_search.specs.Ranges.{lies_in}
-use Rattle.row_search.specs.Tables.{ShowsRows}
-use Rattle.row_search.specs.Searches.{IsSearching, Finds, HasToGo, place_in}
+use Rattle.row_versions.specs.{Versions.Versions, Versions.Stays, Calls.IsUnseen, declared.version.Version.Version}
+use Rattle.world.specs.{State.WorldState, State.index_of, Stores.StoreGoes, Indexes.Calls, Undoing.IsUnchanged}
+use Rattle.row_search.specs.{declared.scan.Scan.Scan, declared.phase.Phase.Phase, declared.phase.Phase.TheVariants.Seek}
+use Rattle.row_search.specs.{declared.phase.Phase.TheVariants.Follow, declared.phase.Phase.TheVariants.Fetch, declared.phase.Phase.TheVariants.Walk}
+use Rattle.row_search.specs.{declared.search.RowSearch.RowSearch, declared.search.Came.Came, declared.search.Came.TheVariants.Went}
+use Rattle.row_search.specs.{declared.search.Came.TheVariants.Done, declared.search.Came.TheVariants.Hindered, declared.search.Came.TheVariants.Malformed}
+use Rattle.row_search.specs.{Sights.rows_seen, FoundRows.AreFound, FoundRows.RiseByKey, Ranges.lies_in, Tables.ShowsRows, Searches.IsSearching}
+use Rattle.row_search.specs.{Searches.Finds, Searches.HasToGo, Searches.place_in}
 
 -- Nothing has changed but the actor's place in one index.
 pub record OnlyMoves (actor index : ℕ) (old new : WorldState) : Type 0 where

@@ -1,15 +1,12 @@
 -- What a world tells of a table's rows.
 use Rattle.std.specs.Prelude.{◌≡◌, ℕ, ◌+◌, ◌^◌, ◌≤◌, true, IsTrue, List, length, Option, Some, is_some}
-use Rattle.inno_types.specs.declared.value.Value.{Value}
-use Rattle.inno_types.specs.declared.value.Schema.{Schema}
+use Rattle.inno_types.specs.{declared.value.Value.Value, declared.value.Schema.Schema}
 use Rattle.entries.specs.Pairs.{Pair, AreRising, value_of}
 use Rattle.row_versions.specs.declared.version.Version.{Version}
-use Rattle.law_stored_rows.specs.Records.{IsClustered}
-use Rattle.law_stored_rows.specs.Tables.{HasItsColumns}
+use Rattle.law_stored_rows.specs.{Records.IsClustered, Tables.HasItsColumns}
 use Rattle.sql_plan.specs.Visits.{index_key}
 use Rattle.world.specs.State.{WorldState, index_of}
-use Rattle.row_search.specs.declared.scan.Scan.{Scan}
-use Rattle.row_search.specs.Sights.{rows_seen}
+use Rattle.row_search.specs.{declared.scan.Scan.Scan, Sights.rows_seen}
 
 -- no row has more versions than this
 abbrev pub most_versions : ℕ

@@ -1,20 +1,14 @@
 -- What a search does with the pair, and with the version, that it was given.
 use Rattle.std.specs.Prelude.{◌≡◌, ◌==◌, ℕ, List, if◌then◌else◌}
-use Rattle.store_api.specs.declared.answers.Version.{Version}
-use Rattle.store_api.specs.declared.moves.Move.{Move}
+use Rattle.store_api.specs.{declared.answers.Version.Version, declared.moves.Move.Move}
 use Rattle.store_api.specs.declared.moves.Move.TheVariants as move
-use Rattle.store_api.specs.declared.visits.Visit.{Visit}
-use Rattle.store_api.specs.declared.visits.Visit.TheVariants.{Failed, Again, Bad}
-use Rattle.row_search.specs.declared.glance.Glance.{Glance}
-use Rattle.row_search.specs.declared.glance.Glance.TheVariants.{Older, Deleted, Row}
-use Rattle.row_search.specs.declared.side.Side.{Side}
-use Rattle.row_search.specs.declared.side.Side.TheVariants.{Before, Within, Behind}
-use Rattle.row_search.specs.declared.scan.Scan.{Scan}
-use Rattle.row_search.specs.declared.sight.Sight.{Sight}
-use Rattle.row_search.specs.declared.phase.Phase.{Phase}
+use Rattle.store_api.specs.{declared.visits.Visit.Visit, declared.visits.Visit.TheVariants.Failed, declared.visits.Visit.TheVariants.Again}
+use Rattle.store_api.specs.{declared.visits.Visit.TheVariants.Bad}
+use Rattle.row_search.specs.{declared.glance.Glance.Glance, declared.glance.Glance.TheVariants.Older, declared.glance.Glance.TheVariants.Deleted}
+use Rattle.row_search.specs.{declared.glance.Glance.TheVariants.Row, declared.side.Side.Side, declared.side.Side.TheVariants.Before}
+use Rattle.row_search.specs.{declared.side.Side.TheVariants.Within, declared.side.Side.TheVariants.Behind, declared.scan.Scan.Scan}
+use Rattle.row_search.specs.{declared.sight.Sight.Sight, declared.phase.Phase.Phase, Sights.sees_by, Ranges.IsOnSide}
 use Rattle.row_search.specs.declared.phase.Phase.TheVariants.{Follow, Fetch, Look, Walk, Keep, Sort}
-use Rattle.row_search.specs.Sights.{sees_by}
-use Rattle.row_search.specs.Ranges.{IsOnSide}
 
 -- what comes next at a pair on this side of the range
 abbrev pub phase_at : ℕ → List ℕ → List ℕ → Side → Phase

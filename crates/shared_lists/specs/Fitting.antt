@@ -1,13 +1,10 @@
 -- Histories in which each change fitted its tables when it was made.
 use Rattle.std.specs.Prelude.{List, [], ◌∷◌}
 use Rattle.inno_types.specs.declared.value.Schema.{Schema}
-use Rattle.inno_db.specs.Database.{Database}
-use Rattle.inno_db.specs.declared.change.Change.{Change}
-use Rattle.inno_model.specs.declared.event.Event.{Event}
-use Rattle.inno_model.specs.declared.event.Event.TheVariants.{Opened, Changed}
+use Rattle.inno_db.specs.{Database.Database, declared.change.Change.Change}
+use Rattle.inno_model.specs.{declared.event.Event.Event, declared.event.Event.TheVariants.Opened, declared.event.Event.TheVariants.Changed}
 use Rattle.law_past_agreement.specs.Order.{created}
-use Rattle.law_stored_rows.specs.Fitting.{FitsTables, AreFitting}
-use Rattle.law_stored_rows.specs.Numbers.{ChangeHas64Bits, RowsHave64Bits}
+use Rattle.law_stored_rows.specs.{Fitting.FitsTables, Fitting.AreFitting, Numbers.ChangeHas64Bits, Numbers.RowsHave64Bits}
 
 -- the database's tables can be stored, and each of its rows can be coded
 pub record CanBeCoded (db : Database) : Type 0 where

@@ -1,13 +1,10 @@
 -- What contracts see of the lists.
 use Rattle.std.specs.Prelude.{◌≡◌, ◌≢◌, ℕ, ◌≤◌, ◌==◌, if◌then◌else◌, Option, Some, None, List, [], ◌∷◌, length, slice_index_or, refl}
 use Rattle.std.specs.Coded.{Coded, code_by, coded×, coded_list, coded_option, coded_ℕ}
-use Rattle.inno_db.specs.Database.{Database}
-use Rattle.inno_db.specs.declared.limits.TheConstants.{MOST_TABLES}
+use Rattle.inno_db.specs.{Database.Database, declared.limits.TheConstants.MOST_TABLES}
 use Rattle.inno_model.specs.contracts.event.Event as of_event
-use Rattle.inno_model.specs.declared.event.Event.{Event}
-use Rattle.inno_model.specs.declared.event.Event.TheVariants.{Opened}
-use Rattle.sql_history.specs.Settings.{Setting}
-use Rattle.sql_history.specs.Counts.{rows_in, most_rows}
+use Rattle.inno_model.specs.{declared.event.Event.Event, declared.event.Event.TheVariants.Opened}
+use Rattle.sql_history.specs.{Settings.Setting, Counts.rows_in, Counts.most_rows}
 use Rattle.shared_lists.specs.Tasks.{Task, Idle, task_code}
 
 -- what a search has before it: the keys of its index that it has not come past; how many entries of the history may each have

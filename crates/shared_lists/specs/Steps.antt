@@ -1,23 +1,15 @@
 -- What the steps of a session's task do, by their answers.
 use Rattle.std.specs.Prelude.{◌≡◌, ◌⊎◌, ℕ, ◌<◌, true, List, ◌∷◌, filter, slice_get, Option, Some, None}
-use Rattle.inno_types.specs.declared.value.Value.{Value}
-use Rattle.inno_types.specs.declared.value.Schema.{Schema}
-use Rattle.inno_db.specs.Database.{rows_of}
-use Rattle.inno_db.specs.declared.change.Change.{Change}
-use Rattle.inno_db.specs.declared.change.Change.TheVariants.{Put}
+use Rattle.inno_types.specs.{declared.value.Value.Value, declared.value.Schema.Schema}
+use Rattle.inno_db.specs.{Database.rows_of, declared.change.Change.Change, declared.change.Change.TheVariants.Put}
 use Rattle.inno_model.specs.declared.event.Event.{Event}
 use Rattle.inno_model.specs.declared.event.Event.TheVariants as events
 use Rattle.inno_model.specs.Past.{changed, commits, view_of}
-use Rattle.law_past_agreement.specs.Order.{created}
-use Rattle.law_past_agreement.specs.Rows.{seen}
-use Rattle.law_past_agreement.specs.DatabaseTables.{with_all_tables}
-use Rattle.sql_plan.specs.declared.choice.Plan.{Plan}
-use Rattle.sql_plan.specs.Plans.{whole_index}
+use Rattle.law_past_agreement.specs.{Order.created, Rows.seen, DatabaseTables.with_all_tables}
+use Rattle.sql_plan.specs.{declared.choice.Plan.Plan, Plans.whole_index, Visits.index_key}
 use Rattle.inno_types.specs.Ranges.{is_within}
-use Rattle.sql_plan.specs.Visits.{index_key}
-use Rattle.shared_lists.specs.declared.answers.Reading.{Reading}
-use Rattle.shared_lists.specs.declared.answers.Reading.TheVariants.{View, Newest}
-use Rattle.shared_lists.specs.declared.answers.Searched.{Searched}
+use Rattle.shared_lists.specs.{declared.answers.Reading.Reading, declared.answers.Reading.TheVariants.View, declared.answers.Reading.TheVariants.Newest}
+use Rattle.shared_lists.specs.{declared.answers.Searched.Searched}
 use Rattle.shared_lists.specs.declared.answers.Searched.TheVariants as searched
 use Rattle.shared_lists.specs.declared.answers.Changed.{Changed}
 use Rattle.shared_lists.specs.declared.answers.Changed.TheVariants as made

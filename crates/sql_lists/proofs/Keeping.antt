@@ -1,25 +1,21 @@
 -- Each entry keeps the history legal, and what is kept beside it in agreement.
-use Rattle.std.proofs.Common.{◌≡◌, ◌≢◌, ℕ, ◌+◌, ◌-◌, ◌<◌, ◌≤◌, true, false, cond, eqb, Option, Some, None, List, [], ◌∷◌, ◌++◌, length, get_or, set, refl, sym}
-use Rattle.std.proofs.Common.{ap, subst, ◌∙◌, inl, inr, arith}
+use Rattle.std.proofs.Common.{◌≡◌, ◌≢◌, ℕ, ◌+◌, ◌-◌, ◌<◌, ◌≤◌, true, false, cond, eqb, Option, Some, None, List, [], ◌∷◌, ◌++◌, length, get_or, set, refl}
+use Rattle.std.proofs.Common.{sym, ap, subst, ◌∙◌, inl, inr, arith}
 use Rattle.std.proofs.lemmas.Bool.{false≢true}
 use Rattle.std.proofs.lemmas.Bool.Decides.{nat_tests, eqb_tells}
 use Rattle.std.proofs.lemmas.List.{length-set, length-append}
 use Rattle.std.proofs.lemmas.List.Sums.{sum_by-cons}
 use Rattle.std.specs.List.{list_any}
 use Rattle.std.specs.Prelude.{is_some, Result, Ok, Err, OnOk, OnErr, IfNone}
-use Rattle.inno_types.specs.declared.lock.Level.{Level}
-use Rattle.inno_types.specs.declared.lock.Level.TheVariants.{ReadUncommitted, ReadCommitted, RepeatableRead, Serializable}
-use Rattle.inno_types.specs.declared.value.Value.{Value}
-use Rattle.inno_types.specs.declared.value.Schema.{Schema}
-use Rattle.inno_types.specs.declared.stmt.Stmt.{Stmt}
+use Rattle.inno_types.specs.{declared.lock.Level.Level, declared.lock.Level.TheVariants.ReadUncommitted, declared.lock.Level.TheVariants.ReadCommitted}
+use Rattle.inno_types.specs.{declared.lock.Level.TheVariants.RepeatableRead, declared.lock.Level.TheVariants.Serializable, declared.value.Value.Value}
+use Rattle.inno_types.specs.{declared.value.Schema.Schema, declared.stmt.Stmt.Stmt}
 use Rattle.inno_types.specs.declared.stmt.Stmt.TheVariants as stmts
-use Rattle.inno_types.specs.declared.stmt.LevelScope.TheVariants.{Session, NextTransaction}
-use Rattle.inno_types.specs.declared.reply.Item.{Item}
-use Rattle.inno_types.specs.declared.reply.Reply.{Reply}
+use Rattle.inno_types.specs.{declared.stmt.LevelScope.TheVariants.Session, declared.stmt.LevelScope.TheVariants.NextTransaction, declared.reply.Item.Item}
+use Rattle.inno_types.specs.{declared.reply.Reply.Reply}
 use Rattle.inno_types.specs.declared.reply.Reply.TheVariants as replies
-use Rattle.inno_db.specs.declared.change.Change.{Change}
-use Rattle.inno_db.specs.declared.change.Change.TheVariants.{Create, Put, Remove}
-use Rattle.inno_db.specs.declared.limits.TheConstants.{MOST_TABLES}
+use Rattle.inno_db.specs.{declared.change.Change.Change, declared.change.Change.TheVariants.Create, declared.change.Change.TheVariants.Put}
+use Rattle.inno_db.specs.{declared.change.Change.TheVariants.Remove, declared.limits.TheConstants.MOST_TABLES}
 use Rattle.inno_model.specs.declared.event.Event.{Event}
 use Rattle.inno_model.specs.declared.event.Event.TheVariants as events
 use Rattle.inno_model.specs.Past.{is_of, started, under_way, level, own, opening, begins, commits, committed, IsOpen}
@@ -32,8 +28,7 @@ use Rattle.sql_history.specs.Legal.{EndsBy, owed_by, owes_commit}
 use Rattle.law_past_agreement.specs.Order.{created, is_creation, IsOfRow, IsTabled, IsUndoable, MayCome}
 use Rattle.law_past_agreement.proofs.Ids.{ids_of}
 use Rattle.sql_plan.specs.declared.choice.Plan.{Plan}
-use Rattle.shared_lists.specs.declared.answers.Reading.{Reading}
-use Rattle.shared_lists.specs.declared.answers.Searched.{Searched}
+use Rattle.shared_lists.specs.{declared.answers.Reading.Reading, declared.answers.Searched.Searched}
 use Rattle.shared_lists.specs.declared.answers.Searched.TheVariants as searched
 use Rattle.shared_lists.specs.declared.answers.Changed.{Changed}
 use Rattle.shared_lists.specs.declared.answers.Changed.TheVariants as made

@@ -8,13 +8,10 @@ use Rattle.std.proofs.lemmas.List.{length-drop}
 use Rattle.inno_model.specs.declared.event.Event.{Event}
 use Rattle.inno_model.specs.declared.event.Event.TheVariants as events
 use Rattle.inno_model.specs.Past.{is_of, own, begins}
-use Rattle.inno_types.specs.declared.lock.Level.{Level}
-use Rattle.inno_types.specs.declared.stmt.Stmt.{Stmt}
-use Rattle.inno_types.specs.declared.value.Schema.{Schema}
+use Rattle.inno_types.specs.{declared.lock.Level.Level, declared.stmt.Stmt.Stmt, declared.value.Schema.Schema}
 use Rattle.inno_db.specs.declared.change.Change.TheVariants.{Create}
 use Rattle.sql_plan.specs.declared.choice.Plan.{Plan}
-use Rattle.shared_lists.specs.declared.answers.Reading.{Reading}
-use Rattle.shared_lists.specs.declared.answers.Searched.{Searched}
+use Rattle.shared_lists.specs.{declared.answers.Reading.Reading, declared.answers.Searched.Searched}
 use Rattle.shared_lists.specs.declared.answers.Searched.TheVariants as searched
 use Rattle.shared_lists.specs.declared.answers.Changed.{Changed}
 use Rattle.shared_lists.specs.declared.answers.Changed.TheVariants as made
@@ -25,11 +22,9 @@ use Rattle.shared_lists.specs.State.{State, IsNow, Adds, Closes, Turns, Stays, t
 use Rattle.shared_lists.specs.Steps.{Searches, GoesOn, Enters, Changes, TakesBack}
 use Rattle.law_past_agreement.specs.Order.{IsNoOthers}
 use Rattle.sql_grammar.specs.Grammar.{Spells}
-use Rattle.sql_history.specs.Legal.{Takes, IsCreation}
-use Rattle.sql_history.specs.Counts.{last_moment}
+use Rattle.sql_history.specs.{Legal.Takes, Legal.IsCreation, Counts.last_moment}
 use Rattle.sql_lists.specs.Steps.{Adding, IsEntryOf, MayWriteAlone, AsksToWrite, Moves, StaysRunning, Intends, is_apart, changes_rows, TellsOne}
-use Rattle.sql_lists.specs.Tables.{table_made, none_made}
-use Rattle.sql_lists.specs.Going.{left, to_close, to_roll_back, to_search}
+use Rattle.sql_lists.specs.{Tables.table_made, Tables.none_made, Going.left, Going.to_close, Going.to_roll_back, Going.to_search}
 use Rattle.inno_types.specs.Order.{IsBelow}
 
 -- ---- how the past goes on

@@ -3,20 +3,13 @@ use Rattle.std.specs.Prelude.{◌≡◌, ◌≢◌, ℕ, ◌≤◌, Bool, true, 
 use Rattle.std.specs.List.{list_any}
 use Rattle.inno_types.specs.declared.reply.Item.{Item}
 use Rattle.inno_types.specs.declared.reply.Item.TheVariants as items
-use Rattle.inno_types.specs.declared.reply.Reply.{Reply}
-use Rattle.inno_types.specs.declared.stmt.Stmt.{Stmt}
-use Rattle.inno_types.specs.declared.stmt.Stmt.TheVariants.{Savepoint}
+use Rattle.inno_types.specs.{declared.reply.Reply.Reply, declared.stmt.Stmt.Stmt, declared.stmt.Stmt.TheVariants.Savepoint, declared.value.Schema.Schema}
 use Rattle.inno_model.specs.declared.event.Event.{Event}
-use Rattle.inno_db.specs.declared.limits.TheConstants.{MOST_TABLES}
-use Rattle.inno_types.specs.declared.value.Schema.{Schema}
-use Rattle.inno_db.specs.declared.change.Change.{Change}
-use Rattle.inno_db.specs.declared.change.Change.TheVariants.{Create}
+use Rattle.inno_db.specs.{declared.limits.TheConstants.MOST_TABLES, declared.change.Change.Change, declared.change.Change.TheVariants.Create}
 use Rattle.inno_model.specs.Past.{under_way, of_item, own, commits, committed, opening, awaits_ack, IsClosed}
 use Rattle.sql_grammar.specs.Grammar.{Spells}
-use Rattle.sql_history.specs.Settings.{Setting, HasSet, at_first}
-use Rattle.sql_history.specs.Counts.{has_stopped, rows_kept, most_rows}
-use Rattle.sql_history.specs.Legal.{IsLegal, EndsBy, owes_commit}
-use Rattle.sql_history.specs.Statements.{schemas_now}
+use Rattle.sql_history.specs.{Settings.Setting, Settings.HasSet, Settings.at_first, Counts.has_stopped, Counts.rows_kept, Counts.most_rows, Legal.IsLegal}
+use Rattle.sql_history.specs.{Legal.EndsBy, Legal.owes_commit, Statements.schemas_now}
 use Rattle.law_past_agreement.specs.Order.{created, is_creation, IsTabled, IsOrdered}
 
 -- No open transaction has made a table: those that were made are those that stand for each session, and they are few.

@@ -1,21 +1,16 @@
 -- What a step of one session's statement does, by its answer, whatever the statement is.
 use Rattle.std.specs.Prelude.{◌≡◌, ◌≢◌, ◌⊎◌, ℕ, Bool, true, false, if◌then◌else◌, is_some, Option, Some, None, List, [], ◌∷◌, ◌++◌}
 use Rattle.std.specs.List.{AllByRecursion}
-use Rattle.inno_types.specs.declared.lock.Level.TheVariants.{RepeatableRead}
-use Rattle.inno_types.specs.declared.lock.Edge.{Edge}
-use Rattle.inno_types.specs.declared.lock.LockKind.TheVariants.{Rec}
-use Rattle.inno_types.specs.declared.lock.Mode.TheVariants.{X}
-use Rattle.inno_types.specs.declared.stmt.Stmt.{Stmt}
+use Rattle.inno_types.specs.{declared.lock.Level.TheVariants.RepeatableRead, declared.lock.Edge.Edge, declared.lock.LockKind.TheVariants.Rec}
+use Rattle.inno_types.specs.{declared.lock.Mode.TheVariants.X, declared.stmt.Stmt.Stmt}
 use Rattle.inno_db.specs.declared.change.Change.{Change}
-use Rattle.inno_model.specs.declared.event.Event.{Event}
-use Rattle.inno_model.specs.declared.event.Event.TheVariants.{Changed, Ended, Acked, Signal}
+use Rattle.inno_model.specs.{declared.event.Event.Event, declared.event.Event.TheVariants.Changed, declared.event.Event.TheVariants.Ended}
+use Rattle.inno_model.specs.{declared.event.Event.TheVariants.Acked, declared.event.Event.TheVariants.Signal}
 use Rattle.inno_model.specs.Past.{begins_txn, started, of_item, own, level, txn, IsOpen}
 use Rattle.sql_grammar.specs.Grammar.{Spells}
-use Rattle.sql_history.specs.Legal.{Takes, IsWriting, IsCreation}
-use Rattle.sql_history.specs.Counts.{last_moment}
+use Rattle.sql_history.specs.{Legal.Takes, Legal.IsWriting, Legal.IsCreation, Counts.last_moment}
 use Rattle.law_past_agreement.specs.Order.{IsOfRow, IsNoOthers}
-use Rattle.shared_lists.specs.Tasks.{Idle, asked}
-use Rattle.shared_lists.specs.State.{State, task_of, Adds, Stays}
+use Rattle.shared_lists.specs.{Tasks.Idle, Tasks.asked, State.State, State.task_of, State.Adds, State.Stays}
 use Rattle.sql_lists.specs.declared.advance.Advance.{Advance}
 use Rattle.sql_lists.specs.declared.advance.Advance.TheVariants as advance
 

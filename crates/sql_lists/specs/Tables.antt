@@ -1,15 +1,12 @@
 -- How a table is made: its own transaction begins, changes and commits in one step.
 use Rattle.std.specs.Prelude.{◌⊎◌, ℕ, ◌+◌, List, ◌∷◌, None}
-use Rattle.inno_types.specs.declared.lock.Level.{Level}
-use Rattle.inno_types.specs.declared.value.Schema.{Schema}
+use Rattle.inno_types.specs.{declared.lock.Level.Level, declared.value.Schema.Schema}
 use Rattle.inno_db.specs.declared.change.Change.TheVariants.{Create}
-use Rattle.inno_model.specs.declared.event.Event.{Event}
-use Rattle.inno_model.specs.declared.event.Event.TheVariants.{Begin, Changed, Committed, RolledBack}
-use Rattle.inno_model.specs.Past.{begins}
+use Rattle.inno_model.specs.{declared.event.Event.Event, declared.event.Event.TheVariants.Begin, declared.event.Event.TheVariants.Changed}
+use Rattle.inno_model.specs.{declared.event.Event.TheVariants.Committed, declared.event.Event.TheVariants.RolledBack, Past.begins}
 use Rattle.sql_grammar.specs.Grammar.{Spells}
 use Rattle.sql_history.specs.Legal.{MayBegin, MayChange, MayCommit, MayRollBack}
-use Rattle.shared_lists.specs.Tasks.{Idle}
-use Rattle.shared_lists.specs.State.{State, IsNow, Stays}
+use Rattle.shared_lists.specs.{Tasks.Idle, State.State, State.IsNow, State.Stays}
 
 -- the session's next transaction has begun
 abbrev pub begun : ℕ → Level → List Event → List Event

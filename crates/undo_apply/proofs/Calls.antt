@@ -4,14 +4,11 @@ use Rattle.std.specs.Prelude.{is_some}
 use Rattle.std.proofs.lemmas.Bool.{true≢false, eq-eqb}
 use Rattle.store_api.specs.declared.moves.Move.{Move}
 use Rattle.store_api.specs.declared.moves.Move.TheVariants.{End, Done, Step, Latch, Again, Full, TooDeep, Failed, Bad, NoMemory}
-use Rattle.entries.specs.Pairs.{Pair, value_of}
-use Rattle.entries.specs.Index.{Told}
+use Rattle.entries.specs.{Pairs.Pair, Pairs.value_of, Index.Told}
 use Rattle.entries.specs.Calls.{Delays, Fetches, NextKeys, Replaces, Removes, IsResized, is_as_long}
-use Rattle.world.specs.State.{WorldState}
-use Rattle.world.specs.Told.{IsTold}
+use Rattle.world.specs.{State.WorldState, Told.IsTold}
 use Rattle.row_changes.proofs.Telling.{tells}
-use Rattle.undo_apply.specs.Told.{rows_of}
-use Rattle.undo_apply.specs.Stages.{Stops}
+use Rattle.undo_apply.specs.{Told.rows_of, Stages.Stops}
 
 -- what is said of the pairs holds of them, where all is told
 pub told_of : (P : List Pair → Type 0) (state : WorldState) (index : ℕ) → IsTold state → Told P (state.indexes index) → P ((rows_of state).pairs index)

@@ -3,23 +3,17 @@ use Rattle.std.proofs.Common.{◌≡◌, ℕ, zero, suc, ◌+◌, ◌-◌, ◌*�
 use Rattle.std.specs.Prelude.{All}
 use Rattle.std.proofs.lemmas.Option.{slice_get_within}
 use Rattle.std.proofs.lemmas.List.Elements.{All-head, All-tail}
-use Rattle.inno_types.specs.declared.value.Kind.{Kind}
-use Rattle.inno_types.specs.declared.value.Key.{Key}
-use Rattle.inno_types.specs.declared.value.Column.{Column}
-use Rattle.inno_types.specs.declared.value.Schema.{Schema}
+use Rattle.inno_types.specs.{declared.value.Kind.Kind, declared.value.Key.Key, declared.value.Column.Column, declared.value.Schema.Schema}
 use Rattle.store_api.specs.declared.answers.Undo.{Undo}
 use Rattle.store_api.specs.declared.answers.Version.{Version as Coded}
 use Rattle.key_codec.specs.Keys.{entry_code}
 use Rattle.key_codec.proofs.Lengths.{length-key_code, length-entry_code}
-use Rattle.law_stored_rows.specs.Storable.{IsStorable, IsKeyOn}
+use Rattle.law_stored_rows.specs.{Storable.IsStorable, Storable.IsKeyOn, Entries.value_in, Records.IsCodeOf}
 use Rattle.row_versions.specs.declared.place.Place.{Place}
 use Rattle.secondary.specs.Entries.{HasSecondary, place_if, place_of, kind_if, kind_at, entry_of}
-use Rattle.law_stored_rows.specs.Entries.{value_in}
-use Rattle.law_stored_rows.specs.Records.{IsCodeOf}
 use Rattle.law_stored_rows.proofs.Values.{entry_there, key_there}
 use Rattle.world.specs.State.{WorldState, IsIndex}
-use Rattle.undo_apply.specs.Moves.{HasKeyAt}
-use Rattle.undo_apply.specs.Standing.{TellsOf, column_of}
+use Rattle.undo_apply.specs.{Moves.HasKeyAt, Standing.TellsOf, Standing.column_of}
 
 -- the key of this number, and its column
 pub record IsKeyAt (schema : Schema) (which : ℕ) : Type 0 where

@@ -8,24 +8,17 @@ use Rattle.store_api.specs.declared.answers.Undo.{Undo}
 use Rattle.store_api.specs.declared.answers.Version.{Version as Coded}
 use Rattle.row_codec.proofs.Once.{same_version}
 use Rattle.entries.specs.Pairs.{value_of}
-use Rattle.row_versions.specs.declared.kept.Kept.{Kept}
-use Rattle.row_versions.specs.declared.place.Place.{Place}
-use Rattle.row_versions.specs.declared.version.Version.{Version}
-use Rattle.row_versions.specs.Chains.{Chains, older, Pops}
+use Rattle.row_versions.specs.{declared.kept.Kept.Kept, declared.place.Place.Place, declared.version.Version.Version, Chains.Chains, Chains.older}
+use Rattle.row_versions.specs.{Chains.Pops}
 use Rattle.law_stored_rows.specs.Edits.{clustered_index, Puts}
 use Rattle.law_stored_rows.specs.Entries.{entry_of as entry_said}
-use Rattle.law_stored_rows.specs.Records.{shown, IsCodeOf, LeadTo}
-use Rattle.law_stored_rows.specs.Steps.{PutsRecord}
-use Rattle.law_stored_rows.proofs.Pairs.{value_now}
-use Rattle.law_stored_rows.proofs.RowRecords.{pointer_followed, one_lead}
-use Rattle.law_stored_rows.proofs.Keys.{change_over}
-use Rattle.law_stored_rows.proofs.Steps.{record_taken_back, record_removed}
-use Rattle.law_stored_rows.proofs.Tables.{popped_here}
+use Rattle.law_stored_rows.specs.{Records.shown, Records.IsCodeOf, Records.LeadTo, Steps.PutsRecord}
+use Rattle.law_stored_rows.proofs.{Pairs.value_now, RowRecords.pointer_followed, RowRecords.one_lead, Keys.change_over, Steps.record_taken_back}
+use Rattle.law_stored_rows.proofs.{Steps.record_removed, Tables.popped_here}
 use Rattle.undo_apply.specs.Told.{Rows}
 use Rattle.undo_apply.specs.Standing.{TellsOf, IsNewest, said_but, AreCodedBut, LeadsBack, was_before, versions_before, IsLagging, IsUnderWay, IsTakenBack}
-use Rattle.undo_apply.proofs.Telling.{pairs_after}
-use Rattle.undo_apply.proofs.Places.{place_is, newest_read, before_new, before_kept}
-use Rattle.undo_apply.proofs.Says.{says_place, lags_there, but_after}
+use Rattle.undo_apply.proofs.{Telling.pairs_after, Places.place_is, Places.newest_read, Places.before_new, Places.before_kept, Says.says_place}
+use Rattle.undo_apply.proofs.{Says.lags_there, Says.but_after}
 
 module _ (chains : Chains) (place : Place) (undo : Undo) (schema : Schema) (rows : Rows) (tells : TellsOf undo schema place rows.schemas) where
   -- the rows once the record is what it was before

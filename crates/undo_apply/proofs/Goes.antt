@@ -2,19 +2,11 @@
 use Rattle.std.proofs.Common.{◌≡◌, ◌≢◌, inl, inr, ℕ, ◌≤◌, List, Some, refl, sym, ap, subst, ◌∙◌, length, slice_get, arith}
 use Rattle.std.specs.Prelude.{vec_capacity}
 use Rattle.inno_types.specs.declared.value.Schema.{Schema}
-use Rattle.store_api.specs.declared.answers.Undo.{Undo}
-use Rattle.store_api.specs.declared.moves.Move.{Move}
-use Rattle.store_api.specs.declared.moves.Move.TheVariants.{Done, Step}
-use Rattle.row_versions.specs.declared.place.Place.{Place}
-use Rattle.row_versions.specs.Chains.{Chains}
-use Rattle.world.specs.State.{WorldState}
+use Rattle.store_api.specs.{declared.answers.Undo.Undo, declared.moves.Move.Move, declared.moves.Move.TheVariants.Done, declared.moves.Move.TheVariants.Step}
+use Rattle.row_versions.specs.{declared.place.Place.Place, Chains.Chains}
+use Rattle.world.specs.{State.WorldState, Told.IsTold, Told.LeavesRows}
 use Rattle.row_changes.specs.Pairs.{RowsStay}
-use Rattle.undo_apply.specs.declared.work_room.WorkRoom.{WorkRoom}
-use Rattle.undo_apply.specs.declared.work_room.Stage.{Stage}
-use Rattle.undo_apply.specs.Rooms.{IsWhole}
-use Rattle.world.specs.Told.{IsTold, LeavesRows}
-use Rattle.undo_apply.specs.Told.{Rows, rows_of}
-use Rattle.undo_apply.specs.Standing.{TellsOf}
+use Rattle.undo_apply.specs.{declared.work_room.WorkRoom.WorkRoom, declared.work_room.Stage.Stage, Rooms.IsWhole, Told.Rows, Told.rows_of, Standing.TellsOf}
 use Rattle.undo_apply.specs.Stages.{FitsKeys, StageHolds, IsPuttingBack, ChangesOneEntry, Nears, StopsAt, IsHindered, PutsBack}
 use Rattle.undo_apply.proofs.Telling.{schemas_stay, told_before, rows_stay, leaves_told, leaves_rows}
 

@@ -2,8 +2,7 @@
 use Rattle.std.proofs.Common.{◌≡◌, ℕ, ◌^◌, ◌<◌, ◌≤◌, Bool, List, ◌∷◌, ◌++◌, length, length-append, take, drop, sym, ap, ◌∙◌, arith}
 use Rattle.std.proofs.lemmas.List.{take_at, drop_at}
 use Rattle.key_codec.specs.Numbers.{u64_bytes}
-use Rattle.key_codec.proofs.Lengths.{length-u64_bytes}
-use Rattle.key_codec.proofs.Once.{same_u64}
+use Rattle.key_codec.proofs.{Lengths.length-u64_bytes, Once.same_u64}
 use Rattle.row_codec.specs.Rows.{head_code, mark_code}
 use Rattle.row_codec.proofs.Parts.{length-head_code, head_parts}
 

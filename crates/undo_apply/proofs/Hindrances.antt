@@ -1,23 +1,17 @@
 -- Who is awaited after a step of a taking back, and that nothing hinders it in memory where nobody else is awaited.
 use Rattle.std.proofs.Common.{◌≡◌, ◌⊎◌, inl, inr, ⊎_elim, ℕ, ◌<◌, Option, Some, None, refl, subst, arith, length}
-use Rattle.store_api.specs.declared.answers.Undo.{Undo}
-use Rattle.store_api.specs.declared.moves.Move.{Move}
+use Rattle.store_api.specs.{declared.answers.Undo.Undo, declared.moves.Move.Move}
 use Rattle.store_api.specs.declared.moves.Move.TheVariants.{Done, Step, Latch, Again, Failed, Bad}
-use Rattle.entries.specs.Index.{Index}
-use Rattle.entries.specs.Calls.{Delays, IsKeptOff}
+use Rattle.entries.specs.{Index.Index, Calls.Delays, Calls.IsKeptOff}
 use Rattle.row_versions.specs.Calls as chain
 use Rattle.row_versions.specs.Versions as versions
-use Rattle.row_versions.specs.declared.place.Place.{Place}
-use Rattle.row_versions.specs.Chains.{Chains}
+use Rattle.row_versions.specs.{declared.place.Place.Place, Chains.Chains}
 use Rattle.law_stored_rows.specs.Edits.{clustered_index, key_index}
-use Rattle.world.specs.State.{WorldState}
-use Rattle.world.specs.Memory.{IsInMemory}
+use Rattle.world.specs.{State.WorldState, Memory.IsInMemory}
 use Rattle.world.proofs.Memory.{no_pages}
 use Rattle.row_changes.specs.Awaited.{AwaitsAt, AwaitsIn, IsAwaitedAlone}
 use Rattle.row_changes.proofs.Awaited.{awaits_in, clustered_of_table, key_of_table}
-use Rattle.undo_apply.specs.declared.work_room.WorkRoom.{WorkRoom}
-use Rattle.undo_apply.specs.declared.work_room.Stage.{Stage}
-use Rattle.undo_apply.specs.declared.work_room.Stage.TheVariants.{Walk}
+use Rattle.undo_apply.specs.{declared.work_room.WorkRoom.WorkRoom, declared.work_room.Stage.Stage, declared.work_room.Stage.TheVariants.Walk}
 use Rattle.undo_apply.specs.Stages.{FitsKeys, IsPuttingBack, PutsBack, Stops, StopsWalk, StopsAt, index_at}
 
 pub rows_await : (chains : Chains) (place : Place) (actor : ℕ) (undo : Undo) (room : WorkRoom) (old new : WorldState)

@@ -7,40 +7,27 @@ use Rattle.std.proofs.lemmas.Bool.{true≢false, cond-true, cond-false, cases_eq
 use Rattle.inno_types.specs.declared.value.Schema.{Schema}
 use Rattle.store_api.specs.declared.answers.Undo.{Undo}
 use Rattle.store_api.specs.declared.answers.Version.{Version as Coded}
-use Rattle.store_api.specs.declared.moves.Move.{Move}
-use Rattle.store_api.specs.declared.moves.Move.TheVariants.{End, Done, Step, NoMemory}
-use Rattle.entries.specs.Pairs.{Pair, value_of}
-use Rattle.entries.specs.Index.{Index, HasGone}
-use Rattle.entries.specs.Calls.{NextKeys, Removes}
+use Rattle.store_api.specs.{declared.moves.Move.Move, declared.moves.Move.TheVariants.End, declared.moves.Move.TheVariants.Done}
+use Rattle.store_api.specs.{declared.moves.Move.TheVariants.Step, declared.moves.Move.TheVariants.NoMemory}
+use Rattle.entries.specs.{Pairs.Pair, Pairs.value_of, Index.Index, Index.HasGone, Calls.NextKeys, Calls.Removes}
 use Rattle.row_codec.specs.Rows.{IsRecordOf, IsVersion}
-use Rattle.row_versions.specs.declared.place.Place.{Place}
-use Rattle.row_versions.specs.declared.version.Version.{Version}
-use Rattle.row_versions.specs.Chains.{Chains}
+use Rattle.row_versions.specs.{declared.place.Place.Place, declared.version.Version.Version, Chains.Chains}
 use Rattle.secondary.specs.Entries.{entry_of}
-use Rattle.law_stored_rows.specs.Edits.{key_index, with_value}
-use Rattle.law_stored_rows.specs.Entries.{value_in}
-use Rattle.law_stored_rows.specs.Records.{shown, IsCodeOf, LeadTo}
-use Rattle.world.specs.State.{WorldState}
-use Rattle.world.specs.Indexes.{Calls, Changes, ReplacesWith}
+use Rattle.law_stored_rows.specs.{Edits.key_index, Edits.with_value, Entries.value_in, Records.shown, Records.IsCodeOf, Records.LeadTo}
+use Rattle.world.specs.{State.WorldState, Indexes.Calls, Indexes.Changes, Indexes.ReplacesWith, Told.IsTold}
 use Rattle.row_changes.specs.Pairs.{RowsStay, PutsPair}
 use Rattle.row_changes.proofs.Changing.{same_rows}
 use Rattle.row_changes.proofs.Worlds.{stays_if, next_key_keeps, puts_if, change_stays_if, replace_keeps, remove_keeps}
-use Rattle.undo_apply.specs.declared.work_room.WorkRoom.{WorkRoom}
-use Rattle.undo_apply.specs.declared.work_room.Stage.{Stage}
+use Rattle.undo_apply.specs.{declared.work_room.WorkRoom.WorkRoom, declared.work_room.Stage.Stage, Rooms.IsWhole, Rooms.steps_left, Told.Rows, Told.rows_of}
+use Rattle.undo_apply.specs.{Moves.WentOn, Moves.WentOnOrEnded, Moves.at_stage}
 use Rattle.undo_apply.specs.declared.work_room.Stage.TheVariants.{Key, Mark, Await, Remove, Unmark}
-use Rattle.undo_apply.specs.Rooms.{IsWhole, steps_left}
-use Rattle.world.specs.Told.{IsTold}
-use Rattle.undo_apply.specs.Told.{Rows, rows_of}
 use Rattle.undo_apply.specs.Standing.{TellsOf, had_row, versions_before, IsCleared, IsUnderWay, column_of}
-use Rattle.undo_apply.specs.Moves.{WentOn, WentOnOrEnded, at_stage}
 use Rattle.undo_apply.specs.Stages.{FitsKeys, StageHolds, IsPuttingBack, PutsBack, ChangesOneEntry, Nears, Stops, StopsAt}
 use Rattle.undo_apply.proofs.Telling.{schemas_stay, schemas_after, told_before, told_before_put, rows_stay, rows_after, pairs_after}
-use Rattle.undo_apply.proofs.Places.{newest_read, what_was, WasThere, WasNot}
-use Rattle.undo_apply.proofs.Columns.{entry_short}
-use Rattle.undo_apply.proofs.Taken.{with_entry, dropped, unmarked_now, passed}
+use Rattle.undo_apply.proofs.{Places.newest_read, Places.what_was, Places.WasThere, Places.WasNot, Columns.entry_short, Taken.with_entry, Taken.dropped}
+use Rattle.undo_apply.proofs.{Taken.unmarked_now, Taken.passed, Goes.whole_again, Goes.went, Goes.hindered}
 use Rattle.undo_apply.proofs.There.{entry_says, one_byte, cleared_any, lagging_any, newest_any, absent_stays}
 use Rattle.undo_apply.proofs.Calls.{told_of, IsThereAs, replace_stops, remove_stops, next_key_stops}
-use Rattle.undo_apply.proofs.Goes.{whole_again, went, hindered}
 
 module _ (chains : Chains) (place : Place) (undo : Undo) (schema : Schema) where
   abbrev before : List Version

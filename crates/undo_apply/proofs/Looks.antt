@@ -6,34 +6,22 @@ use Rattle.std.specs.declared.alloc.Global.{Global}
 use Rattle.inno_types.specs.declared.value.Schema.{Schema}
 use Rattle.store_api.specs.declared.answers.Undo.{Undo}
 use Rattle.store_api.specs.declared.answers.Version.{Version as Coded}
-use Rattle.store_api.specs.declared.moves.Move.{Move}
-use Rattle.store_api.specs.declared.moves.Move.TheVariants.{Done, Step}
+use Rattle.store_api.specs.{declared.moves.Move.Move, declared.moves.Move.TheVariants.Done, declared.moves.Move.TheVariants.Step}
 use Rattle.row_codec.specs.Rows.{IsRecordOf, IsVersion, head_code, others_code}
-use Rattle.row_versions.specs.declared.kept.Kept.{Kept}
-use Rattle.row_versions.specs.Versions.{IsPointer}
-use Rattle.row_versions.specs.declared.place.Place.{Place}
-use Rattle.row_versions.specs.declared.version.Version.{Version}
-use Rattle.row_versions.specs.Chains.{Chains}
+use Rattle.row_versions.specs.{declared.kept.Kept.Kept, Versions.IsPointer, declared.place.Place.Place, declared.version.Version.Version, Chains.Chains}
 use Rattle.secondary.specs.Entries.{entry_of}
 use Rattle.law_stored_rows.specs.Records.{IsCodeOf, LeadTo, shown}
-use Rattle.world.specs.State.{WorldState}
-use Rattle.world.specs.Undoing.{IsUnchanged}
+use Rattle.world.specs.{State.WorldState, Undoing.IsUnchanged, Told.IsTold, Told.TellsTogether}
 use Rattle.row_changes.specs.Pairs.{RowsStay}
 use Rattle.row_changes.proofs.Changing.{same_rows, unchanged_stays}
-use Rattle.undo_apply.specs.declared.work_room.WorkRoom.{WorkRoom}
-use Rattle.undo_apply.specs.declared.work_room.Stage.{Stage}
+use Rattle.undo_apply.specs.{declared.work_room.WorkRoom.WorkRoom, declared.work_room.Stage.Stage, Rooms.IsWhole, Rooms.steps_left, Told.Rows, Told.rows_of}
+use Rattle.undo_apply.specs.{Moves.at_stage, Moves.LooksAt, Moves.LooksOn}
 use Rattle.undo_apply.specs.declared.work_room.Stage.TheVariants.{Key, Walk, Mark, Await, Unmark, AwaitRecords, Record}
-use Rattle.undo_apply.specs.Rooms.{IsWhole, steps_left}
-use Rattle.world.specs.Told.{IsTold, TellsTogether}
-use Rattle.undo_apply.specs.Told.{Rows, rows_of}
 use Rattle.undo_apply.specs.Standing.{had_row, versions_before, IsLagging, HasWalked, some_has}
-use Rattle.undo_apply.specs.Moves.{at_stage, LooksAt, LooksOn}
 use Rattle.undo_apply.specs.Stages.{FitsKeys, StageHolds, LagsAt, IsPuttingBack, Nears, PutsBack, StopsAt, StopsWalk}
-use Rattle.undo_apply.proofs.Telling.{schemas_stay, told_before, rows_stay}
-use Rattle.undo_apply.proofs.Columns.{entry_short}
-use Rattle.undo_apply.proofs.Taken.{clear_unless_row, clear_of_same}
+use Rattle.undo_apply.proofs.{Telling.schemas_stay, Telling.told_before, Telling.rows_stay, Columns.entry_short, Taken.clear_unless_row, Taken.clear_of_same}
+use Rattle.undo_apply.proofs.{Goes.whole_again, Goes.went}
 use Rattle.undo_apply.proofs.Walks.{IsRead, version_read, values_same, found_here, passed_here, walk_begins, walk_ends, walk_leads, walk_shortens}
-use Rattle.undo_apply.proofs.Goes.{whole_again, went}
 use Rattle.undo_apply.proofs.KeySteps.{held, fitting, Leaves, written_leaves, went_to, stopped_at, what_stood, was_there, next_holds, next_fits, next_nears}
 
 module _ (chains : Chains) (place : Place) (actor : ℕ) (undo : Undo) (room : WorkRoom) (old : WorldState) (is : IsPuttingBack chains place undo room old)

@@ -2,23 +2,18 @@
 use Rattle.std.proofs.Common.{◌≡◌, ◌≢◌, ◌⊎◌, inl, inr, ℕ, Bool, true, false, List, [], ◌∷◌, ◌++◌, Option, Some, None, refl, sym, ap, subst, ◌∙◌, arith}
 use Rattle.std.specs.Prelude.{◌==◌, slice_index_or, not}
 use Rattle.std.proofs.lemmas.Bool.{cond-true, cond-false, eq-eqb, ne_eqb}
-use Rattle.inno_types.specs.declared.value.Value.{Value}
-use Rattle.inno_types.specs.declared.value.Schema.{Schema}
+use Rattle.inno_types.specs.{declared.value.Value.Value, declared.value.Schema.Schema}
 use Rattle.inno_db.specs.Database.{key_of}
 use Rattle.store_api.specs.declared.answers.Undo.{Undo}
 use Rattle.store_api.specs.declared.answers.Version.{Version as Coded}
 use Rattle.row_codec.specs.Rows.{head_code, mark_code, others_code}
 use Rattle.row_codec.proofs.Parts.{head_parts}
 use Rattle.entries.specs.Pairs.{Pair, value_of}
-use Rattle.row_versions.specs.declared.kept.Kept.{Kept}
-use Rattle.row_versions.specs.declared.place.Place.{Place}
-use Rattle.row_versions.specs.declared.version.Version.{Version}
-use Rattle.row_versions.specs.Chains.{Chains, versions_at, newest, older}
-use Rattle.law_stored_rows.specs.Edits.{clustered_index}
+use Rattle.row_versions.specs.{declared.kept.Kept.Kept, declared.place.Place.Place, declared.version.Version.Version, Chains.Chains, Chains.versions_at}
+use Rattle.row_versions.specs.{Chains.newest, Chains.older}
+use Rattle.law_stored_rows.specs.{Edits.clustered_index, Tables.place_in, Tables.in_table, Tables.AreClustered}
 use Rattle.law_stored_rows.specs.Records.{row_shown, shown, IsCodeOf, IsRecordWith, LeadTo}
-use Rattle.law_stored_rows.specs.Tables.{place_in, in_table, AreClustered}
-use Rattle.law_stored_rows.proofs.Values.{one_key, key_there}
-use Rattle.law_stored_rows.proofs.RowRecords.{record_read, pointer_followed, leads_nowhere}
+use Rattle.law_stored_rows.proofs.{Values.one_key, Values.key_there, RowRecords.record_read, RowRecords.pointer_followed, RowRecords.leads_nowhere}
 use Rattle.undo_apply.specs.Standing.{TellsOf, IsNewest, LeadsBack, had_row, was_before, versions_before}
 
 module _ (undo : Undo) (schema : Schema) (place : Place) (schemas : List Schema) (tells : TellsOf undo schema place schemas) where

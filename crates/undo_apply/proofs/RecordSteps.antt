@@ -5,36 +5,25 @@ use Rattle.std.specs.declared.alloc.Global.{Global}
 use Rattle.inno_types.specs.declared.value.Schema.{Schema}
 use Rattle.store_api.specs.declared.answers.Undo.{Undo}
 use Rattle.store_api.specs.declared.answers.Version.{Version as Coded}
-use Rattle.store_api.specs.declared.moves.Move.{Move}
-use Rattle.store_api.specs.declared.moves.Move.TheVariants.{End, Done, Step}
-use Rattle.entries.specs.Pairs.{value_of}
-use Rattle.entries.specs.Calls.{is_done, Fetches, NextKeys, Removes}
+use Rattle.store_api.specs.{declared.moves.Move.Move, declared.moves.Move.TheVariants.End, declared.moves.Move.TheVariants.Done}
+use Rattle.store_api.specs.{declared.moves.Move.TheVariants.Step}
+use Rattle.entries.specs.{Pairs.value_of, Calls.is_done, Calls.Fetches, Calls.NextKeys, Calls.Removes}
 use Rattle.row_codec.proofs.Stored.{length-version_code}
-use Rattle.row_versions.specs.declared.kept.Kept.{Kept}
-use Rattle.row_versions.specs.declared.place.Place.{Place}
-use Rattle.row_versions.specs.declared.version.Version.{Version}
-use Rattle.row_versions.specs.Chains.{Chains}
-use Rattle.law_stored_rows.specs.Edits.{clustered_index}
-use Rattle.law_stored_rows.specs.Records.{shown, IsCodeOf, LeadTo}
+use Rattle.row_versions.specs.{declared.kept.Kept.Kept, declared.place.Place.Place, declared.version.Version.Version, Chains.Chains}
+use Rattle.law_stored_rows.specs.{Edits.clustered_index, Records.shown, Records.IsCodeOf, Records.LeadTo}
 use Rattle.law_stored_rows.proofs.RowRecords.{pointer_followed}
-use Rattle.world.specs.State.{WorldState}
-use Rattle.world.specs.Indexes.{Calls, Changes, ReplacesWith}
+use Rattle.world.specs.{State.WorldState, Indexes.Calls, Indexes.Changes, Indexes.ReplacesWith, Told.IsTold}
 use Rattle.row_changes.specs.Pairs.{RowsStay, PutsPair}
 use Rattle.row_changes.proofs.Worlds.{stays_if, fetch_keeps, puts_if, change_stays_if, replace_keeps, remove_keeps}
-use Rattle.undo_apply.specs.declared.work_room.WorkRoom.{WorkRoom}
-use Rattle.undo_apply.specs.declared.work_room.Stage.{Stage}
-use Rattle.undo_apply.specs.declared.work_room.Stage.TheVariants.{Find, Key, AwaitRecords, Record}
-use Rattle.undo_apply.specs.Rooms.{IsWhole, steps_left}
-use Rattle.world.specs.Told.{IsTold}
-use Rattle.undo_apply.specs.Told.{Rows, rows_of}
+use Rattle.undo_apply.specs.{declared.work_room.WorkRoom.WorkRoom, declared.work_room.Stage.Stage, declared.work_room.Stage.TheVariants.Find}
+use Rattle.undo_apply.specs.{declared.work_room.Stage.TheVariants.Key, declared.work_room.Stage.TheVariants.AwaitRecords}
+use Rattle.undo_apply.specs.{declared.work_room.Stage.TheVariants.Record, Rooms.IsWhole, Rooms.steps_left, Told.Rows, Told.rows_of, Moves.WentOnOrEnded}
+use Rattle.undo_apply.specs.{Moves.Ended, Moves.at_stage}
 use Rattle.undo_apply.specs.Standing.{LeadsBack, was_before, versions_before, IsLagging, IsUnderWay, IsTakenBack}
-use Rattle.undo_apply.specs.Moves.{WentOnOrEnded, Ended, at_stage}
 use Rattle.undo_apply.specs.Stages.{StageHolds, IsPuttingBack, PutsBack, Stops, StopsAt}
 use Rattle.undo_apply.proofs.Telling.{schemas_stay, told_before, told_before_put, rows_stay, rows_after}
-use Rattle.undo_apply.proofs.Places.{not_new, before_new}
-use Rattle.undo_apply.proofs.Ends.{ends, stands}
+use Rattle.undo_apply.proofs.{Places.not_new, Places.before_new, Ends.ends, Ends.stands, Goes.whole_again, Goes.went, Goes.hindered}
 use Rattle.undo_apply.proofs.Calls.{told_of, IsThereAs, replace_stops, remove_stops, absent_stops, fetch_stops}
-use Rattle.undo_apply.proofs.Goes.{whole_again, went, hindered}
 use Rattle.undo_apply.proofs.KeySteps.{what_stood, held, Leaves, stopped_at, put_as, removed_if, await_keys}
 
 -- the version before has as many bytes as the newest

@@ -2,19 +2,12 @@
 use Rattle.std.proofs.Common.{◌≡◌, ◌≢◌, ⊎_elim, ℕ, ◌+◌, Bool, true, false, cond, List, Option, Some, refl, sym, ap, subst, ◌∙◌, arith, slice_get}
 use Rattle.std.specs.Prelude.{◌==◌, ◌&&◌}
 use Rattle.std.proofs.lemmas.Bool.{cases_eq, cond-true, cond-false, eq-eqb, ne_eqb}
-use Rattle.inno_types.specs.declared.value.Value.{Value}
-use Rattle.inno_types.specs.declared.value.Key.{Key}
-use Rattle.inno_types.specs.declared.value.Schema.{Schema}
+use Rattle.inno_types.specs.{declared.value.Value.Value, declared.value.Key.Key, declared.value.Schema.Schema}
 use Rattle.entries.specs.Pairs.{Pair}
-use Rattle.row_versions.specs.declared.kept.Kept.{Kept}
-use Rattle.row_versions.specs.declared.place.Place.{Place}
-use Rattle.row_versions.specs.declared.version.Version.{Version}
-use Rattle.row_versions.specs.Chains.{Chains, is_same_place, Pops}
-use Rattle.law_stored_rows.specs.Entries.{entry_of, TellAlike}
-use Rattle.law_stored_rows.specs.Tables.{in_table, AreCodedAs, LagAt, SaysNow}
-use Rattle.law_stored_rows.proofs.Values.{place_itself, same_place}
-use Rattle.law_stored_rows.proofs.Tables.{at, popped_elsewhere}
-use Rattle.law_stored_rows.proofs.Keys.{said_alike}
+use Rattle.row_versions.specs.{declared.kept.Kept.Kept, declared.place.Place.Place, declared.version.Version.Version, Chains.Chains, Chains.is_same_place}
+use Rattle.row_versions.specs.{Chains.Pops}
+use Rattle.law_stored_rows.specs.{Entries.entry_of, Entries.TellAlike, Tables.in_table, Tables.AreCodedAs, Tables.LagAt, Tables.SaysNow}
+use Rattle.law_stored_rows.proofs.{Values.place_itself, Values.same_place, Tables.at, Tables.popped_elsewhere, Keys.said_alike}
 use Rattle.undo_apply.specs.Standing.{said_but, AreCodedBut, IsLagging, SayBefore}
 
 -- one key says something else now

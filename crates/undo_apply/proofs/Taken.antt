@@ -4,30 +4,21 @@ use Rattle.std.proofs.Common.{arith, slice_get, length}
 use Rattle.std.specs.Prelude.{◌==◌}
 use Rattle.std.specs.List.{list_any}
 use Rattle.std.proofs.lemmas.Bool.{cases_eq, cond-false, ne_eqb}
-use Rattle.inno_types.specs.declared.value.Value.{Value}
-use Rattle.inno_types.specs.declared.value.Column.{Column}
-use Rattle.inno_types.specs.declared.value.Key.{Key}
-use Rattle.inno_types.specs.declared.value.Schema.{Schema}
+use Rattle.inno_types.specs.{declared.value.Value.Value, declared.value.Column.Column, declared.value.Key.Key, declared.value.Schema.Schema}
 use Rattle.store_api.specs.declared.answers.Undo.{Undo}
 use Rattle.store_api.specs.declared.answers.Version.{Version as Coded}
 use Rattle.entries.specs.Pairs.{value_of}
-use Rattle.row_versions.specs.declared.place.Place.{Place}
-use Rattle.row_versions.specs.declared.version.Version.{Version}
-use Rattle.row_versions.specs.Chains.{Chains, newest}
+use Rattle.row_versions.specs.{declared.place.Place.Place, declared.version.Version.Version, Chains.Chains, Chains.newest}
 use Rattle.secondary.specs.Entries.{entry_of}
 use Rattle.law_stored_rows.specs.Edits.{clustered_index, key_index, Puts}
 use Rattle.law_stored_rows.specs.Entries.{value_in, has_value, entry_of as entry_said, TellAlike, TellAlikeBut}
-use Rattle.law_stored_rows.specs.Records.{shown, row_shown, IsCodeOf}
-use Rattle.law_stored_rows.specs.Tables.{SaysNow}
-use Rattle.law_stored_rows.proofs.Values.{value_itself}
-use Rattle.law_stored_rows.proofs.Pairs.{no_key}
+use Rattle.law_stored_rows.specs.{Records.shown, Records.row_shown, Records.IsCodeOf, Tables.SaysNow}
+use Rattle.law_stored_rows.proofs.{Values.value_itself, Pairs.no_key, Keys.entry_changed}
 use Rattle.law_stored_rows.proofs.Entries.{marked, taken, is_taken, unmarked, is_unmarked, without_row, value_again}
-use Rattle.law_stored_rows.proofs.Keys.{entry_changed}
 use Rattle.undo_apply.specs.Told.{Rows}
 use Rattle.undo_apply.specs.Standing.{TellsOf, IsNewest, said_but, AreCodedBut, IsCleared, IsLagging, SayBefore, IsUnderWay, versions_before, column_of}
 use Rattle.undo_apply.specs.Standing.{some_has}
-use Rattle.undo_apply.proofs.Telling.{pairs_after}
-use Rattle.undo_apply.proofs.Places.{place_is, WasThere, WasNot}
+use Rattle.undo_apply.proofs.{Telling.pairs_after, Places.place_is, Places.WasThere, Places.WasNot}
 use Rattle.undo_apply.proofs.Columns.{IsKeyAt, key_at, column_is, entry_is, few_keys}
 use Rattle.undo_apply.proofs.Says.{set_said, set_here, set_others, here_now, one_done, says_place, sets_there, but_alike}
 

@@ -3,8 +3,7 @@ use Rattle.std.proofs.Common.{◌≡◌, ℕ, cond, List, Option, ap}
 use Rattle.std.specs.Prelude.{◌==◌}
 use Rattle.entries.specs.Pairs.{Pair}
 use Rattle.law_stored_rows.specs.Edits.{with_value}
-use Rattle.world.specs.State.{WorldState}
-use Rattle.world.specs.Told.{pairs_of, IsTold, LeavesRows}
+use Rattle.world.specs.{State.WorldState, Told.pairs_of, Told.IsTold, Told.LeavesRows}
 use Rattle.row_changes.specs.Pairs.{RowsStay, PutsPair}
 use Rattle.row_changes.proofs.Telling.{told_if, went, put_told, put_pairs}
 use Rattle.undo_apply.specs.Told.{rows_of}

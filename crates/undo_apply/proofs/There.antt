@@ -4,22 +4,17 @@ use Rattle.std.specs.Prelude.{not, ◌||◌}
 use Rattle.std.specs.List.{list_any}
 use Rattle.std.specs.BTreeMap.{is_at}
 use Rattle.std.proofs.lemmas.Bool.{cond-true, cond-false}
-use Rattle.inno_types.specs.declared.value.Value.{Value}
-use Rattle.inno_types.specs.declared.value.Column.{Column}
-use Rattle.inno_types.specs.declared.value.Schema.{Schema}
+use Rattle.inno_types.specs.{declared.value.Value.Value, declared.value.Column.Column, declared.value.Schema.Schema}
 use Rattle.store_api.specs.declared.answers.Undo.{Undo}
 use Rattle.store_api.specs.declared.answers.Version.{Version as Coded}
 use Rattle.key_codec.specs.Keys.{HasKey, key_code, entry_code}
 use Rattle.row_codec.specs.Rows.{mark_code}
 use Rattle.entries.specs.Pairs.{Pair, key_cmp, value_of, without_key}
-use Rattle.row_versions.specs.declared.place.Place.{Place}
-use Rattle.row_versions.specs.declared.version.Version.{Version}
-use Rattle.row_versions.specs.Chains.{Chains, newest, is_same_place}
+use Rattle.row_versions.specs.{declared.place.Place.Place, declared.version.Version.Version, Chains.Chains, Chains.newest, Chains.is_same_place}
 use Rattle.secondary.specs.Entries.{entry_of}
 use Rattle.law_stored_rows.specs.Edits.{key_index}
 use Rattle.law_stored_rows.specs.Entries.{value_in, has_value, entry_of as entry_said}
-use Rattle.law_stored_rows.specs.Records.{IsCodeOf}
-use Rattle.law_stored_rows.specs.Tables.{in_table}
+use Rattle.law_stored_rows.specs.{Records.IsCodeOf, Tables.in_table}
 use Rattle.law_stored_rows.proofs.Values.{place_itself, value_itself, entry_there}
 use Rattle.undo_apply.specs.Told.{Rows}
 use Rattle.undo_apply.specs.Standing.{TellsOf, said_but, AreCodedBut, IsCleared, IsLagging, column_of}

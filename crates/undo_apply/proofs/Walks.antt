@@ -3,20 +3,15 @@ use Rattle.std.proofs.Common.{◌≡◌, ◌≢◌, ◌⊎◌, inl, inr, ℕ, �
 use Rattle.std.specs.Prelude.{option_map, IsTrue, ◌==◌, ◌||◌, is_some}
 use Rattle.std.proofs.Math.Bool.{or-true}
 use Rattle.std.proofs.lemmas.Bool.{true≢false, eq-eqb}
-use Rattle.inno_types.specs.declared.value.Value.{Value}
-use Rattle.inno_types.specs.declared.value.Schema.{Schema}
+use Rattle.inno_types.specs.{declared.value.Value.Value, declared.value.Schema.Schema}
 use Rattle.store_api.specs.declared.answers.Version.{Version as Coded}
 use Rattle.key_codec.specs.Keys.{entry_code}
 use Rattle.key_codec.proofs.Once.{same_entry}
-use Rattle.law_stored_rows.specs.Storable.{IsStorable}
-use Rattle.row_versions.specs.declared.kept.Kept.{Kept}
-use Rattle.row_versions.specs.Versions.{Versions, leads}
-use Rattle.row_versions.specs.declared.version.Version.{Version}
+use Rattle.law_stored_rows.specs.{Storable.IsStorable, Entries.is_same_value, Entries.value_in, Entries.has_value, Records.row_shown, Records.shown}
+use Rattle.law_stored_rows.specs.{Records.IsCodeOf, Records.LeadTo}
+use Rattle.row_versions.specs.{declared.kept.Kept.Kept, Versions.Versions, Versions.leads, declared.version.Version.Version}
 use Rattle.secondary.specs.Entries.{entry_of}
-use Rattle.law_stored_rows.specs.Entries.{is_same_value, value_in, has_value}
-use Rattle.law_stored_rows.specs.Records.{row_shown, shown, IsCodeOf, LeadTo}
-use Rattle.law_stored_rows.proofs.Values.{same_value, value_itself, entry_there}
-use Rattle.law_stored_rows.proofs.RowRecords.{leads_nowhere, one_lead}
+use Rattle.law_stored_rows.proofs.{Values.same_value, Values.value_itself, Values.entry_there, RowRecords.leads_nowhere, RowRecords.one_lead}
 use Rattle.undo_apply.specs.Standing.{column_of, some_has, HasWalked}
 use Rattle.undo_apply.proofs.Columns.{key_at, column_is, entry_is}
 

@@ -1,7 +1,6 @@
 -- What contracts see of a room for entries, and what room it has.
 use Rattle.std.specs.Prelude.{ℕ, ◌≤◌, ◌<◌, List, [], slice_index_or, vec_capacity}
-use Rattle.undo_apply.specs.Lengths.{AreOfEachLength}
-use Rattle.undo_apply.specs.declared.entry_room.EntryRoom.TheInside.{Inside}
+use Rattle.undo_apply.specs.{Lengths.AreOfEachLength, declared.entry_room.EntryRoom.TheInside.Inside}
 
 -- the entry that was written last
 abbrev pub last_written : Inside → List ℕ

@@ -1,6 +1,5 @@
 -- What lists a room for undo records has.
-use Rattle.undo_apply.specs.Lengths.{AreOfEachLength}
-use Rattle.undo_apply.specs.declared.record_room.RecordRoom.TheInside.{Inside}
+use Rattle.undo_apply.specs.{Lengths.AreOfEachLength, declared.record_room.RecordRoom.TheInside.Inside}
 
 -- a key of 67 bytes and a value of 1,024 have a list
 pub record HasLists (room : Inside) : Type 0 where

@@ -7,20 +7,12 @@ use Rattle.store_api.specs.declared.moves.Move.{Move}
 use Rattle.store_api.specs.declared.moves.Move.TheVariants.{Done, Step, Latch, Again, Failed, Bad}
 use Rattle.store_api.specs.declared.visits.Visit.TheVariants as visit
 use Rattle.entries.specs.Pairs.{value_of}
-use Rattle.row_versions.specs.Calls.{IsUnseen}
-use Rattle.row_versions.specs.declared.place.Place.{Place}
-use Rattle.row_versions.specs.declared.version.Version.{Version}
-use Rattle.row_versions.specs.Chains.{Chains, Pops}
-use Rattle.law_stored_rows.specs.Edits.{clustered_index, key_index}
-use Rattle.law_stored_rows.specs.Records.{shown, LeadTo}
-use Rattle.world.specs.State.{WorldState}
+use Rattle.row_versions.specs.{Calls.IsUnseen, declared.place.Place.Place, declared.version.Version.Version, Chains.Chains, Chains.Pops}
+use Rattle.law_stored_rows.specs.{Edits.clustered_index, Edits.key_index, Records.shown, Records.LeadTo}
+use Rattle.world.specs.{State.WorldState, Told.IsTold}
 use Rattle.row_changes.specs.Pairs.{RowsStay, PutsPair, Hinders}
-use Rattle.undo_apply.specs.declared.work_room.WorkRoom.{WorkRoom}
-use Rattle.undo_apply.specs.declared.work_room.Stage.{Stage}
+use Rattle.undo_apply.specs.{declared.work_room.WorkRoom.WorkRoom, declared.work_room.Stage.Stage, Rooms.IsWhole, Rooms.steps_left, Told.Rows, Told.rows_of}
 use Rattle.undo_apply.specs.declared.work_room.Stage.TheVariants.{Find, Key, Walk, Mark, Await, Remove, Unmark, AwaitRecords, Record}
-use Rattle.undo_apply.specs.Rooms.{IsWhole, steps_left}
-use Rattle.world.specs.Told.{IsTold}
-use Rattle.undo_apply.specs.Told.{Rows, rows_of}
 use Rattle.undo_apply.specs.Standing.{TellsOf, was_before, had_row, versions_before, IsCleared, IsLagging, IsUnderWay, IsTakenBack, some_has, HasWalked}
 
 -- the key of a stage is one of the table's

@@ -1,22 +1,16 @@
 -- A change that stands as the newest version of its place, and what keys say of the place while it is taken back.
 use Rattle.std.specs.Prelude.{◌≡◌, ◌≢◌, ◌⊎◌, ℕ, ◌<◌, ◌≤◌, ◌==◌, Bool, false, if◌then◌else◌, List, ◌∷◌, length, slice_get, slice_index_or, Option, None, Some}
 use Rattle.std.specs.List.{list_any}
-use Rattle.inno_types.specs.declared.value.Column.{Column}
-use Rattle.inno_types.specs.declared.value.Schema.{Schema}
+use Rattle.inno_types.specs.{declared.value.Column.Column, declared.value.Schema.Schema}
 use Rattle.store_api.specs.declared.answers.Undo.{Undo}
 use Rattle.store_api.specs.declared.answers.Version.{Version as Coded}
 use Rattle.key_codec.specs.Keys.{HasKey, key_code}
-use Rattle.law_stored_rows.specs.Storable.{IsStorable}
+use Rattle.law_stored_rows.specs.{Storable.IsStorable, Edits.clustered_index, Entries.value_in, Entries.has_value, Records.shown, Records.IsCodeOf}
+use Rattle.law_stored_rows.specs.{Records.LeadTo, Tables.in_table, Tables.Said, Tables.AreCodedAs, Tables.AreCoded}
 use Rattle.entries.specs.Pairs.{Pair, value_of}
-use Rattle.row_versions.specs.declared.kept.Kept.{Kept}
-use Rattle.row_versions.specs.declared.place.Place.{Place}
-use Rattle.row_versions.specs.declared.version.Version.{Version}
-use Rattle.row_versions.specs.Chains.{Chains, versions_at, is_same_place, older}
+use Rattle.row_versions.specs.{declared.kept.Kept.Kept, declared.place.Place.Place, declared.version.Version.Version, Chains.Chains, Chains.versions_at}
+use Rattle.row_versions.specs.{Chains.is_same_place, Chains.older}
 use Rattle.secondary.specs.Entries.{place_if}
-use Rattle.law_stored_rows.specs.Edits.{clustered_index}
-use Rattle.law_stored_rows.specs.Entries.{value_in, has_value}
-use Rattle.law_stored_rows.specs.Records.{shown, IsCodeOf, LeadTo}
-use Rattle.law_stored_rows.specs.Tables.{in_table, Said, AreCodedAs, AreCoded}
 use Rattle.world.specs.Indexes.{IsUndo}
 use Rattle.undo_apply.specs.Told.{Rows}
 

@@ -3,8 +3,7 @@ use Rattle.std.specs.Prelude.{ℕ, List, Option}
 use Rattle.inno_types.specs.declared.value.Schema.{Schema}
 use Rattle.entries.specs.Pairs.{Pair}
 use Rattle.row_versions.specs.declared.kept.Kept.{Kept}
-use Rattle.world.specs.State.{WorldState}
-use Rattle.world.specs.Told.{pairs_of}
+use Rattle.world.specs.{State.WorldState, Told.pairs_of}
 
 -- the tables, the pairs of all indexes, and what is kept for roll pointers
 pub record Rows : Type 0 where

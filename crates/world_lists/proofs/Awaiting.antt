@@ -5,24 +5,16 @@ use Rattle.std.proofs.lemmas.Bool.Decides.{eqb_tells}
 use Rattle.inno_types.specs.declared.value.Schema.{Schema}
 use Rattle.entries.specs.Index.{Index}
 use Rattle.row_versions.specs.Chains.{Chains}
-use Rattle.world.specs.State.{WorldState}
-use Rattle.world.specs.declared.undo_room.UndoRoom.{UndoRoom}
-use Rattle.row_changes.specs.declared.row_change.RowChange.{RowChange}
-use Rattle.row_changes.specs.declared.row_change.RowChange.TheVariants.{Record, Keys}
-use Rattle.row_changes.specs.declared.reached.Reached.{Reached}
+use Rattle.world.specs.{State.WorldState, declared.undo_room.UndoRoom.UndoRoom}
+use Rattle.row_changes.specs.{declared.row_change.RowChange.RowChange, declared.row_change.RowChange.TheVariants.Record}
+use Rattle.row_changes.specs.{declared.row_change.RowChange.TheVariants.Keys, declared.reached.Reached.Reached}
 use Rattle.row_changes.specs.declared.reached.Reached.TheVariants as reached
-use Rattle.row_changes.specs.Awaited.{AwaitsIn, IsOfTable}
-use Rattle.row_changes.specs.Rows.{IsChangingRow, ChangesRow, table_of}
+use Rattle.row_changes.specs.{Awaited.AwaitsIn, Awaited.IsOfTable, Rows.IsChangingRow, Rows.ChangesRow, Rows.table_of}
 use Rattle.undo_apply.specs.declared.work_room.WorkRoom.{WorkRoom}
 use Rattle.shared_lists.specs.State.{writer_without}
-use Rattle.desks.specs.declared.desk.Desk.{Desk}
-use Rattle.desks.specs.declared.desk.Doing.{Doing}
-use Rattle.desks.specs.declared.desk.Doing.TheVariants.{Nothing}
-use Rattle.desks.specs.Desks.{doing_at, with_doing}
-use Rattle.desks.specs.Holding.{IsHeld}
-use Rattle.law_held_steps.specs.Moving.{MovesPlaces}
-use Rattle.law_held_steps.specs.Leaving.{LeavesIndexes, LeavesTable}
-use Rattle.law_held_steps.specs.Making.{doing_after}
+use Rattle.desks.specs.{declared.desk.Desk.Desk, declared.desk.Doing.Doing, declared.desk.Doing.TheVariants.Nothing, Desks.doing_at, Desks.with_doing}
+use Rattle.desks.specs.{Holding.IsHeld}
+use Rattle.law_held_steps.specs.{Moving.MovesPlaces, Leaving.LeavesIndexes, Leaving.LeavesTable, Making.doing_after}
 use Rattle.law_held_steps.proofs.Desks.{doing_elsewhere}
 use Rattle.world_lists.specs.Between.{IsKept, AwaitsWriter, IsAwaitedFor, AwaitsOnly, AwaitsNobody, can_await, table_at}
 use Rattle.world_lists.specs.Parts.{StepsChange, LeavesIfOver}

@@ -1,38 +1,29 @@
 -- What a call finds of the lists: its session with its transaction, as the past says, what it has under way, and its desk.
-use Rattle.std.proofs.Common.{◌≡◌, ℕ, ◌+◌, ◌<◌, Bool, true, Option, Some, None, List, length, sym, ap, subst, ◌∙◌, arith, get_or, inl, inr, zero, suc}
-use Rattle.std.proofs.Common.{false, ◌∷◌, map, refl, [], ◌≤◌}
+use Rattle.std.proofs.Common.{◌≡◌, ℕ, ◌+◌, ◌<◌, Bool, true, Option, Some, None, List, length, sym, ap, subst, ◌∙◌, arith, get_or, inl, inr, zero, suc, false}
+use Rattle.std.proofs.Common.{◌∷◌, map, refl, [], ◌≤◌}
 use Rattle.std.proofs.lemmas.Bool.Decides.{eqb_tells}
 use Rattle.std.proofs.lemmas.List.{get_or-set_other}
 use Rattle.std.specs.Prelude.{slice_set, slice_index_or, is_some, slice_get, option_map}
-use Rattle.inno_types.specs.declared.reply.Item.{Item}
-use Rattle.inno_model.specs.declared.event.Event.{Event}
-use Rattle.inno_model.specs.declared.event.Event.TheVariants.{Acked}
+use Rattle.inno_types.specs.{declared.reply.Item.Item, declared.lock.Level.Level}
+use Rattle.inno_model.specs.{declared.event.Event.Event, declared.event.Event.TheVariants.Acked}
 use Rattle.inno_model.specs.Past.{own, level, txn, view_of, started, under_way, of_item, IsOpen, awaits_ack}
 use Rattle.sql_history.specs.Settings.{Setting, at_first}
-use Rattle.law_past_agreement.specs.Order.{MayCome}
+use Rattle.law_past_agreement.specs.{Order.MayCome, Rows.place_in}
 use Rattle.store_api.specs.declared.answers.Standing.{Standing}
 use Rattle.world.specs.State.{WorldState, Session, Work, IsSession, HasWork, standing_of, txn_of, Seen, own_of, level_of}
 use Rattle.world.specs.declared.undo_room.UndoRoom.{UndoRoom}
 use Rattle.undo_apply.specs.declared.work_room.WorkRoom.{WorkRoom}
 use Rattle.row_changes.specs.Records.{IsListed}
 use Rattle.law_logged_changes.proofs.Listed.{listed_of}
-use Rattle.shared_lists.specs.Tasks.{Idle}
-use Rattle.shared_lists.specs.State.{Lists, task_of}
-use Rattle.desks.specs.declared.desk.Desk.{Desk}
-use Rattle.desks.specs.declared.desk.Doing.TheVariants.{Nothing}
-use Rattle.desks.specs.Desks.{fresh_desk, desk_at, doing_at, with_start}
-use Rattle.desks.specs.Shown.{seen_of}
-use Rattle.law_held_steps.proofs.SeenEntries.{rests_of, setting_at}
-use Rattle.law_held_steps.proofs.EntrySessions.{start_here}
+use Rattle.shared_lists.specs.{Tasks.Idle, State.Lists, State.task_of}
+use Rattle.desks.specs.{declared.desk.Desk.Desk, declared.desk.Doing.TheVariants.Nothing, Desks.fresh_desk, Desks.desk_at, Desks.doing_at, Desks.with_start}
+use Rattle.desks.specs.{Shown.seen_of, Holding.IsHeld}
+use Rattle.law_held_steps.proofs.{SeenEntries.rests_of, SeenEntries.setting_at, EntrySessions.start_here}
 use Rattle.world_lists.specs.Between.{IsKept}
-use Rattle.law_past_agreement.specs.Rows.{place_in}
 use Rattle.law_past_agreement.specs.Agreement.{IsIdle, IsWorkOf, ViewAgrees, owed_by, owed_by_txn, owed_by_item}
 use Rattle.law_world_agreement.specs.Agreement.{sight_of, work_at}
-use Rattle.law_world_agreement.proofs.Opening.{idle_of}
-use Rattle.law_world_agreement.proofs.Ending.{work_of}
-use Rattle.desks.specs.Holding.{IsHeld}
+use Rattle.law_world_agreement.proofs.{Opening.idle_of, Ending.work_of}
 use Rattle.std.proofs.lemmas.Bool.{cases_lt}
-use Rattle.inno_types.specs.declared.lock.Level.{Level}
 use Rattle.std.proofs.lemmas.Option.{slice_get-get_or}
 
 pub one_some : {X : Type 0} (a b : X) → Some a ≡ Some b → a ≡ b

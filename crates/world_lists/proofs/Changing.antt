@@ -3,59 +3,39 @@
 use Rattle.std.proofs.Common.{◌≡◌, ℕ, zero, suc, ◌+◌, ◌<◌, ◌^◌, false, true, List, ◌∷◌, length, Option, Some, refl, sym, ap, subst, ◌∙◌, arith, []}
 use Rattle.std.proofs.lemmas.Bool.{false≢true}
 use Rattle.std.specs.Prelude.{slice_get, slice_index_or}
-use Rattle.inno_types.specs.declared.value.Column.{Column}
-use Rattle.inno_types.specs.declared.value.Schema.{Schema}
+use Rattle.inno_types.specs.{declared.value.Column.Column, declared.value.Schema.Schema}
 use Rattle.inno_db.specs.declared.change.Change.{Change}
-use Rattle.inno_model.specs.Past.{IsOpen}
-use Rattle.inno_model.specs.declared.event.Event.{Event}
-use Rattle.store_api.specs.declared.moves.Move.{Move}
-use Rattle.store_api.specs.declared.moves.Move.TheVariants.{NoMemory}
+use Rattle.inno_model.specs.{Past.IsOpen, declared.event.Event.Event}
+use Rattle.store_api.specs.{declared.moves.Move.Move, declared.moves.Move.TheVariants.NoMemory}
 use Rattle.row_versions.specs.Chains.{Chains}
 use Rattle.law_past_agreement.specs.Order.{created}
 use Rattle.key_codec.specs.Keys.{IsOfKind}
-use Rattle.world.specs.State.{WorldState}
-use Rattle.world.specs.Told.{IsTold}
-use Rattle.world.specs.Undoing.{read_into}
-use Rattle.world.specs.declared.undo_room.UndoRoom.{UndoRoom}
-use Rattle.row_changes.specs.Awaited.{AwaitsIn}
-use Rattle.row_changes.specs.declared.row_edit.RowEdit.{RowEdit}
-use Rattle.row_changes.specs.declared.row_change.RowChange.{RowChange}
-use Rattle.row_changes.specs.declared.row_change.RowChange.TheVariants.{Record, Keys}
-use Rattle.row_changes.specs.declared.reached.Reached.{Reached}
-use Rattle.row_changes.specs.declared.reached.Reached.TheVariants.{Went, Done, Hindered}
-use Rattle.row_changes.specs.Edits.{change_of}
-use Rattle.row_changes.specs.Records.{IsTable}
-use Rattle.row_changes.specs.Rows.{IsChangingRow, ChangesRow, table_of, primary_of}
+use Rattle.world.specs.{State.WorldState, Told.IsTold, Undoing.read_into, declared.undo_room.UndoRoom.UndoRoom}
+use Rattle.row_changes.specs.{Awaited.AwaitsIn, declared.row_edit.RowEdit.RowEdit, declared.row_change.RowChange.RowChange}
+use Rattle.row_changes.specs.{declared.row_change.RowChange.TheVariants.Record, declared.row_change.RowChange.TheVariants.Keys}
+use Rattle.row_changes.specs.{declared.reached.Reached.Reached, declared.reached.Reached.TheVariants.Went, declared.reached.Reached.TheVariants.Done}
+use Rattle.row_changes.specs.{declared.reached.Reached.TheVariants.Hindered, Edits.change_of, Records.IsTable, Rows.IsChangingRow, Rows.ChangesRow}
+use Rattle.row_changes.specs.{Rows.table_of, Rows.primary_of}
 use Rattle.row_changes.proofs.Changing.{lacks_memory}
 use Rattle.law_logged_changes.proofs.ReadersLeft.{left_told}
 use Rattle.undo_apply.specs.declared.work_room.WorkRoom.{WorkRoom}
-use Rattle.shared_lists.specs.Fitting.{FitsWell}
-use Rattle.shared_lists.specs.declared.answers.Changed.{Changed}
+use Rattle.shared_lists.specs.{Fitting.FitsWell, declared.answers.Changed.Changed}
 use Rattle.shared_lists.specs.declared.answers.Changed.TheVariants as answers
 use Rattle.shared_lists.specs.Tasks.{Task, Idle, asked, left_by, is_changing, steps_left}
-use Rattle.shared_lists.specs.State.{Lists, Turns, task_of}
-use Rattle.shared_lists.specs.Steps.{Changes, rows_entered}
-use Rattle.desks.specs.declared.desk.Desk.{Desk}
-use Rattle.desks.specs.declared.desk.Doing.{Doing}
+use Rattle.shared_lists.specs.{State.Lists, State.Turns, State.task_of, Steps.Changes, Steps.rows_entered}
+use Rattle.desks.specs.{declared.desk.Desk.Desk, declared.desk.Doing.Doing, Desks.doing_at, Desks.with_doing, Shown.lists_of, Shown.shown, Shown.seen_of}
+use Rattle.desks.specs.{Undoing.undo_left_in, Holding.IsHeld}
 use Rattle.desks.specs.declared.desk.Doing.TheVariants.{Nothing, Searching, Changing, Lagging, Undoing}
-use Rattle.desks.specs.Desks.{doing_at, with_doing}
-use Rattle.desks.specs.Shown.{lists_of, shown, seen_of}
-use Rattle.desks.specs.Undoing.{undo_left_in}
-use Rattle.desks.specs.Holding.{IsHeld}
 use Rattle.desks.proofs.Showing.{task_is}
-use Rattle.law_held_steps.specs.Beginning.{IsEditable, IsKeyOfEdit, begun}
-use Rattle.law_held_steps.specs.Leaving.{is_searching, LeavesIndexes, LeavesTable}
-use Rattle.law_held_steps.specs.Making.{doing_after, Comes, LeavesLists, MakesChange}
-use Rattle.law_held_steps.proofs.Begun.{can_be_keyed, begins}
-use Rattle.law_held_steps.proofs.Beside.{rows_of_writer}
-use Rattle.law_held_steps.proofs.Desks.{doing_here, changes_at_a_desk}
-use Rattle.law_held_steps.proofs.Left.{held_left}
-use Rattle.law_held_steps.proofs.Made.{change_made}
+use Rattle.law_held_steps.specs.{Beginning.IsEditable, Beginning.IsKeyOfEdit, Beginning.begun, Leaving.is_searching, Leaving.LeavesIndexes}
+use Rattle.law_held_steps.specs.{Leaving.LeavesTable, Making.doing_after, Making.Comes, Making.LeavesLists, Making.MakesChange}
+use Rattle.law_held_steps.proofs.{Begun.can_be_keyed, Begun.begins, Beside.rows_of_writer, Desks.doing_here, Desks.changes_at_a_desk, Left.held_left}
+use Rattle.law_held_steps.proofs.{Made.change_made}
 use Rattle.law_held_steps.proofs.Showing.{begun_turns, begun_task, went_shown, entered_shown, done_shown, given_up_shown, rows_shown, left_shown}
 use Rattle.world_lists.specs.Between.{IsKept, AwaitsWriter, can_await, table_at}
 use Rattle.world_lists.specs.Parts.{StepsChange, StepsAtDesk, HasChange, LeavesIfOver, doing_now, is_told, answer_for}
-use Rattle.world_lists.proofs.Awaiting.{kept_beside, same_no_more, change_awaits, only_mine}
-use Rattle.world_lists.proofs.Calls.{past_here, at_rest, at_desk, writer_now}
+use Rattle.world_lists.proofs.{Awaiting.kept_beside, Awaiting.same_no_more, Awaiting.change_awaits, Awaiting.only_mine, Calls.past_here, Calls.at_rest}
+use Rattle.world_lists.proofs.{Calls.at_desk, Calls.writer_now}
 
 -- ---- the table of a change
 

@@ -2,10 +2,7 @@
 use Rattle.std.proofs.Common.{◌≡◌, ℕ, ◌+◌, ◌<◌, ◌^◌, true, false, Option, Some, None, List, ◌∷◌, ◌++◌, length, refl, sym, ap, subst, ◌∙◌, arith, [], ◌-◌}
 use Rattle.std.proofs.lemmas.List.{length-map, length-set}
 use Rattle.std.specs.Prelude.{Result, Ok, Err, OnOk, OnErr, is_ok, if◌then◌else◌, slice_set, slice_index_or, slice_get}
-use Rattle.inno_types.specs.declared.value.Schema.{Schema}
-use Rattle.inno_types.specs.declared.reply.Item.{Item}
-use Rattle.inno_types.specs.declared.reply.Reply.{Reply}
-use Rattle.inno_types.specs.declared.stmt.Stmt.{Stmt}
+use Rattle.inno_types.specs.{declared.value.Schema.Schema, declared.reply.Item.Item, declared.reply.Reply.Reply, declared.stmt.Stmt.Stmt}
 use Rattle.inno_model.specs.declared.event.Event.{Event}
 use Rattle.inno_model.specs.declared.event.Event.TheVariants.{Started, Ended, View, Committed, Acked, RolledBack, Signal, Begin}
 use Rattle.inno_model.specs.Past.{own, txn, started, under_way, IsOpen, begins, IsClosed}
@@ -15,20 +12,15 @@ use Rattle.txn_table.specs.Txns.{ids_of, Txns}
 use Rattle.law_past_agreement.specs.Order.{MayCome}
 use Rattle.store_api.specs.declared.answers.Standing.{Standing}
 use Rattle.world.specs.State.{WorldState, Session, Work, IsSession, HasWork, standing_of}
-use Rattle.world.specs.Told.{IsTold}
+use Rattle.world.specs.{Told.IsTold, Endings.IsCommitted, Endings.IsRolledBack, declared.undo_room.UndoRoom.UndoRoom}
 use Rattle.world.specs.Sessions.{change_txn, with_save, view_added, begun, with_room, fresh_work, begin_added}
-use Rattle.world.specs.Endings.{IsCommitted, IsRolledBack}
-use Rattle.world.specs.declared.undo_room.UndoRoom.{UndoRoom}
 use Rattle.law_world_agreement.specs.Steps.{viewed, opened, session_begun}
 use Rattle.undo_apply.specs.declared.work_room.WorkRoom.{WorkRoom}
 use Rattle.world.specs.EngineCalls.{joined as with_joined, item_started, item_ended, acknowledged, signalled, with_setting}
 use Rattle.shared_lists.specs.Tasks.{Idle}
 use Rattle.shared_lists.specs.State.{Lists, task_of, IsNow, Adds, Closes, Stays, writer_without}
-use Rattle.desks.specs.declared.desk.Desk.{Desk}
-use Rattle.desks.specs.Desks.{fresh_desk, doing_at, with_start}
-use Rattle.desks.specs.Holding.{IsHeld}
-use Rattle.desks.specs.Shown.{seen_of, shown}
-use Rattle.desks.specs.Undoing.{undo_left_in}
+use Rattle.desks.specs.{declared.desk.Desk.Desk, Desks.fresh_desk, Desks.doing_at, Desks.with_start, Holding.IsHeld, Shown.seen_of, Shown.shown}
+use Rattle.desks.specs.{Undoing.undo_left_in}
 use Rattle.desks.proofs.Showing.{task_is}
 use Rattle.law_held_steps.specs.SeenEntries.{settings_of}
 use Rattle.law_held_steps.proofs.SeenEntries.{left_same, now_of, settings_by, settings_same, settings_now}

@@ -1,29 +1,20 @@
 -- Searches in held lists: what one needs that begins, what is held after each step, what callers see of it, and the newest rows
 -- of a table, which are read at once.
-use Rattle.std.proofs.Common.{◌≡◌, ◌≢◌, inl, inr, ℕ, ◌<◌, ◌==◌, true, false, not, List, map, length, get_or, Option, Some, None, slice_get, []}
-use Rattle.std.proofs.Common.{Result, Ok, Err, refl, sym, ap, subst, ◌∙◌, arith}
+use Rattle.std.proofs.Common.{◌≡◌, ◌≢◌, inl, inr, ℕ, ◌<◌, ◌==◌, true, false, not, List, map, length, get_or, Option, Some, None, slice_get, [], Result, Ok}
+use Rattle.std.proofs.Common.{Err, refl, sym, ap, subst, ◌∙◌, arith}
 use Rattle.std.specs.Prelude.{◌≤◌, is_some, IfSome, IfOk}
 use Rattle.std.proofs.lemmas.Bool.Decides.{eqb_tells}
 use Rattle.std.proofs.lemmas.Option.{slice_get_within, get_or_from_slice_get}
-use Rattle.inno_types.specs.Order.{IsBelow}
-use Rattle.inno_types.specs.declared.value.Value.{Value}
-use Rattle.inno_types.specs.declared.value.Schema.{Schema}
-use Rattle.inno_model.specs.declared.event.Event.{Event}
-use Rattle.inno_model.specs.Past.{own, view_of, IsOpen}
+use Rattle.inno_types.specs.{Order.IsBelow, declared.value.Value.Value, declared.value.Schema.Schema}
+use Rattle.inno_model.specs.{declared.event.Event.Event, Past.own, Past.view_of, Past.IsOpen}
 use Rattle.store_api.specs.declared.moves.Move.{Move}
 use Rattle.entries.specs.Calls.{Leaves}
 use Rattle.read_view.specs.Sight.{Sight as ReadSight}
 use Rattle.row_versions.specs.Chains.{Chains}
 use Rattle.sql_plan.specs.declared.choice.Plan.{Plan}
-use Rattle.law_past_agreement.specs.Order.{created}
-use Rattle.law_past_agreement.specs.Agreement.{WriterAgrees}
-use Rattle.world.specs.State.{WorldState}
-use Rattle.world.specs.Told.{IsTold}
-use Rattle.world.specs.Indexes.{Calls}
-use Rattle.world.specs.declared.undo_room.UndoRoom.{UndoRoom}
-use Rattle.row_search.specs.declared.found.FoundRow.{FoundRow}
-use Rattle.row_search.specs.declared.search.RowSearch.{RowSearch}
-use Rattle.row_search.specs.declared.sight.Sight.{Sight}
+use Rattle.law_past_agreement.specs.{Order.created, Agreement.WriterAgrees}
+use Rattle.world.specs.{State.WorldState, Told.IsTold, Indexes.Calls, declared.undo_room.UndoRoom.UndoRoom}
+use Rattle.row_search.specs.{declared.found.FoundRow.FoundRow, declared.search.RowSearch.RowSearch, declared.sight.Sight.Sight}
 use Rattle.row_search.specs.declared.sight.Sight.TheVariants as sights
 use Rattle.row_search.specs.Steps.{GoesOn, Waits, Ends}
 use Rattle.undo_apply.specs.declared.work_room.WorkRoom.{WorkRoom}
@@ -34,30 +25,20 @@ use Rattle.shared_lists.specs.declared.answers.Searched.TheVariants as searched
 use Rattle.shared_lists.specs.Tasks as tasks
 use Rattle.shared_lists.specs.State.{State, Lists, Places, task_of, places_before, counted, Turns, Stays}
 use Rattle.shared_lists.specs.Steps.{AreFoundBy, Searches, AreNewestRows}
-use Rattle.desks.specs.declared.desk.Desk.{Desk}
-use Rattle.desks.specs.declared.desk.Doing.{Doing}
-use Rattle.desks.specs.declared.desk.Doing.TheVariants.{Nothing, Searching}
-use Rattle.desks.specs.declared.desk.TableSearch.{TableSearch}
-use Rattle.desks.specs.Desks.{doing_at, with_doing, is_quiet}
-use Rattle.desks.specs.Holding.{IsHeld, IsOwnView, SightHolds}
-use Rattle.desks.specs.Shown.{reading_of, seen_of}
-use Rattle.desks.specs.Undoing.{undo_left_in}
-use Rattle.desks.specs.Searching.{places_in, places_of}
+use Rattle.desks.specs.{declared.desk.Desk.Desk, declared.desk.Doing.Doing, declared.desk.Doing.TheVariants.Nothing}
+use Rattle.desks.specs.{declared.desk.Doing.TheVariants.Searching, declared.desk.TableSearch.TableSearch, Desks.doing_at, Desks.with_doing, Desks.is_quiet}
+use Rattle.desks.specs.{Holding.IsHeld, Holding.IsOwnView, Holding.SightHolds, Shown.reading_of, Shown.seen_of, Undoing.undo_left_in, Searching.places_in}
+use Rattle.desks.specs.{Searching.places_of}
 use Rattle.desks.proofs.Showing.{task_is, places_are}
-use Rattle.law_held_steps.specs.Begun.{HasView, IsBegun, IsNewSearch}
-use Rattle.law_held_steps.specs.Moving.{MovesPlaces}
-use Rattle.law_held_steps.specs.Newest.{plan_read, TellsTable, AreRead}
+use Rattle.law_held_steps.specs.{Begun.HasView, Begun.IsBegun, Begun.IsNewSearch, Moving.MovesPlaces, Newest.plan_read, Newest.TellsTable, Newest.AreRead}
 use Rattle.law_held_steps.specs.TakenUp.{ComesAnew, IsTakenUp, MayStep, IsSearchOf, plan_of}
-use Rattle.law_held_steps.proofs.AtDesks.{doing_twice, doing_here}
-use Rattle.law_held_steps.proofs.AtOnce.{tells_held, are_newest}
-use Rattle.law_held_steps.proofs.Begins.{has_view, begun}
+use Rattle.law_held_steps.proofs.{AtDesks.doing_twice, AtDesks.doing_here, AtOnce.tells_held, AtOnce.are_newest, Begins.has_view, Begins.begun}
+use Rattle.law_held_steps.proofs.{Places.moves_in_one, Places.leaving_moves, Places.moves_then, Staying.held_idle}
 use Rattle.law_held_steps.proofs.Callers.{turns_now, turns_to_search, search_shown, has_desk, searches_on, seen_stay}
-use Rattle.law_held_steps.proofs.Places.{moves_in_one, leaving_moves, moves_then}
-use Rattle.law_held_steps.proofs.Staying.{held_idle}
 use Rattle.law_held_steps.proofs.Stepping.{steps, went, nears, ended, waited, given_up}
 use Rattle.world_lists.specs.Between.{IsKept, can_await}
-use Rattle.world_lists.proofs.Awaiting.{kept_on, kept_beside, moves_no_more, same_no_more}
-use Rattle.world_lists.proofs.Calls.{open_joined, at_rest, at_desk, writer_now}
+use Rattle.world_lists.proofs.{Awaiting.kept_on, Awaiting.kept_beside, Awaiting.moves_no_more, Awaiting.same_no_more, Calls.open_joined, Calls.at_rest}
+use Rattle.world_lists.proofs.{Calls.at_desk, Calls.writer_now}
 
 -- ---- who reads
 

@@ -5,32 +5,22 @@ use Rattle.std.proofs.lemmas.Bool.Decides.{eqb_tells}
 use Rattle.std.proofs.lemmas.List.{length-set, set-get_or}
 use Rattle.inno_types.specs.declared.value.Schema.{Schema}
 use Rattle.inno_db.specs.declared.change.Change.TheVariants.{Create}
-use Rattle.inno_model.specs.declared.event.Event.TheVariants.{Changed}
-use Rattle.inno_model.specs.Past.{own, txn}
+use Rattle.inno_model.specs.{declared.event.Event.TheVariants.Changed, Past.own, Past.txn}
 use Rattle.store_api.specs.declared.answers.Standing.{Standing}
 use Rattle.law_stored_rows.specs.Storable.{IsStorable}
 use Rattle.sql_history.specs.Settings.{at_first}
 use Rattle.txn_table.specs.Txns.{Txns, is_there, id_at}
 use Rattle.world.specs.State.{WorldState, Session, Work, IsSession, HasWork, standing_of, id_of}
-use Rattle.world.specs.Told.{IsTold}
-use Rattle.world.specs.Sessions.{identified}
-use Rattle.world.specs.declared.undo_room.UndoRoom.{UndoRoom}
+use Rattle.world.specs.{Told.IsTold, Sessions.identified, declared.undo_room.UndoRoom.UndoRoom, EngineCalls.MakesTable}
 use Rattle.law_world_agreement.specs.Steps.{IsChangedBy}
 use Rattle.law_world_agreement.proofs.Opening.{set_here, set_other}
 use Rattle.undo_apply.specs.declared.work_room.WorkRoom.{WorkRoom}
-use Rattle.world.specs.EngineCalls.{MakesTable}
-use Rattle.row_changes.specs.Records.{IsListed, id_for, txns_with_id}
-use Rattle.row_changes.specs.Entering.{GivesId}
+use Rattle.row_changes.specs.{Records.IsListed, Records.id_for, Records.txns_with_id, Entering.GivesId}
 use Rattle.row_changes.proofs.Ids.{gives_new_id, keeps_id}
-use Rattle.shared_lists.specs.Tasks.{Idle}
-use Rattle.shared_lists.specs.State.{Lists, task_of, Adds}
-use Rattle.desks.specs.declared.desk.Desk.{Desk}
-use Rattle.desks.specs.declared.desk.Doing.{Doing}
+use Rattle.shared_lists.specs.{Tasks.Idle, State.Lists, State.task_of, State.Adds}
+use Rattle.desks.specs.{declared.desk.Desk.Desk, declared.desk.Doing.Doing, Desks.doing_at, Desks.is_quiet_doing, Shown.shown, Shown.seen_of}
+use Rattle.desks.specs.{Undoing.undo_left_in, Holding.IsHeld}
 use Rattle.desks.specs.declared.desk.Doing.TheVariants.{Nothing, Searching, Changing, Lagging, Undoing}
-use Rattle.desks.specs.Desks.{doing_at, is_quiet_doing}
-use Rattle.desks.specs.Shown.{shown, seen_of}
-use Rattle.desks.specs.Undoing.{undo_left_in}
-use Rattle.desks.specs.Holding.{IsHeld}
 use Rattle.law_held_steps.specs.SeenEntries.{settings_of}
 use Rattle.desks.proofs.Showing.{task_is}
 use Rattle.law_held_steps.proofs.Tables.{LeavesRooms, created_held}

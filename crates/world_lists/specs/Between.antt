@@ -1,17 +1,11 @@
 -- What holds of the lists between calls, beside what is held of a world with its desks: the room for the undo record that is
 -- read, and who is awaited at indexes.
 use Rattle.std.specs.Prelude.{◌≡◌, ℕ, Bool, true, false, List, Option, Some}
-use Rattle.world.specs.State.{WorldState}
-use Rattle.world.specs.declared.undo_room.UndoRoom.{UndoRoom}
-use Rattle.world.specs.Undoing.{HoldsRecord}
-use Rattle.row_changes.specs.Awaited.{IsOfTable}
-use Rattle.row_changes.specs.Rows.{table_of}
+use Rattle.world.specs.{State.WorldState, declared.undo_room.UndoRoom.UndoRoom, Undoing.HoldsRecord}
+use Rattle.row_changes.specs.{Awaited.IsOfTable, Rows.table_of}
 use Rattle.undo_apply.specs.declared.work_room.WorkRoom.{WorkRoom}
-use Rattle.desks.specs.declared.desk.Desk.{Desk}
-use Rattle.desks.specs.declared.desk.Doing.{Doing}
-use Rattle.desks.specs.declared.desk.Doing.TheVariants.{Changing, Undoing}
-use Rattle.desks.specs.Desks.{doing_at}
-use Rattle.desks.specs.Holding.{IsHeld}
+use Rattle.desks.specs.{declared.desk.Desk.Desk, declared.desk.Doing.Doing, declared.desk.Doing.TheVariants.Changing, declared.desk.Doing.TheVariants.Undoing}
+use Rattle.desks.specs.{Desks.doing_at, Holding.IsHeld}
 
 -- who changes a row, or takes one back, of this table at most
 abbrev pub can_await : Doing → Bool

@@ -1,8 +1,7 @@
 -- The lists as one value.
 use Rattle.std.specs.Prelude.{ℕ, List, refl}
 use Rattle.std.specs.Coded.{Coded, code_by, coded×, coded_list, coded_ℕ}
-use Rattle.sql_history.specs.Settings.{Setting}
-use Rattle.sql_history.specs.Named.{setting_code}
+use Rattle.sql_history.specs.{Settings.Setting, Named.setting_code}
 use Rattle.shared_lists.specs.State.{State, Lists, state_code}
 
 abbrev pub lists_code : Coded Lists

@@ -2,20 +2,16 @@
 use Rattle.std.specs.Prelude.{◌≡◌, ℕ, ◌-◌, Bool, true, false, List}
 use Rattle.row_versions.specs.Chains.{Chains}
 use Rattle.world.specs.State.{WorldState, Session, Work, IsSession, HasWork, standing_of}
-use Rattle.world.specs.Sessions.{undone_added}
-use Rattle.world.specs.Undoing.{IsCutBack}
-use Rattle.row_changes.specs.declared.row_change.RowChange.{RowChange}
-use Rattle.row_changes.specs.declared.row_change.RowChange.TheVariants.{Record, Keys}
-use Rattle.row_changes.specs.declared.reached.Reached.{Reached}
+use Rattle.world.specs.{Sessions.undone_added, Undoing.IsCutBack}
+use Rattle.row_changes.specs.{declared.row_change.RowChange.RowChange, declared.row_change.RowChange.TheVariants.Record}
+use Rattle.row_changes.specs.{declared.row_change.RowChange.TheVariants.Keys, declared.reached.Reached.Reached}
 use Rattle.row_changes.specs.declared.reached.Reached.TheVariants as reached
 use Rattle.row_changes.specs.Rows.{IsChangingRow, ChangesRow, table_of}
-use Rattle.shared_lists.specs.declared.answers.Changed.{Changed}
-use Rattle.shared_lists.specs.declared.answers.Changed.TheVariants.{Went, Entered, Done, NoMemory}
-use Rattle.desks.specs.declared.desk.Doing.{Doing}
-use Rattle.desks.specs.declared.desk.Doing.TheVariants.{Nothing, Changing}
-use Rattle.desks.specs.Desks.{doing_at, with_doing}
+use Rattle.shared_lists.specs.{declared.answers.Changed.Changed, declared.answers.Changed.TheVariants.Went, declared.answers.Changed.TheVariants.Entered}
+use Rattle.shared_lists.specs.{declared.answers.Changed.TheVariants.Done, declared.answers.Changed.TheVariants.NoMemory, declared.answers.Undone.Undone}
+use Rattle.desks.specs.{declared.desk.Doing.Doing, declared.desk.Doing.TheVariants.Nothing, declared.desk.Doing.TheVariants.Changing, Desks.doing_at}
+use Rattle.desks.specs.{Desks.with_doing}
 use Rattle.law_held_steps.specs.Making.{given_up, doing_after}
-use Rattle.shared_lists.specs.declared.answers.Undone.{Undone}
 use Rattle.shared_lists.specs.declared.answers.Undone.TheVariants as undone
 use Rattle.row_changes.specs.Awaited.{AwaitsIn}
 use Rattle.desks.specs.declared.desk.Desk.{Desk}

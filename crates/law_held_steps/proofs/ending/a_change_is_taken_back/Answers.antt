@@ -1,5 +1,4 @@
-use Rattle.law_held_steps.proofs.Beside.{cut_at_once}
-use Rattle.law_held_steps.proofs.TakenBack.{own_number, has_logged, may_add, held_then}
+use Rattle.law_held_steps.proofs.{Beside.cut_at_once, TakenBack.own_number, TakenBack.has_logged, TakenBack.may_add, TakenBack.held_then}
 use Rattle.law_held_steps.proofs.ending.a_change_is_taken_back.Goals as goal
 
 pub returns : goal.returns

@@ -1,7 +1,6 @@
 use Rattle.std.proofs.Common.{refl}
 use Rattle.desks.specs.declared.desk.Doing.TheVariants.{Nothing}
-use Rattle.law_held_steps.proofs.Desks.{doing_twice}
-use Rattle.law_held_steps.proofs.Staying.{held_stays, held_idle, views_stay}
+use Rattle.law_held_steps.proofs.{Desks.doing_twice, Staying.held_stays, Staying.held_idle, Staying.views_stay}
 use Rattle.law_held_steps.proofs.moving.a_held_world_stays_held.Goals as goal
 
 pub returns : goal.returns

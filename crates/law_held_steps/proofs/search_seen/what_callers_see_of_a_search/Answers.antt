@@ -1,7 +1,5 @@
 use Rattle.std.proofs.Common.{sym, ◌∙◌}
-use Rattle.desks.specs.declared.desk.Doing.TheVariants.{Nothing}
-use Rattle.desks.specs.Desks.{doing_at}
-use Rattle.desks.specs.Undoing.{undo_left_in}
+use Rattle.desks.specs.{declared.desk.Doing.TheVariants.Nothing, Desks.doing_at, Undoing.undo_left_in}
 use Rattle.desks.proofs.Showing.{task_is, idle_shown, places_are}
 use Rattle.law_held_steps.proofs.Callers.{turns_now, search_shown, has_desk, turns_to_search, searches_on}
 use Rattle.law_held_steps.proofs.search_seen.what_callers_see_of_a_search.Goals as goal

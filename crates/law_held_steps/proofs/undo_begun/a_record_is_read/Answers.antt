@@ -1,5 +1,4 @@
-use Rattle.law_held_steps.proofs.Beside.{read_at_once}
-use Rattle.law_held_steps.proofs.Reading.{is_there, held_begun, few_begun}
+use Rattle.law_held_steps.proofs.{Beside.read_at_once, Reading.is_there, Reading.held_begun, Reading.few_begun}
 use Rattle.world.specs.Undoing.{read_into}
 use Rattle.law_held_steps.proofs.undo_begun.a_record_is_read.Goals as goal
 

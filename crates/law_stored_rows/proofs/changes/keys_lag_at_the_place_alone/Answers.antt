@@ -1,6 +1,5 @@
 use Rattle.std.proofs.Common.{refl}
-use Rattle.law_stored_rows.proofs.Tables.{lag_stays, pushed_elsewhere, popped_elsewhere}
-use Rattle.law_stored_rows.proofs.Keys.{lag_says}
+use Rattle.law_stored_rows.proofs.{Tables.lag_stays, Tables.pushed_elsewhere, Tables.popped_elsewhere, Keys.lag_says}
 use Rattle.law_stored_rows.proofs.changes.keys_lag_at_the_place_alone.Goals as goal
 
 pub returns-clause-nowhere : goal.returns-clause-nowhere

@@ -1,5 +1,4 @@
-use Rattle.law_stored_rows.proofs.FromTables.{decoded, absent}
-use Rattle.law_stored_rows.proofs.RowRecords.{record_read}
+use Rattle.law_stored_rows.proofs.{FromTables.decoded, FromTables.absent, RowRecords.record_read}
 use Rattle.law_stored_rows.proofs.reading.a_record_is_the_newest_version.Goals as goal
 
 pub returns-clause-decoded : goal.returns-clause-decoded

@@ -1,5 +1,4 @@
-use Rattle.law_stored_rows.proofs.Tables.{coded_still}
-use Rattle.law_stored_rows.proofs.RowRecords.{push_keeps}
+use Rattle.law_stored_rows.proofs.{Tables.coded_still, RowRecords.push_keeps}
 use Rattle.law_stored_rows.proofs.records.more_may_be_kept.Goals as goal
 
 pub returns-clause-pushed : goal.returns-clause-pushed

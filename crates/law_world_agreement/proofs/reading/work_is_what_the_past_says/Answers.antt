@@ -1,6 +1,5 @@
 use Rattle.law_world_agreement.proofs.reading.work_is_what_the_past_says.Goals as goal
-use Rattle.law_world_agreement.proofs.Opening.{idle_of}
-use Rattle.law_world_agreement.proofs.Ending.{work_of, one_session_of}
+use Rattle.law_world_agreement.proofs.{Opening.idle_of, Ending.work_of, Ending.one_session_of}
 
 pub returns-clause-level : goal.returns-clause-level
 returns-clause-level c = λ chains writer state agrees s session work has. (work_of chains writer state s session work agrees has).level_is

@@ -1,6 +1,5 @@
 use Rattle.std.proofs.Common.{rules, ◌≡◌, ◌<◌, ◌^◌, refl, subst, nat_eq}
-use Rattle.key_codec.specs.Keys.{raised}
-use Rattle.key_codec.specs.Numbers.{u64_bytes}
+use Rattle.key_codec.specs.{Keys.raised, Numbers.u64_bytes}
 use Rattle.row_search.specs.Owners.{TellsSame}
 use Rattle.row_search.proofs.Spelled.{number_told}
 use Rattle.row_search.proofs.entry.is_number.Goals as goal

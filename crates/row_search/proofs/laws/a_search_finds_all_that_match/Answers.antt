@@ -1,6 +1,5 @@
 use Rattle.row_search.specs.Sights.{sees_by, rows_seen}
-use Rattle.row_search.proofs.Keys.{home}
-use Rattle.row_search.proofs.Matching.{matches_found}
+use Rattle.row_search.proofs.{Keys.home, Matching.matches_found}
 use Rattle.row_search.proofs.laws.a_search_finds_all_that_match.Goals as goal
 
 pub returns : goal.returns

@@ -1,11 +1,9 @@
 use Rattle.std.proofs.Common.{◌≡◌, ◌∙◌, ◌<◌, ◌≤◌, subst, refl, sym, arith}
 use Rattle.store_api.specs.declared.moves.Move.TheVariants.{Step}
-use Rattle.undo_apply.specs.declared.work_room.WorkRoom.{WorkRoom}
-use Rattle.undo_apply.specs.declared.work_room.Stage.{Stage}
-use Rattle.undo_apply.specs.declared.work_room.Stage.TheVariants.{Walk, Unmark, AwaitRecords, Record}
-use Rattle.undo_apply.specs.Moves.{at_stage}
-use Rattle.undo_apply.proofs.Columns.{has_key_at}
-use Rattle.undo_apply.proofs.KeySteps.{put_as, Leaves, written_leaves}
+use Rattle.undo_apply.specs.{declared.work_room.WorkRoom.WorkRoom, declared.work_room.Stage.Stage, declared.work_room.Stage.TheVariants.Walk}
+use Rattle.undo_apply.specs.{declared.work_room.Stage.TheVariants.Unmark, declared.work_room.Stage.TheVariants.AwaitRecords}
+use Rattle.undo_apply.specs.{declared.work_room.Stage.TheVariants.Record, Moves.at_stage}
+use Rattle.undo_apply.proofs.{Columns.has_key_at, KeySteps.put_as, KeySteps.Leaves, KeySteps.written_leaves}
 use Rattle.undo_apply.proofs.Looks.{room_leaves, within_key, look_new, look_kept, look_gone, look_same, look_on}
 use Rattle.undo_apply.proofs.key_steps.look_at_key.Goals as goal
 use Rattle.undo_apply.proofs.key_steps.look_at_key.Goals.{else-had_row-via-then-had_row+else-have_one_entry, else-had_row-via-else-had_row}

@@ -1,11 +1,8 @@
 use Rattle.store_api.specs.declared.moves.Move.TheVariants.{Step, Again, Failed, Bad}
 use Rattle.row_changes.proofs.Changing.{unchanged_stays}
-use Rattle.undo_apply.specs.declared.work_room.Stage.TheVariants.{Walk, Await}
-use Rattle.undo_apply.specs.Moves.{at_stage}
-use Rattle.undo_apply.proofs.Telling.{schemas_stay}
-use Rattle.undo_apply.proofs.Columns.{has_key_at}
-use Rattle.undo_apply.proofs.KeySteps.{fitting, put_as}
-use Rattle.undo_apply.proofs.Looks.{walk_pointer, walk_over, walk_stopped, walk_looks}
+use Rattle.undo_apply.specs.{declared.work_room.Stage.TheVariants.Walk, declared.work_room.Stage.TheVariants.Await, Moves.at_stage}
+use Rattle.undo_apply.proofs.{Telling.schemas_stay, Columns.has_key_at, KeySteps.fitting, KeySteps.put_as, Looks.walk_pointer, Looks.walk_over}
+use Rattle.undo_apply.proofs.{Looks.walk_stopped, Looks.walk_looks}
 use Rattle.undo_apply.proofs.key_steps.walk.Goals as goal
 
 pub value-requires-clause-pointer : goal.value-requires-clause-pointer

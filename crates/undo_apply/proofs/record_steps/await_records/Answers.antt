@@ -1,5 +1,4 @@
-use Rattle.undo_apply.proofs.KeySteps.{nexted_leaves}
-use Rattle.undo_apply.proofs.RecordSteps.{await_records_step}
+use Rattle.undo_apply.proofs.{KeySteps.nexted_leaves, RecordSteps.await_records_step}
 use Rattle.undo_apply.proofs.record_steps.await_records.Goals as goal
 
 pub returns-clause-puts : goal.returns-clause-puts

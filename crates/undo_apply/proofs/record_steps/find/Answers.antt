@@ -1,9 +1,7 @@
 use Rattle.std.proofs.Common.{◌≡◌, ◌∙◌, List, Some, ℕ, subst, sym}
 use Rattle.std.proofs.lemmas.Bool.{true≢false}
 use Rattle.store_api.specs.declared.moves.Move.TheVariants.{Step}
-use Rattle.undo_apply.specs.declared.work_room.Stage.TheVariants.{Key}
-use Rattle.undo_apply.specs.Standing.{was_before}
-use Rattle.undo_apply.specs.Moves.{at_stage}
+use Rattle.undo_apply.specs.{declared.work_room.Stage.TheVariants.Key, Standing.was_before, Moves.at_stage}
 use Rattle.undo_apply.proofs.KeySteps.{put_as}
 use Rattle.undo_apply.proofs.RecordSteps.{find_again, find_none, find_on, find_stopped, not_done_test}
 use Rattle.undo_apply.proofs.record_steps.find.Goals as goal

@@ -1,7 +1,6 @@
 use Rattle.std.proofs.Common.{ℕ, subst, sym}
 use Rattle.world.specs.State.{IsIndex}
-use Rattle.undo_apply.proofs.Columns.{index_of_rows}
-use Rattle.undo_apply.proofs.RecordSteps.{remove_record, replace_record}
+use Rattle.undo_apply.proofs.{Columns.index_of_rows, RecordSteps.remove_record, RecordSteps.replace_record}
 use Rattle.undo_apply.proofs.record_steps.put_record.Goals as goal
 
 pub replace-answer-requires-clause-index : goal.replace-answer-requires-clause-index

@@ -1,8 +1,7 @@
 use Rattle.std.proofs.Common.{refl, sym, ap, subst}
 use Rattle.store_api.specs.declared.answers.Standing.{Standing}
 use Rattle.read_view.specs.Sight.{Sight as ReadSight}
-use Rattle.world.specs.State.{WorldState}
-use Rattle.world.specs.Sessions.{IsShown}
+use Rattle.world.specs.{State.WorldState, Sessions.IsShown}
 use Rattle.desks.specs.Holding.{IsOwnView}
 use Rattle.law_held_steps.specs.Begun.{HasView}
 use Rattle.law_held_steps.proofs.Begins.{own_view}

@@ -1,6 +1,5 @@
 use Rattle.row_changes.proofs.keys_change.KeysChange.advance.Goals as goal
-use Rattle.row_changes.proofs.Keying.{put_went, put_done, put_waits}
-use Rattle.row_changes.proofs.Awaited.{put_awaits}
+use Rattle.row_changes.proofs.{Keying.put_went, Keying.put_done, Keying.put_waits, Awaited.put_awaits}
 
 abbrev pub returns-in-Went-clause-changes : goal.returns-in-Went-clause-changes
 returns-in-Went-clause-changes g c = λ chains p.

@@ -1,8 +1,7 @@
 use Rattle.row_changes.proofs.keys_change.KeysChange.mark.Goals as goal
 use Rattle.std.proofs.Common.{sym, subst, refl, Some}
 use Rattle.row_changes.specs.Keys.{ChangesKeys}
-use Rattle.row_changes.proofs.Keying.{marked_on, mark_hindered}
-use Rattle.row_changes.proofs.Awaited.{mark_awaits}
+use Rattle.row_changes.proofs.{Keying.marked_on, Keying.mark_hindered, Awaited.mark_awaits}
 
 abbrev pub returns-in-Ok-clause-changes : goal.returns-in-Ok-clause-changes
 returns-in-Ok-clause-changes g c = λ chains p.

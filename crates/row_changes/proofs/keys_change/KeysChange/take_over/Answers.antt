@@ -1,8 +1,7 @@
 use Rattle.row_changes.proofs.keys_change.KeysChange.take_over.Goals as goal
 use Rattle.std.proofs.Common.{sym, subst}
 use Rattle.row_changes.specs.Keys.{ChangesKeys}
-use Rattle.row_changes.proofs.Changing.{same_rows}
-use Rattle.row_changes.proofs.Keying.{nothing_marked}
+use Rattle.row_changes.proofs.{Changing.same_rows, Keying.nothing_marked}
 
 abbrev pub returns-in-None-clause-changes : goal.returns-in-None-clause-changes
 returns-in-None-clause-changes g c = λ chains p.

@@ -1,10 +1,8 @@
 use Rattle.row_changes.proofs.record_change.RecordChange.enter.Goals as goal
-use Rattle.std.proofs.Common.{sym, subst}
+use Rattle.std.proofs.Common.{sym, subst, ap}
 use Rattle.row_changes.specs.Records.{ChangesRecord}
-use Rattle.row_changes.proofs.Changing.{entered}
-use Rattle.std.proofs.Common.{ap}
+use Rattle.row_changes.proofs.{Changing.entered, Awaited.awaits_same}
 use Rattle.world.specs.State.{WorldState}
-use Rattle.row_changes.proofs.Awaited.{awaits_same}
 
 abbrev pub returns-in-Ok-clause-changes : goal.returns-in-Ok-clause-changes
 returns-in-Ok-clause-changes g c =

@@ -1,10 +1,9 @@
 use Rattle.row_changes.proofs.record_change.RecordChange.insert.Goals as goal
 use Rattle.std.proofs.Common.{Some, refl}
 use Rattle.row_changes.specs.declared.record_change.RecordStage.TheVariants.{Insert}
-use Rattle.row_changes.proofs.Changing.{stage_at}
+use Rattle.row_changes.proofs.{Changing.stage_at, Awaited.entered_awaits, Awaited.insert_with_here}
 use Rattle.row_changes.proofs.Recorded.{key_short, value_short, version_first, may_log_new, may_enter, inserted, insert_hindered, value_of_row, found_first}
 use Rattle.law_stored_rows.specs.Edits.{clustered_index}
-use Rattle.row_changes.proofs.Awaited.{entered_awaits, insert_with_here}
 
 abbrev pub coded-requires : goal.coded-requires
 coded-requires g c =

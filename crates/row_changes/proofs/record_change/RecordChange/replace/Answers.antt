@@ -1,10 +1,9 @@
 use Rattle.row_changes.proofs.record_change.RecordChange.replace.Goals as goal
 use Rattle.std.proofs.Common.{◌<◌, ◌^◌, Some, arith}
 use Rattle.std.proofs.lemmas.Option.{slice_get_within}
-use Rattle.row_changes.proofs.Changing.{stage_at, lacks_memory}
+use Rattle.row_changes.proofs.{Changing.stage_at, Changing.lacks_memory, Awaited.entered_awaits, Awaited.replace_with_here}
 use Rattle.row_changes.proofs.Recorded.{rows_index, value_of_row, found_at, value_short, version_next, may_log_former, may_enter, replaced, replace_hindered}
 use Rattle.law_stored_rows.specs.Edits.{clustered_index}
-use Rattle.row_changes.proofs.Awaited.{entered_awaits, replace_with_here}
 
 abbrev pub coded-requires : goal.coded-requires
 coded-requires g c =

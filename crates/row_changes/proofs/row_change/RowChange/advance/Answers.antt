@@ -1,9 +1,6 @@
 use Rattle.std.proofs.Common.{sym, subst}
-use Rattle.row_changes.specs.declared.row_change.RowChange.{RowChange}
-use Rattle.row_changes.specs.declared.reached.Reached.TheVariants.{Went}
-use Rattle.row_changes.specs.Rows.{ChangesRow}
-use Rattle.row_changes.proofs.Whole.{record_went, record_recorded, record_waits}
-use Rattle.row_changes.proofs.Awaited.{record_awaits_at}
+use Rattle.row_changes.specs.{declared.row_change.RowChange.RowChange, declared.reached.Reached.TheVariants.Went, Rows.ChangesRow}
+use Rattle.row_changes.proofs.{Whole.record_went, Whole.record_recorded, Whole.record_waits, Awaited.record_awaits_at}
 use Rattle.row_changes.proofs.row_change.RowChange.advance.Goals as goal
 
 abbrev pub returns-in-Went-clause-changes : goal.returns-in-Went-clause-changes

@@ -1,10 +1,7 @@
 use Rattle.std.proofs.Common.{sym, ap, subst, refl, ◌≡◌, ◌∙◌, ℕ, List}
 use Rattle.store_api.specs.declared.moves.Move.TheVariants.{Done, End}
-use Rattle.row_search.specs.declared.phase.Phase.TheVariants.{Fetch, Look}
-use Rattle.row_search.specs.Ranges.{primary_part}
-use Rattle.row_search.specs.Steps.{GoesOn}
-use Rattle.row_search.proofs.Called.{fetch_called}
-use Rattle.row_search.proofs.Fetched.{fetch_done, fetch_end, fetch_waits}
+use Rattle.row_search.specs.{declared.phase.Phase.TheVariants.Fetch, declared.phase.Phase.TheVariants.Look, Ranges.primary_part, Steps.GoesOn}
+use Rattle.row_search.proofs.{Called.fetch_called, Fetched.fetch_done, Fetched.fetch_end, Fetched.fetch_waits}
 use Rattle.row_search.proofs.scan.Scan.fetch.Goals as goal
 
 pub returns-in-Done : goal.returns-in-Done

@@ -1,7 +1,6 @@
 use Rattle.std.proofs.Common.{refl}
 use Rattle.store_api.specs.declared.moves.Move.TheVariants.{At, End}
-use Rattle.row_search.proofs.Called.{follow_called, goes_so}
-use Rattle.row_search.proofs.Exits.{follow_at, follow_end}
+use Rattle.row_search.proofs.{Called.follow_called, Called.goes_so, Exits.follow_at, Exits.follow_end}
 use Rattle.row_search.proofs.scan.Scan.follow.Goals as goal
 
 pub returns-in-At : goal.returns-in-At

@@ -1,7 +1,6 @@
 use Rattle.std.proofs.Common.{ap, subst, ◌≡◌, ◌∙◌, List, [], ◌∷◌, ◌++◌, ℕ}
 use Rattle.row_search.specs.Ranges.{primary_part}
-use Rattle.row_search.proofs.AtPair.{other_goes, own_goes}
-use Rattle.row_search.proofs.Called.{owner_so}
+use Rattle.row_search.proofs.{AtPair.other_goes, AtPair.own_goes, Called.owner_so}
 use Rattle.row_search.proofs.scan.Scan.keep.Goals as goal
 
 pub returns-then-not-is_entry_of : goal.returns-then-not-is_entry_of

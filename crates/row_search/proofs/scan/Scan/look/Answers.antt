@@ -1,7 +1,6 @@
 use Rattle.std.proofs.Common.{ap, ◌≡◌, ◌∙◌}
 use Rattle.row_search.specs.Ranges.{primary_part}
-use Rattle.row_search.proofs.AtPair.{look_goes}
-use Rattle.row_search.proofs.Called.{goes_so, of_same}
+use Rattle.row_search.proofs.{AtPair.look_goes, Called.goes_so, Called.of_same}
 use Rattle.row_search.proofs.scan.Scan.look.Goals as goal
 
 pub returns-in-Ok : goal.returns-in-Ok

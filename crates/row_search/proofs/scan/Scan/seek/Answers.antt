@@ -1,7 +1,6 @@
 use Rattle.std.proofs.Common.{refl}
 use Rattle.store_api.specs.declared.moves.Move.TheVariants.{At, End}
-use Rattle.row_search.proofs.Called.{seek_called, goes_so}
-use Rattle.row_search.proofs.Exits.{seek_at, seek_end, seek_waits}
+use Rattle.row_search.proofs.{Called.seek_called, Called.goes_so, Exits.seek_at, Exits.seek_end, Exits.seek_waits}
 use Rattle.row_search.proofs.scan.Scan.seek.Goals as goal
 
 pub returns-in-At : goal.returns-in-At

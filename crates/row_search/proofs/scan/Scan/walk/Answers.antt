@@ -1,13 +1,8 @@
 use Rattle.std.proofs.Common.{refl, ap, subst, ◌≡◌, ◌∙◌, Bool, true, false, Result, Ok, Err, rules}
-use Rattle.row_codec.specs.declared.refused.RowBad.{RowBad}
-use Rattle.row_codec.specs.declared.refused.RowBad.TheVariants.{Shape}
-use Rattle.row_codec.specs.Refused.{IsOrNoMemory}
+use Rattle.row_codec.specs.{declared.refused.RowBad.RowBad, declared.refused.RowBad.TheVariants.Shape, Refused.IsOrNoMemory}
 use Rattle.row_versions.specs.Calls.{ShowsBytes}
-use Rattle.row_search.specs.declared.glance.Glance.{Glance}
-use Rattle.row_search.specs.Ranges.{primary_part}
-use Rattle.row_search.specs.Visits.{glance_at}
-use Rattle.row_search.proofs.AtPair.{may_walk, walk_goes, walk_reads, walk_ends}
-use Rattle.row_search.proofs.Called.{goes_so, of_same}
+use Rattle.row_search.specs.{declared.glance.Glance.Glance, Ranges.primary_part, Visits.glance_at}
+use Rattle.row_search.proofs.{AtPair.may_walk, AtPair.walk_goes, AtPair.walk_reads, AtPair.walk_ends, Called.goes_so, Called.of_same}
 use Rattle.row_search.proofs.scan.Scan.walk.Goals as goal
 
 pub value-read-requires-clause-pointer : goal.value-read-requires-clause-pointer

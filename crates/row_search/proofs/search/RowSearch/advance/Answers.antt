@@ -1,6 +1,5 @@
 use Rattle.std.proofs.Common.{subst}
-use Rattle.row_search.specs.declared.phase.Phase.{Phase}
-use Rattle.row_search.specs.Steps.{Searches}
+use Rattle.row_search.specs.{declared.phase.Phase.Phase, Steps.Searches}
 use Rattle.row_search.proofs.search.RowSearch.advance.Goals as goal
 
 pub returns : goal.returns

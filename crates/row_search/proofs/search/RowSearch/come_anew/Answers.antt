@@ -1,7 +1,5 @@
 use Rattle.std.proofs.Common.{◌≡◌, ◌∙◌, sym, ap, subst}
-use Rattle.row_search.specs.declared.phase.Phase.{Phase}
-use Rattle.row_search.specs.Others.{KeepsFound, KeepsSearching, NeedsNoVersion}
-use Rattle.row_search.specs.Visits.{phase_anew}
+use Rattle.row_search.specs.{declared.phase.Phase.Phase, Others.KeepsFound, Others.KeepsSearching, Others.NeedsNoVersion, Visits.phase_anew}
 use Rattle.row_search.proofs.Others.{anew_finds, anew_needs_none, anew_holds}
 use Rattle.row_search.proofs.search.RowSearch.come_anew.Goals as goal
 

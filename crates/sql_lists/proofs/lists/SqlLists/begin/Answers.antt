@@ -2,8 +2,7 @@ use Rattle.std.proofs.Common.{◌+◌, ◌<◌, length, get_or, set, sym, subst}
 use Rattle.inno_model.specs.declared.event.Event.TheVariants as events
 use Rattle.inno_model.specs.Past.{begins}
 use Rattle.sql_grammar.specs.Grammar.{Spells}
-use Rattle.sql_history.specs.Settings.{at_first, at_begin}
-use Rattle.sql_history.specs.Legal.{MayBegin}
+use Rattle.sql_history.specs.{Settings.at_first, Settings.at_begin, Legal.MayBegin}
 use Rattle.shared_lists.specs.State.{State, Lists}
 use Rattle.sql_lists.proofs.Keeping.{by_begin, kept_begin}
 use Rattle.sql_lists.proofs.lists.SqlLists.begin.Goals as goal

@@ -4,8 +4,7 @@ use Rattle.inno_model.specs.Past.{own}
 use Rattle.sql_grammar.specs.Grammar.{Spells}
 use Rattle.sql_history.specs.Legal.{MayChange}
 use Rattle.law_past_agreement.specs.Order.{created, IsTabled, IsOfRow}
-use Rattle.shared_lists.specs.Tasks.{asked}
-use Rattle.shared_lists.specs.State.{State, Lists, task_of}
+use Rattle.shared_lists.specs.{Tasks.asked, State.State, State.Lists, State.task_of}
 use Rattle.sql_lists.proofs.Keeping.{by_change}
 use Rattle.sql_lists.proofs.lists.SqlLists.change.Goals as goal
 

@@ -2,8 +2,7 @@ use Rattle.std.proofs.Common.{◌<◌, false, length, get_or, sym, subst}
 use Rattle.inno_types.specs.declared.reply.Reply.TheVariants as replies
 use Rattle.inno_model.specs.Past.{own}
 use Rattle.sql_grammar.specs.Grammar.{Spells}
-use Rattle.sql_history.specs.Items.{Asks}
-use Rattle.sql_history.specs.Settings.{at_first, set_by}
+use Rattle.sql_history.specs.{Items.Asks, Settings.at_first, Settings.set_by}
 use Rattle.shared_lists.specs.State.{State, Lists}
 use Rattle.sql_lists.specs.Kept.{MayReply, SetsQuietly}
 use Rattle.sql_lists.proofs.Keeping.{by_setting, sets_quietly}

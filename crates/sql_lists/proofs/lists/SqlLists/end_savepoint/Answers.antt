@@ -3,8 +3,7 @@ use Rattle.inno_types.specs.declared.reply.Reply.TheVariants as replies
 use Rattle.inno_types.specs.declared.stmt.Stmt.TheVariants as stmts
 use Rattle.inno_model.specs.Past.{level, own, IsOpen}
 use Rattle.sql_grammar.specs.Grammar.{Spells}
-use Rattle.sql_history.specs.Items.{Asks}
-use Rattle.sql_history.specs.Settings.{Setting, at_first, saved}
+use Rattle.sql_history.specs.{Items.Asks, Settings.Setting, Settings.at_first, Settings.saved}
 use Rattle.shared_lists.specs.State.{State, Lists}
 use Rattle.sql_lists.specs.Kept.{MayReply}
 use Rattle.sql_lists.proofs.Keeping.{by_setting, saves_as}

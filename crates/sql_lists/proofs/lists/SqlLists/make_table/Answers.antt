@@ -1,8 +1,7 @@
 use Rattle.std.proofs.Common.{◌≡◌, ◌<◌, None, length, sym, subst, ◌∙◌}
 use Rattle.inno_db.specs.declared.limits.TheConstants.{MOST_TABLES}
 use Rattle.law_past_agreement.specs.Order.{created}
-use Rattle.shared_lists.specs.Tasks.{Idle}
-use Rattle.shared_lists.specs.State.{State, Lists, task_of}
+use Rattle.shared_lists.specs.{Tasks.Idle, State.State, State.Lists, State.task_of}
 use Rattle.sql_lists.specs.Tables.{MayMake}
 use Rattle.sql_lists.proofs.Keeping.{now_locked, by_made, by_none_made}
 use Rattle.sql_lists.proofs.lists.SqlLists.make_table.Goals as goal

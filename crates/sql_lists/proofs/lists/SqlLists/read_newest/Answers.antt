@@ -1,8 +1,7 @@
 use Rattle.std.proofs.Common.{◌≡◌, ◌≢◌, ℕ, [], subst}
 use Rattle.std.specs.Prelude.{IfOk}
 use Rattle.inno_model.specs.Past.{own}
-use Rattle.shared_lists.specs.State.{State}
-use Rattle.shared_lists.specs.Steps.{AreNewestRows}
+use Rattle.shared_lists.specs.{State.State, Steps.AreNewestRows}
 use Rattle.sql_lists.proofs.lists.SqlLists.read_newest.Goals as goal
 
 pub returns-clause-found : goal.returns-clause-found

@@ -1,8 +1,7 @@
 use Rattle.std.proofs.Common.{◌<◌, length, get_or, set, sym, subst}
 use Rattle.inno_model.specs.declared.event.Event.TheVariants as events
 use Rattle.sql_grammar.specs.Grammar.{Spells}
-use Rattle.sql_history.specs.Settings.{at_first, at_end}
-use Rattle.sql_history.specs.Legal.{MayRollBack}
+use Rattle.sql_history.specs.{Settings.at_first, Settings.at_end, Legal.MayRollBack}
 use Rattle.shared_lists.specs.State.{State, Lists}
 use Rattle.sql_lists.proofs.Keeping.{by_closing, kept_rollback}
 use Rattle.sql_lists.proofs.lists.SqlLists.roll_back.Goals as goal

@@ -3,8 +3,7 @@ use Rattle.inno_model.specs.Past.{own}
 use Rattle.sql_grammar.specs.Grammar.{Spells}
 use Rattle.sql_history.specs.Legal.{MayUndo}
 use Rattle.law_past_agreement.specs.Order.{IsUndoable}
-use Rattle.shared_lists.specs.State.{State, Lists}
-use Rattle.shared_lists.specs.Steps.{TakesBack}
+use Rattle.shared_lists.specs.{State.State, State.Lists, Steps.TakesBack}
 use Rattle.sql_lists.proofs.Keeping.{by_undo}
 use Rattle.sql_lists.proofs.lists.SqlLists.undo.Goals as goal
 

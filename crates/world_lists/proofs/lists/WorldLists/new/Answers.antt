@@ -1,6 +1,5 @@
 use Rattle.std.proofs.Common.{List, None, refl, sym, ap, subst}
-use Rattle.desks.specs.declared.desk.Desk.{Desk}
-use Rattle.desks.specs.Holding.{IsHeld}
+use Rattle.desks.specs.{declared.desk.Desk.Desk, Holding.IsHeld}
 use Rattle.law_held_steps.proofs.Joining.{first_held}
 use Rattle.world_lists.proofs.Awaiting.{awaits_of_nobody}
 use Rattle.law_held_steps.specs.SeenEntries.{settings_of}

@@ -1,5 +1,4 @@
-use Rattle.world_lists.proofs.Calls.{may_ack}
-use Rattle.world_lists.proofs.Made.{acked_kept, acked_adds, acked_unset, acked_rows}
+use Rattle.world_lists.proofs.{Calls.may_ack, Made.acked_kept, Made.acked_adds, Made.acked_unset, Made.acked_rows}
 use Rattle.world_lists.proofs.steps.WorldListsSharedLists.ack.Goals as goal
 
 pub ack-requires : goal.ack-requires

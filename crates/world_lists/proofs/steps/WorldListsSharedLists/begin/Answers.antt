@@ -1,5 +1,4 @@
-use Rattle.world_lists.proofs.Made.{on_err, of_ok, stays_same}
-use Rattle.world_lists.proofs.Made.{is_closed, few_begun, roomed_kept, roomed_stays, roomed_unset, roomed_rows, may_tell, surely}
+use Rattle.world_lists.proofs.Made.{on_err, of_ok, stays_same, is_closed, few_begun, roomed_kept, roomed_stays, roomed_unset, roomed_rows, may_tell, surely}
 use Rattle.world_lists.proofs.Made.{opened_kept, opened_adds, opened_reset, opened_rows}
 use Rattle.world_lists.proofs.steps.WorldListsSharedLists.begin.Goals as goal
 

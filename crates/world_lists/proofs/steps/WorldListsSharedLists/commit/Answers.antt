@@ -1,7 +1,6 @@
 use Rattle.std.proofs.Common.{refl}
 use Rattle.inno_model.specs.declared.event.Event.TheVariants.{Committed}
-use Rattle.world_lists.proofs.Calls.{may_end}
-use Rattle.world_lists.proofs.Made.{closes, same_rows, committed_kept, committed_reset}
+use Rattle.world_lists.proofs.{Calls.may_end, Made.closes, Made.same_rows, Made.committed_kept, Made.committed_reset}
 use Rattle.world_lists.proofs.steps.WorldListsSharedLists.commit.Goals as goal
 
 pub commit-requires : goal.commit-requires

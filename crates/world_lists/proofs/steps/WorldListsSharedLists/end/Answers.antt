@@ -1,5 +1,4 @@
-use Rattle.world_lists.proofs.Calls.{may_reply, desk_started}
-use Rattle.world_lists.proofs.Made.{ended_kept, ended_adds, ended_unset, ended_rows}
+use Rattle.world_lists.proofs.{Calls.may_reply, Calls.desk_started, Made.ended_kept, Made.ended_adds, Made.ended_unset, Made.ended_rows}
 use Rattle.world_lists.proofs.steps.WorldListsSharedLists.end.Goals as goal
 
 pub end_item-requires-clause-may : goal.end_item-requires-clause-may

@@ -1,7 +1,6 @@
 use Rattle.std.proofs.Common.{refl}
 use Rattle.inno_model.specs.declared.event.Event.TheVariants.{RolledBack}
-use Rattle.world_lists.proofs.Calls.{may_end}
-use Rattle.world_lists.proofs.Made.{closes, same_rows, rolled_back_kept, rolled_back_reset}
+use Rattle.world_lists.proofs.{Calls.may_end, Made.closes, Made.same_rows, Made.rolled_back_kept, Made.rolled_back_reset}
 use Rattle.world_lists.proofs.steps.WorldListsSharedLists.roll_back.Goals as goal
 
 pub roll_back-requires : goal.roll_back-requires

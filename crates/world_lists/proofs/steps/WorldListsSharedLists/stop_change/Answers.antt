@@ -1,6 +1,5 @@
 use Rattle.std.proofs.Common.{refl, sym, ◌∙◌}
-use Rattle.world_lists.proofs.Changing.{step_kept, step_shown, step_stops, none_entered}
-use Rattle.world_lists.proofs.Searching.{desks_given}
+use Rattle.world_lists.proofs.{Changing.step_kept, Changing.step_shown, Changing.step_stops, Changing.none_entered, Searching.desks_given}
 use Rattle.world_lists.proofs.steps.WorldListsSharedLists.stop_change.Goals as goal
 
 pub invariant_of-self : goal.invariant_of-self
