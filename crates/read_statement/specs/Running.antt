@@ -216,6 +216,11 @@ IsAt h task s (machine.Unacked kept given) = IsClosing h s kept given × (is_row
 IsAt h task s (machine.Ending kept given) = IsClosing h s kept given × (awaits_ack (of_item s h) ≡ false) × (task ≡ Idle)
 IsAt h task s (machine.Failed alone) = IsFailing h s alone × (task ≡ Idle)
 
+-- it searches its table
+abbrev pub is_searching : ReadStatement → Bool
+is_searching (machine.Searching read) = true
+is_searching other = false
+
 -- its commit is yet to be acknowledged
 abbrev pub owes_ack : ReadStatement → Bool
 owes_ack (machine.Unacked kept given) = true

@@ -10,7 +10,7 @@ ghost use Rattle.sql_lists.specs.Going.{Nears, NearsAcked};
 ghost use Rattle.sql_lists.specs.Kept.{OwesAck};
 ghost use Rattle.sql_lists.specs.Steps.{Steps, StaysRunning, GoesOnAcked};
 ghost use Rattle.read_statement.specs.Going.{to_go};
-ghost use Rattle.read_statement.specs.Running.{IsRunning, IsTakenWith, owes_ack, acked};
+ghost use Rattle.read_statement.specs.Running.{IsRunning, IsTakenWith, is_searching, owes_ack, acked};
 
 use crate::answering::step_found;
 use crate::closing::{step_ending, step_failed};
@@ -20,6 +20,7 @@ use inno_types::{Level, Reply, Rows, Stmt};
 use shared_lists::SharedLists;
 use sql_lists::{Advance, SqlLists};
 use std::alloc::Global;
+use std::mem;
 
 /// A SELECT, and what its session had set: whether it commits each statement, and the level of the transaction that
 /// begins next.
@@ -110,8 +111,46 @@ impl ReadStatement {
         }
     }
 
-    /// One step of the session's SELECT.
+    /// One step of the session's SELECT, where it lies: a step of its search moves nothing of it.
     pub fn step<L: SharedLists>(
+        &mut self,
+        alloc: Global,
+        session: u32,
+        lists: &mut SqlLists<L>,
+    ) -> Advance
+        requires joined { session < length lists.old.names }
+        requires running { IsRunning lists.old session self.old }
+        requires acked { owes_ack self.old ≡ false }
+        ensures steps { Steps IsRunning session lists.old lists.new self.new result }
+        ensures nears { Nears to_go session lists.old self.old lists.new self.new result }
+    {
+        match self {
+            ReadStatement::Searching(_) => step_searching(self, session, lists),
+            _ => self.go_over(alloc, session, lists),
+        }
+    }
+
+    /// A step by which it goes over into another state.
+    fn go_over<L: SharedLists>(
+        &mut self,
+        alloc: Global,
+        session: u32,
+        lists: &mut SqlLists<L>,
+    ) -> Advance
+        requires joined { session < length lists.old.names }
+        requires running { IsRunning lists.old session self.old }
+        requires acked { owes_ack self.old ≡ false }
+        requires between { is_searching self.old ≡ false }
+        ensures steps { Steps IsRunning session lists.old lists.new self.new result }
+        ensures nears { Nears to_go session lists.old self.old lists.new self.new result }
+    {
+        let (next, answer) = self.taken().stepped(alloc, session, lists);
+        drop(mem::replace(self, next));
+        answer
+    }
+
+    /// The state behind a step that goes over into another one.
+    fn stepped<L: SharedLists>(
         self,
         alloc: Global,
         session: u32,
@@ -120,6 +159,7 @@ impl ReadStatement {
         requires joined { session < length lists.old.names }
         requires running { IsRunning lists.old session self }
         requires acked { owes_ack self ≡ false }
+        requires between { is_searching self ≡ false }
         ensures steps { Steps IsRunning session lists.old lists.new result.0 result.1 }
         ensures nears { Nears to_go session lists.old self lists.new result.0 result.1 }
     {
@@ -129,11 +169,28 @@ impl ReadStatement {
             ReadStatement::Viewed { stmt, alone } => step_viewed(
                 alloc, stmt, alone, session, lists,
             ),
-            ReadStatement::Searching(read) => step_searching(read, session, lists),
             ReadStatement::Found(found) => step_found(alloc, found, session, lists),
-            ReadStatement::Unacked { .. } => unreachable!(),
             ReadStatement::Ending { kept, given } => step_ending(kept, given, session, lists),
             ReadStatement::Failed { alone } => step_failed(alone, session, lists),
+            ReadStatement::Searching(_) | ReadStatement::Unacked { .. } => unreachable!(),
+        }
+    }
+
+    /// It is taken out of its place, to be put back as another one.
+    fn taken(&mut self) -> Self
+        ensures { result ≡ self.old }
+    {
+        mem::replace(self, ReadStatement::Failed { alone: false })
+    }
+
+    /// The search under way, which is taken out of it.
+    pub fn read(&mut self) -> Read
+        requires { is_searching self.old ≡ true }
+        ensures { self.old ≡ ReadStatement.Searching result }
+    {
+        match self.taken() {
+            ReadStatement::Searching(read) => read,
+            _ => unreachable!(),
         }
     }
 }

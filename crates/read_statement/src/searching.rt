@@ -12,35 +12,36 @@ use sql_lists::{Advance, SqlLists};
 
 /// Makes one step of the search, whose rows are kept when it is over.
 pub fn step_searching<L: SharedLists>(
-    read: Read,
+    statement: &mut ReadStatement,
     session: u32,
     lists: &mut SqlLists<L>,
-) -> (ReadStatement, Advance)
+) -> Advance
     requires joined { session < length lists.old.names }
-    requires running { IsRunning lists.old session (ReadStatement.Searching read) }
-    ensures steps { Steps IsRunning session lists.old lists.new result.0 result.1 }
-    ensures nears { Nears to_go session lists.old (ReadStatement.Searching read) lists.new result.0 result.1 }
+    requires running { IsRunning lists.old session statement.old }
+    requires searching { (read : Read) × (statement.old ≡ ReadStatement.Searching read) }
+    ensures steps { Steps IsRunning session lists.old lists.new statement.new result }
+    ensures nears { Nears to_go session lists.old statement.old lists.new statement.new result }
 {
-    let alone = read.alone;
     // each change is of a table that is there
     let _ = lists.history();
     match lists.search(session) {
-        Searched::Went => (ReadStatement::Searching(read), Advance::Went),
+        Searched::Went => Advance::Went,
         Searched::Found(rows) => {
-            let Read { stmt, table, .. } = read;
-            (
-                ReadStatement::Found(Found {
-                    stmt,
-                    table,
-                    alone,
-                    rows,
-                }),
-                Advance::Went,
-            )
+            let Read { stmt, table, alone } = statement.read();
+            *statement = ReadStatement::Found(Found {
+                stmt,
+                table,
+                alone,
+                rows,
+            });
+            Advance::Went
         }
         Searched::NoMemory => {
+            let read = statement.read();
+            let alone = read.alone;
             drop(read);
-            (ReadStatement::Failed { alone }, Advance::NoMemory)
+            *statement = ReadStatement::Failed { alone };
+            Advance::NoMemory
         }
     }
 }

@@ -1,6 +1,6 @@
 -- What holds of the seats is kept by each call of the engine.
-use Rattle.std.proofs.Common.{◌≡◌, ◌≢◌, ◌⊎◌, ℕ, zero, suc, ◌+◌, ◌<◌, ◌≤◌, Bool, true, false, Option, Some, None, List, [], ◌∷◌, ◌++◌, length, get_or, set, refl}
-use Rattle.std.proofs.Common.{sym, ap, subst, ◌∙◌, inl, inr, ⊎_elim, arith}
+use Rattle.std.proofs.Common.{◌≡◌, ◌≢◌, ◌⊎◌, ℕ, zero, suc, ◌+◌, ◌<◌, ◌≤◌, true, false, Option, Some, None, List, [], ◌∷◌, ◌++◌, length, get_or, set, refl}
+use Rattle.std.proofs.Common.{sym, ap, subst, ◌∙◌, inl, inr, arith}
 use Rattle.std.proofs.lemmas.Bool.Decides.{nat_tests, eqb_tells}
 use Rattle.std.proofs.lemmas.Bool.{false≢true}
 use Rattle.std.proofs.lemmas.List.{get_or-set_same, get_or-set_other, length-set, length-append}
@@ -36,9 +36,9 @@ use Rattle.session_engine.specs.declared.seats.SignalItem.TheVariants.{Gives, Aw
 use Rattle.statement.specs.Running.{IsRunning, owes_ack, acked}
 use Rattle.statement.proofs.Acked.{goes_on_acked, acked_nears}
 use Rattle.session_engine.specs.Seats.{State, seat_at, is_working, IsSpelled, IsUnread, MayGoOut, IsGoingOut, HasAsked, IsSeatOf, SeatAgrees, AreSeats, owes}
-use Rattle.session_engine.specs.Seats.{phase_of}
-use Rattle.session_engine.specs.Calls.{AreFirst, SameLists, Joins, Starts, SameState, OthersStay, KeepsItems, TellsOne, GoesOn, StepsOn, Settled, Refuses}
-use Rattle.session_engine.specs.Calls.{GoesOut, HasGiven, EndsSignal, Signals, StepsBy, Acknowledges, WaitsInVain, GivesUpInVain, WaitsOn}
+use Rattle.session_engine.specs.Seats.{phase_of, wants_room, is_busy, IsAtWork}
+use Rattle.session_engine.specs.Calls.{AreFirst, SameLists, Joins, SameState, OthersStay, KeepsItems, TellsOne, GoesOn, StepsOn, Settled, Refuses}
+use Rattle.session_engine.specs.Calls.{GoesOut, HasGiven, EndsSignal, Signals, StepsBy, Acknowledges, WaitsInVain, GivesUpInVain, WaitsOn, StepsTo, TellsNone}
 use Rattle.statement.specs.Going.{statement_to_go}
 use Rattle.inno_model.specs.declared.board.Phase.TheVariants as phases
 use Rattle.session_engine.specs.Going.{Nears, NearsEnding, NearsLacking}
@@ -495,27 +495,71 @@ module _ (old new : Lists) (seats : List Seat) (s : ℕ) (are : AreSeats old sea
       rw settled.1 (step_nears_by before after seat was settled.0 nears)
   step_lacks before after (advance.Done reply) seat answer was nears settled = rw settled.1 tt
 
+  -- ---- a statement that steps where it lies
+
+  busy_is : (seat : Seat) → is_busy seat ≡ true → (statement : Statement) × (seat ≡ Busy statement)
+  busy_is (Busy statement) busy = (statement, refl)
+  busy_is other busy = absurd (false≢true busy)
+
+  pub at_work : is_busy (seat_at seats s) ≡ true → owes (seat_at seats s) ≡ false → IsAtWork s old (seat_at seats s)
+  at_work busy acked =
+      let it = busy_is (seat_at seats s) busy in
+      (it.0, it.1, (subst (SeatAgrees old s) it.1 (are.each s)).0, sym (ap owes it.1) ∙ acked)
+
+  never_not_yet : (statement : Statement) (adv : Advance) (seat : Seat) (answer : Progress) → Settled statement adv seat answer → answer ≡ progress.NotYet → ⊥
+  never_not_yet statement advance.Went seat answer settled is = let both = sym settled.1 ∙ is in cc
+  never_not_yet statement (advance.Waiting by blockers) seat answer settled is = let both = sym settled.1 ∙ is in cc
+  never_not_yet statement advance.NoMemory seat answer settled is = let both = sym settled.1 ∙ is in cc
+  never_not_yet statement (advance.Done reply) seat answer settled is = let both = sym settled.1 ∙ is in cc
+
+  module _ (seat : Seat) (answer : Progress) (steps : StepsTo s old new (seat_at seats s) seat answer) where
+    once : (P : List Seat → Type 0) → P (set (set seats s Idle) s seat) → P (set seats s seat)
+    once P holds = subst P (twice seat) holds
+
+    pub stepped_keeps : AreSeats new (set seats s seat)
+    stepped_keeps =
+        once (AreSeats new) (step_keeps (spelled_at steps.statement steps.was) steps.next steps.told seat answer steps.steps steps.settled)
+
+    pub stepped_does : StepsBy s answer (record { lists = old; seats = seats }) (record { lists = new; seats = set seats s seat })
+    stepped_does =
+        once (λ xs. StepsBy s answer (record { lists = old; seats = seats }) (record { lists = new; seats = xs }))
+        (step_does steps.next steps.told seat answer steps.steps steps.settled)
+
+    pub stepped_nears : Nears s answer (record { lists = old; seats = seats }) (record { lists = new; seats = set seats s seat })
+    stepped_nears =
+        once (λ xs. Nears s answer (record { lists = old; seats = seats }) (record { lists = new; seats = xs }))
+        (step_nears steps.statement steps.next steps.told seat answer steps.was steps.nears steps.settled)
+
+    pub stepped_lacks : NearsLacking s answer (record { lists = old; seats = seats }) (record { lists = new; seats = set seats s seat })
+    stepped_lacks =
+        once (λ xs. NearsLacking s answer (record { lists = old; seats = seats }) (record { lists = new; seats = xs }))
+        (step_lacks steps.statement steps.next steps.told seat answer steps.was steps.nears steps.settled)
+
+    pub stepped_quiet : wants_room (seat_at seats s) ≡ false → TellsNone old.past new.past
+    stepped_quiet wants_none = steps.quiet (sym (ap wants_room steps.was) ∙ wants_none)
+
+    pub stepped_answers : answer ≡ progress.NotYet → ⊥
+    stepped_answers is = never_not_yet steps.next steps.told seat answer steps.settled is
+
   -- ---- a statement that gives up for want of room
 
-  module _ (before after : Statement) (adv : Advance) (seat : Seat) (answer : Progress) (lacks : adv ≡ advance.NoMemory)
-      (settled : Settled after adv seat answer) where
-    gave_up : (seat ≡ Busy after) × (answer ≡ progress.NoMemory)
-    gave_up = subst (λ (a : Advance). Settled after a seat answer) lacks settled
+  module _ (before after : Statement) (adv : Advance) (lacks : adv ≡ advance.NoMemory) where
+    settles : Settled after adv (Busy after) progress.NoMemory
+    settles = subst (λ (a : Advance). Settled after a (Busy after) progress.NoMemory) (sym lacks) (refl, refl)
+
+    pub gave_up_keeps : IsSpelled s old.past → Steps IsRunning s old new after adv → AreSeats new (set (set seats s Idle) s (Busy after))
+    gave_up_keeps spelled steps = step_keeps spelled after adv (Busy after) progress.NoMemory steps settles
 
     pub gave_up_steps : Steps IsRunning s old new after adv
-        → StepsBy s progress.NoMemory (record { lists = old; seats = seats }) (record { lists = new; seats = set (set seats s Idle) s seat })
-    gave_up_steps steps =
-        subst (λ (p : Progress). StepsBy s p (record { lists = old; seats = seats }) (record { lists = new; seats = set (set seats s Idle) s seat }))
-        gave_up.1 (step_does after adv seat answer steps settled)
+        → StepsBy s progress.NoMemory (record { lists = old; seats = seats }) (record { lists = new; seats = set (set seats s Idle) s (Busy after) })
+    gave_up_steps steps = step_does after adv (Busy after) progress.NoMemory steps settles
 
     pub gave_up_lacks : seat_at seats s ≡ Busy before → StatementNears statement_to_go s old before new after adv
-        → NearsLacking s progress.NoMemory (record { lists = old; seats = seats }) (record { lists = new; seats = set (set seats s Idle) s seat })
-    gave_up_lacks was nears =
-        subst (λ (p : Progress). NearsLacking s p (record { lists = old; seats = seats }) (record { lists = new; seats = set (set seats s Idle) s seat }))
-        gave_up.1 (step_lacks before after adv seat answer was nears settled)
+        → NearsLacking s progress.NoMemory (record { lists = old; seats = seats }) (record { lists = new; seats = set (set seats s Idle) s (Busy after) })
+    gave_up_lacks was nears = step_lacks before after adv (Busy after) progress.NoMemory was nears settles
 
-    pub gave_up_busy : phase_of (seat_at (set (set seats s Idle) s seat) s) ≡ phases.Busy
-    gave_up_busy = ap phase_of (is_at seat ∙ gave_up.0)
+    pub gave_up_busy : phase_of (seat_at (set (set seats s Idle) s (Busy after)) s) ≡ phases.Busy
+    gave_up_busy = ap phase_of (is_at (Busy after))
 
   -- ---- the acknowledgement of the statement's commit
 

@@ -18,9 +18,11 @@ use Rattle.shared_lists.specs.Tasks as tasks
 use Rattle.shared_lists.specs.State.{State as Lists, Adds, task_of}
 use Rattle.sql_lists.specs.declared.advance.Advance.{Advance}
 use Rattle.sql_lists.specs.declared.advance.Advance.TheVariants as advance
+use Rattle.sql_lists.specs.Going.{Nears as StatementNears}
 use Rattle.sql_lists.specs.Steps.{Moves, AsksToWrite, Steps, WaitsFor, is_apart, changes_rows}
 use Rattle.statement.specs.declared.under_way.Statement.{Statement}
-use Rattle.statement.specs.Running.{IsRunning}
+use Rattle.statement.specs.Running.{IsRunning, wants_room}
+use Rattle.statement.specs.Going.{statement_to_go}
 use Rattle.session_engine.specs.declared.seats.Seat.{Seat}
 use Rattle.session_engine.specs.declared.seats.Seat.TheVariants as seats
 use Rattle.session_engine.specs.declared.seats.SignalItem.{SignalItem}
@@ -115,6 +117,17 @@ Settled statement advance.Went seat answer = (seat ≡ seats.Busy statement) × 
 Settled statement (advance.Waiting by blockers) seat answer = (seat ≡ seats.Busy statement) × (answer ≡ progress.Waiting blockers)
 Settled statement advance.NoMemory seat answer = (seat ≡ seats.Busy statement) × (answer ≡ progress.NoMemory)
 Settled statement (advance.Done reply) seat answer = (seat ≡ seats.Idle) × (answer ≡ progress.Done reply)
+
+-- A step of a statement, from one seat and state to another: what becomes of the statement, and what its answer comes to.
+pub record StepsTo (s : ℕ) (old new : Lists) (before after : Seat) (answer : Progress) : Type 0 where
+  pub statement : Statement
+  pub was : before ≡ seats.Busy statement
+  pub next : Statement
+  pub told : Advance
+  pub steps : Steps IsRunning s old new next told
+  pub nears : StatementNears statement_to_go s old statement new next told
+  pub quiet : wants_room statement ≡ false → count_by changes_rows new.past ≡ count_by changes_rows old.past
+  pub settled : Settled next told after answer
 
 -- the step ends an item whose text is no statement, with the place where it goes wrong
 pub record Refuses (s at : ℕ) (old new : Lists) (seat : Seat) (answer : Progress) : Type 0 where

@@ -15,6 +15,7 @@ use Rattle.shared_lists.specs.Tasks as tasks
 use Rattle.shared_lists.specs.State.{State as Lists, state_code as lists_code, task_of}
 use Rattle.sql_lists.specs.Steps.{HasRowsAlone}
 use Rattle.transaction_statements.specs.Running.{TakesBackTo}
+use Rattle.statement.specs.declared.under_way.Statement.{Statement}
 use Rattle.statement.specs.declared.under_way.Statement.TheVariants.{Asked}
 use Rattle.statement.specs.Running.{HasOnlyStarted, IsRunning, owes_ack, wants_room as statement_wants_room}
 use Rattle.inno_model.specs.declared.board.Phase.{Phase}
@@ -49,6 +50,11 @@ is_working (Refused at) = true
 is_working (Signalling item) = true
 is_working Leaving = true
 is_working Left = false
+
+-- it has a statement under way
+abbrev pub is_busy : Seat → Bool
+is_busy (Busy statement) = true
+is_busy other = false
 
 abbrev pub has_left : Seat → Bool
 has_left Left = true
@@ -96,6 +102,10 @@ pub record IsUnread (s at : ℕ) (lists : Lists) : Type 0 where
   pub started : HasOnlyStarted s text lists.past
   pub refused : IsRefusedAt text (Syntax at)
   pub idle : task_of s lists ≡ tasks.Idle
+
+-- its statement is under way, and owes no acknowledgement
+abbrev pub IsAtWork : ℕ → Lists → Seat → Type 0
+IsAtWork s lists seat = (statement : Statement) × (seat ≡ Busy statement) × IsRunning lists s statement × (owes_ack statement ≡ false)
 
 -- a session without an item, whose open transaction has changes of rows alone
 pub record MayGoOut (s : ℕ) (past : List Event) : Type 0 where

@@ -14,7 +14,7 @@ ghost use Rattle.session_engine.specs.Calls.{AreFirst};
 
 use crate::seats::{Seat, Seats};
 use crate::signalling::signal;
-use crate::steps::{go_out, read_item, refuse, settled};
+use crate::steps::{go_out, read_item, refuse};
 use inno_model::{History, Phase};
 use inno_types::{Bytes, Item};
 use shared_lists::SharedLists;
@@ -188,9 +188,8 @@ impl<L: SharedLists> SessionEngine<L> {
     {
         match self.seats.replace(s, Seat::Idle) {
             Seat::Busy(statement) => {
-                let (statement, advance) = statement.without_room(s, &mut self.lists);
-                let (seat, _) = settled(statement, advance);
-                let _ = self.seats.replace(s, seat);
+                let (statement, _) = statement.without_room(s, &mut self.lists);
+                let _ = self.seats.replace(s, Seat::Busy(statement));
             }
             _ => unreachable!(),
         }
@@ -209,13 +208,10 @@ impl<L: SharedLists> SessionEngine<L> {
         ensures waits { result ≡ Progress.NotYet → WaitsOn s now self.new }
         ensures waited { GivesUpInVain s now result self.old }
     {
+        if self.seats.is_busy(s) {
+            return self.seats.step(self.alloc, s, &mut self.lists);
+        }
         match self.seats.replace(s, Seat::Idle) {
-            Seat::Busy(statement) => {
-                let (statement, advance) = statement.step(self.alloc, s, &mut self.lists);
-                let (seat, progress) = settled(statement, advance);
-                let _ = self.seats.replace(s, seat);
-                progress
-            }
             Seat::Refused { at } => {
                 let (seat, progress) = refuse(s, at, &mut self.lists);
                 let _ = self.seats.replace(s, seat);

@@ -1,13 +1,18 @@
 //! Where each session stands: idle, at work on a statement or a signal, on its way out, or gone.
 
 ghost use Rattle.std.specs.Prelude.{◌≡◌, ◌<◌, [], ◌∷◌, ◌++◌, length, OnOk, OnErr, slice_set};
-ghost use Rattle.session_engine.specs.Seats.{seat_at, is_working, owes, phase_of, wants_room, has_left};
+ghost use Rattle.session_engine.specs.Calls.{StepsTo};
+ghost use Rattle.session_engine.specs.Seats.{IsAtWork, seat_at, is_working, is_busy, owes, phase_of, wants_room, has_left};
 
 use inno_model::Phase;
 use inno_types::Bytes;
+use shared_lists::SharedLists;
+use sql_lists::{Advance, SqlLists};
 use statement::Statement;
 use std::alloc::{AllocError, Global};
 use std::marker::Model;
+use std::mem;
+use store_api::Progress;
 
 /// Where a session stands.
 #[derive(Drop)]
@@ -21,6 +26,34 @@ pub enum Seat {
     /// Its open transaction is being rolled back.
     Leaving,
     Left,
+}
+
+impl Seat {
+    /// A step of its statement, where it lies. The seat of one that is done is idle.
+    fn step<L: SharedLists>(
+        &mut self,
+        alloc: Global,
+        session: u32,
+        lists: &mut SqlLists<L>,
+    ) -> Progress
+        requires joined { session < length lists.old.names }
+        requires at_work { IsAtWork session lists.old self.old }
+        ensures { StepsTo session lists.old lists.new self.old self.new result }
+    {
+        let advance = match self {
+            Seat::Busy(statement) => statement.step(alloc, session, lists),
+            _ => unreachable!(),
+        };
+        match advance {
+            Advance::Went => Progress::Went,
+            Advance::Waiting { by: _, blockers } => Progress::Waiting { blockers },
+            Advance::NoMemory => Progress::NoMemory,
+            Advance::Done(reply) => {
+                drop(mem::replace(self, Seat::Idle));
+                Progress::Done(reply)
+            }
+        }
+    }
 }
 
 /// An item that is no statement.
@@ -88,6 +121,14 @@ impl Seats {
         }
     }
 
+    /// Whether the session has a statement under way.
+    pub fn is_busy(&self, session: u32) -> bool
+        requires { session < length self.now }
+        ensures { result ≡ is_busy (seat_at self.now session) }
+    {
+        matches!(&self.seats[session as usize], Seat::Busy(_))
+    }
+
     /// Whether the commit of the session's statement is yet to be acknowledged.
     pub fn owes(&self, session: u32) -> bool
         requires { session < length self.now }
@@ -131,12 +172,27 @@ impl Seats {
         matches!(&self.seats[session as usize], Seat::Left)
     }
 
+    /// A step of the session's statement, where it lies.
+    pub fn step<L: SharedLists>(
+        &mut self,
+        alloc: Global,
+        session: u32,
+        lists: &mut SqlLists<L>,
+    ) -> Progress
+        requires seated { session < length self.old }
+        requires joined { session < length lists.old.names }
+        requires at_work { IsAtWork session lists.old (seat_at self.old session) }
+        ensures { (seat : Seat) × (self.new ≡ slice_set self.old session seat) × StepsTo session lists.old lists.new (seat_at self.old session) seat result }
+    {
+        self.seats[session as usize].step(alloc, session, lists)
+    }
+
     /// Puts a seat in the session's place, and gives back the one that was there.
     pub fn replace(&mut self, session: u32, seat: Seat) -> Seat
         requires { session < length self.old }
         ensures was { result ≡ seat_at self.old session }
         ensures is { self.new ≡ slice_set self.old session seat }
     {
-        std::mem::replace(&mut self.seats[session as usize], seat)
+        mem::replace(&mut self.seats[session as usize], seat)
     }
 }

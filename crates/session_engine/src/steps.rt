@@ -1,15 +1,15 @@
-//! The parts of a session's steps: its item is read, a step of its statement is settled, and its ending makes steps.
+//! The parts of a session's steps: its item is read, one that is no statement is refused, and its ending makes steps.
 
 ghost use Rattle.std.specs.Prelude.{◌≡◌, ◌<◌, length, IfOk};
 ghost use Rattle.inno_model.specs.Past.{own, IsOpen};
-ghost use Rattle.session_engine.specs.Calls.{Settled, Refuses, GoesOut, TellsNone};
+ghost use Rattle.session_engine.specs.Calls.{Refuses, GoesOut, TellsNone};
 ghost use Rattle.session_engine.specs.Seats.{IsGoingOut, IsSeatOf, IsUnread};
 ghost use Rattle.session_engine.specs.Going.{NearsEnding};
 
 use crate::seats::{Seat, SignalItem, Wait};
 use inno_types::{Item, Reply, SqlError};
 use shared_lists::{SharedLists, Undone};
-use sql_lists::{Advance, SqlLists};
+use sql_lists::SqlLists;
 use sql_prefix::{ParseBad, parse};
 use statement::Statement;
 use std::alloc::Global;
@@ -52,21 +52,6 @@ pub fn refuse<L: SharedLists>(s: u32, at: u32, lists: &mut SqlLists<L>) -> (Seat
         Seat::Idle,
         Progress::Done(Reply::Fail(SqlError::Syntax { at })),
     )
-}
-
-/// The seat and the answer that a statement's step comes to.
-pub fn settled(statement: Statement, advance: Advance) -> (Seat, Progress)
-    ensures { Settled statement advance result.0 result.1 }
-{
-    match advance {
-        Advance::Went => (Seat::Busy(statement), Progress::Went),
-        Advance::Waiting { by: _, blockers } => (
-            Seat::Busy(statement),
-            Progress::Waiting { blockers },
-        ),
-        Advance::NoMemory => (Seat::Busy(statement), Progress::NoMemory),
-        Advance::Done(reply) => (Seat::Idle, Progress::Done(reply)),
-    }
 }
 
 /// A step of a session's ending: its changes are taken back, the newest first, and then its transaction is rolled back.

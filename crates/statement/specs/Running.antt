@@ -54,6 +54,12 @@ IsRunning state s (statements.Read statement) = of_read.IsRunning state s statem
 IsRunning state s (statements.Write statement) = of_write.IsRunning state s statement
 IsRunning state s statements.Failed = (text : List ℕ) × HasOnlyStarted s text state.past × (task_of s state ≡ Idle)
 
+-- its step makes another statement of it; a SELECT, or one that changes rows, steps where it lies
+abbrev pub goes_over : Statement → Bool
+goes_over (statements.Read statement) = false
+goes_over (statements.Write statement) = false
+goes_over other = true
+
 -- its commit is yet to be acknowledged
 abbrev pub owes_ack : Statement → Bool
 owes_ack (statements.Transaction statement) = of_transaction.owes_ack statement

@@ -10,7 +10,7 @@ ghost use Rattle.sql_history.specs.Statements.{session_refusal, is_serializable}
 ghost use Rattle.sql_lists.specs.Kept.{OwesAck};
 ghost use Rattle.sql_lists.specs.Steps.{Steps, GoesOnAcked, changes_rows};
 ghost use Rattle.sql_lists.specs.Going.{Nears, NearsAcked};
-ghost use Rattle.statement.specs.Running.{IsRunning, IsOfKind, LooksAs, IsBegun, is_done, owes_ack, acked, wants_room};
+ghost use Rattle.statement.specs.Running.{IsRunning, IsOfKind, LooksAs, IsBegun, is_done, goes_over, owes_ack, acked, wants_room};
 ghost use Rattle.statement.specs.Going.{statement_to_go};
 
 use create_statement::CreateStatement;
@@ -21,6 +21,7 @@ use sql_history::SessionSettings;
 use sql_lists::{Advance, SqlLists};
 use sql_refusals::refuse;
 use std::alloc::{AllocError, Global};
+use std::mem;
 use transaction_statements::TransactionStatement;
 use write_statement::WriteStatement;
 
@@ -115,8 +116,54 @@ impl Statement {
         }
     }
 
-    /// One step of the session's statement. One that wants no room tells the history no change.
+    /// One step of the session's statement, where it lies. One that wants no room tells the history no change.
     pub fn step<L: SharedLists>(
+        &mut self,
+        alloc: Global,
+        session: u32,
+        lists: &mut SqlLists<L>,
+    ) -> Advance
+        requires joined { session < length lists.old.names }
+        requires running { IsRunning lists.old session self.old }
+        requires acked { owes_ack self.old ≡ false }
+        ensures steps { Steps IsRunning session lists.old lists.new self.new result }
+        ensures nears { Nears statement_to_go session lists.old self.old lists.new self.new result }
+        ensures quiet { wants_room self.old ≡ false → count_by changes_rows lists.new.past ≡ count_by changes_rows lists.old.past }
+    {
+        match self {
+            Statement::Read(statement) => statement.step(alloc, session, lists),
+            Statement::Write(statement) => statement.step(alloc, session, lists),
+            Statement::Unread { .. }
+            | Statement::Asked(_)
+            | Statement::Transaction(_)
+            | Statement::Create(_)
+            | Statement::Failed => self.go_over(alloc, session, lists),
+        }
+    }
+
+    /// A step that makes another one of it.
+    fn go_over<L: SharedLists>(
+        &mut self,
+        alloc: Global,
+        session: u32,
+        lists: &mut SqlLists<L>,
+    ) -> Advance
+        requires joined { session < length lists.old.names }
+        requires running { IsRunning lists.old session self.old }
+        requires acked { owes_ack self.old ≡ false }
+        requires between { goes_over self.old ≡ true }
+        ensures steps { Steps IsRunning session lists.old lists.new self.new result }
+        ensures nears { Nears statement_to_go session lists.old self.old lists.new self.new result }
+        ensures quiet { wants_room self.old ≡ false → count_by changes_rows lists.new.past ≡ count_by changes_rows lists.old.past }
+    {
+        let statement = mem::replace(self, Statement::Failed);
+        let (next, answer) = statement.stepped(alloc, session, lists);
+        drop(mem::replace(self, next));
+        answer
+    }
+
+    /// The statement behind a step that makes another one of it.
+    fn stepped<L: SharedLists>(
         self,
         alloc: Global,
         session: u32,
@@ -125,6 +172,7 @@ impl Statement {
         requires joined { session < length lists.old.names }
         requires running { IsRunning lists.old session self }
         requires acked { owes_ack self ≡ false }
+        requires between { goes_over self ≡ true }
         ensures steps { Steps IsRunning session lists.old lists.new result.0 result.1 }
         ensures nears { Nears statement_to_go session lists.old self lists.new result.0 result.1 }
         ensures quiet { wants_room self ≡ false → count_by changes_rows lists.new.past ≡ count_by changes_rows lists.old.past }
@@ -140,15 +188,8 @@ impl Statement {
                 let (statement, advance) = statement.step(alloc, session, lists);
                 (Statement::Create(statement), advance)
             }
-            Statement::Read(statement) => {
-                let (statement, advance) = statement.step(alloc, session, lists);
-                (Statement::Read(statement), advance)
-            }
-            Statement::Write(statement) => {
-                let (statement, advance) = statement.step(alloc, session, lists);
-                (Statement::Write(statement), advance)
-            }
             Statement::Failed => give_up(session, lists),
+            Statement::Read(_) | Statement::Write(_) => unreachable!(),
         }
     }
 }

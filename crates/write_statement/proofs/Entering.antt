@@ -1,5 +1,6 @@
 -- The steps of one change, before the history tells it and behind that.
-use Rattle.std.proofs.Common.{◌≡◌, ℕ, ◌+◌, ◌≤◌, ◌<◌, ◌⊎◌, Option, Some, None, List, [], ◌∷◌, ◌++◌, Vec, length, sym, ap, subst, ◌∙◌, inl, inr}
+use Rattle.std.proofs.Common.{◌≡◌, ◌≢◌, ℕ, ◌+◌, ◌≤◌, ◌<◌, ◌⊎◌, true, Option, Some, None, List, [], ◌∷◌, ◌++◌, Vec, length, sym, ap, subst, ◌∙◌, inl, inr}
+use Rattle.std.proofs.lemmas.Bool.{false≢true}
 use Rattle.std.proofs.lemmas.Option.{same_Some}
 use Rattle.std.specs.declared.alloc.Global.{Global}
 use Rattle.inno_db.specs.declared.change.Change.{Change}
@@ -12,7 +13,7 @@ use Rattle.sql_history.specs.Legal.{MayChange}
 use Rattle.law_past_agreement.specs.Order.{created, IsTabled, IsOfRow}
 use Rattle.shared_lists.specs.declared.answers.Changed.{Changed}
 use Rattle.shared_lists.specs.declared.answers.Changed.TheVariants as made
-use Rattle.shared_lists.specs.Tasks.{Task, Idle, MayTakeBack, asked, left_by}
+use Rattle.shared_lists.specs.Tasks.{Task, Idle, MayTakeBack, asked, left_by, is_changing}
 use Rattle.shared_lists.specs.State.{State, Turns, task_of}
 use Rattle.shared_lists.specs.Steps.{GoesOn, Enters, Changes}
 use Rattle.sql_lists.specs.Steps.{Moves, Steps}
@@ -25,9 +26,9 @@ use Rattle.giving_up.specs.declared.leaving.Leaving.TheVariants as leaving
 use Rattle.write_statement.specs.declared.machine.WriteStatement.TheVariants as machine
 use Rattle.write_statement.specs.Parts.{of_rest}
 use Rattle.giving_up.specs.Leaving.{given_up}
-use Rattle.write_statement.specs.Running.{IsChanging, IsMaking, IsFinishing, IsRunning}
+use Rattle.write_statement.specs.Running.{IsChanging, IsMaking, IsFinishing, IsRunning, AreParts, HasRoomFor, is_at_change}
 use Rattle.law_claims.specs.Claims.{Tables}
-use Rattle.law_claims.proofs.Keeping.{keeper_writes}
+use Rattle.law_claims.proofs.Keeping.{keeper_writes, keeper_alone}
 use Rattle.write_statement.proofs.Changes.{with_entry, tabled, may_change, changing_then, stands_now}
 use Rattle.write_statement.proofs.Turning.{changing_given_up}
 
@@ -134,3 +135,57 @@ pub finishing_given_up : (s : ℕ) (old new : State) (part : Part) (todo : List 
 finishing_given_up s old new part todo m a r turns state answer =
     changing_given_up s old new (left_by (asked (task_of s old))) part (of_rest part) todo m a r.changing turns
     (inr (subst MayTakeBack (sym (ap left_by r.told)) tt, r.stands)) state answer
+
+-- ---- where the statement lies
+
+module _ (s : ℕ) (old new : State) where
+  -- who makes a change may write, alone
+  pub at_change : (m : WriteStatement) → is_at_change m ≡ true → IsRunning old s m
+      → (old.writer ≡ Some s) × ((other : ℕ) → other ≢ s → own other old.past ≡ []) × (is_changing (task_of s old) ≡ true)
+  at_change (machine.Making part todo rows) is r =
+      let keeps = r.changing.keeps Tables tt in
+      (keeper_writes s Tables old.past old.writer keeps, keeper_alone s Tables old.past old.writer keeps, r.under_way)
+  at_change (machine.Finishing part todo) is r =
+      let keeps = r.changing.keeps Tables tt in
+      (keeper_writes s Tables old.past old.writer keeps, keeper_alone s Tables old.past old.writer keeps, r.under_way)
+  at_change other is r = absurd (false≢true is)
+
+  pub may_be_made : (m : WriteStatement) → is_at_change m ≡ true → IsRunning old s m → HasRoomFor m old.past → (change : Change)
+      → asked (task_of s old) ≡ Some change → MayChange Spells s change old.past × IsTabled (length (created old.past)) change × IsOfRow change
+  may_be_made (machine.Making part todo rows) is r within change asks =
+      may_make old.past old.writer (task_of s old) s part todo.items rows r within change asks
+  may_be_made (machine.Finishing part todo) is r within change asks = absurd (let x : None ≡ Some change = sym r.told ∙ asks in cc)
+  may_be_made other is r within change asks = absurd (false≢true is)
+
+  pub change_went : (m : WriteStatement) (answer : Changed) → is_at_change m ≡ true → IsRunning old s m → answer ≡ made.Went → Changes s old new answer
+      → Steps IsRunning s old new m advance.Went
+  change_went (machine.Making part todo rows) answer is r went changes = making_went s old new part todo rows r (subst (Changes s old new) went changes)
+  change_went (machine.Finishing part todo) answer is r went changes = finishing_went s old new part todo r answer (inl went) changes
+  change_went other answer is r went changes = absurd (false≢true is)
+
+  pub change_entered : (m : WriteStatement) (answer : Changed) (part : Part) (todo : Vec Change Global) → AreParts m part todo → IsRunning old s m
+      → answer ≡ made.Entered → Changes s old new answer → Steps IsRunning s old new (machine.Finishing part todo) advance.Went
+  change_entered (machine.Making it behind rows) answer part todo are r told changes =
+      rw (are.0, are.1) (entered s old new it behind.items rows r (subst (Changes s old new) told changes))
+  change_entered (machine.Finishing it behind) answer part todo are r told changes =
+      rw (are.0, are.1) (finishing_went s old new it behind r answer (inr told) changes)
+  change_entered other answer part todo are r told changes = absurd are
+
+  pub change_done : (m : WriteStatement) (answer : Changed) (part : Part) (todo : Vec Change Global) → AreParts m part todo → IsRunning old s m
+      → answer ≡ made.Done → Changes s old new answer → Steps IsRunning s old new (machine.Changing part todo) advance.Went
+  change_done (machine.Making it behind rows) answer part todo are r done changes =
+      absurd (let x : None ≡ Some r.change = sym (subst (Changes s old new) done changes).0 ∙ r.asked_is in cc)
+  change_done (machine.Finishing it behind) answer part todo are r done changes =
+      rw (are.0, are.1) (finishing_done s old new it behind r (subst (Changes s old new) done changes).1)
+  change_done other answer part todo are r done changes = absurd are
+
+  pub change_fails : (m : WriteStatement) (answer : Changed) (part : Part) (todo : Vec Change Global) (next : WriteStatement) (a : Advance)
+      → AreParts m part todo → IsRunning old s m → answer ≡ made.NoMemory → Changes s old new answer
+      → next ≡ machine.Leaving (leaving.BackingOut (given_up part.alone part.before)) → a ≡ advance.NoMemory → Steps IsRunning s old new next a
+  change_fails (machine.Making it behind rows) answer part todo next a are r failed changes state told =
+      making_given_up s old new it behind.items rows next a r (subst (Changes s old new) failed changes)
+      (state ∙ ap (λ (p : Part). machine.Leaving (leaving.BackingOut (given_up p.alone p.before))) are.0) told
+  change_fails (machine.Finishing it behind) answer part todo next a are r failed changes state told =
+      finishing_given_up s old new it behind.items next a r (subst (Changes s old new) failed changes)
+      (state ∙ ap (λ (p : Part). machine.Leaving (leaving.BackingOut (given_up p.alone p.before))) are.0) told
+  change_fails other answer part todo next a are r failed changes state told = absurd are

@@ -1,5 +1,7 @@
 -- What the machine knows between its steps: of the past, of who may write, and of what the session has under way.
-use Rattle.std.specs.Prelude.{◌≡◌, ℕ, ◌<◌, ◌⊎◌, Bool, true, false, Option, Some, None, List, [], ◌∷◌, ◌++◌, length, reverse, slice_get}
+use Rattle.std.specs.Prelude.{◌≡◌, ℕ, ◌+◌, ◌<◌, ◌≤◌, ◌⊎◌, Bool, true, false, Option, Some, None, List, [], ◌∷◌, ◌++◌, length, reverse, slice_get}
+use Rattle.std.specs.declared.vec.Vec.{Vec}
+use Rattle.std.specs.declared.alloc.Global.{Global}
 use Rattle.inno_types.specs.declared.value.Value.{Value}
 use Rattle.inno_types.specs.declared.value.Schema.{Schema}
 use Rattle.inno_types.specs.declared.stmt.Stmt.{Stmt}
@@ -18,7 +20,7 @@ use Rattle.inno_model.specs.declared.event.Event.TheVariants.{Changed}
 use Rattle.inno_model.specs.Past.{did, own, commits, current}
 use Rattle.sql_history.specs.Items.{is_over, own_before, base, undoes}
 use Rattle.sql_history.specs.Legal.{IsWriting}
-use Rattle.sql_history.specs.Counts.{rows_of_entry}
+use Rattle.sql_history.specs.Counts.{rows_of_entry, rows_kept, most_rows}
 use Rattle.law_past_agreement.specs.Order.{created, IsOfRow}
 use Rattle.plain_sql.specs.Finding.{IsReadFrom}
 use Rattle.shared_lists.specs.declared.answers.Reading.TheVariants.{Newest}
@@ -144,6 +146,28 @@ abbrev pub wants_room : WriteStatement → Bool
 wants_room (machine.Changing part todo) = true
 wants_room (machine.Making part todo rows) = true
 wants_room other = false
+
+-- it searches its table
+abbrev pub is_searching : WriteStatement → Bool
+is_searching (machine.Searching part) = true
+is_searching other = false
+
+-- a change is under way
+abbrev pub is_at_change : WriteStatement → Bool
+is_at_change (machine.Making part todo rows) = true
+is_at_change (machine.Finishing part todo) = true
+is_at_change other = false
+
+-- the part whose change is under way, and the changes behind that one
+abbrev pub AreParts : WriteStatement → Part → Vec Change Global → Type 0
+AreParts (machine.Making part todo rows) it behind_it = (it ≡ part) × (behind_it ≡ todo)
+AreParts (machine.Finishing part todo) it behind_it = (it ≡ part) × (behind_it ≡ todo)
+AreParts other it behind_it = ⊥
+
+-- The history has room for the change under way, where it doesn't tell it yet.
+abbrev pub HasRoomFor : WriteStatement → List Event → Type 0
+HasRoomFor (machine.Making part todo rows) past = rows_kept past + rows ≤ most_rows
+HasRoomFor other past = Unit {0}
 
 -- its commit is yet to be acknowledged
 abbrev pub owes_ack : WriteStatement → Bool

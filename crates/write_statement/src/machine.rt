@@ -10,10 +10,10 @@ ghost use Rattle.sql_lists.specs.Kept.{OwesAck};
 ghost use Rattle.sql_lists.specs.Steps.{Steps, IsTaken, StaysRunning, GoesOnAcked};
 ghost use Rattle.sql_lists.specs.Going.{Nears, NearsAcked};
 ghost use Rattle.write_statement.specs.Going.{to_go};
-ghost use Rattle.write_statement.specs.Running.{IsRunning, owes_ack, acked, wants_room};
+ghost use Rattle.write_statement.specs.Running.{IsRunning, AreParts, is_searching, is_at_change, owes_ack, acked, wants_room};
 
 use crate::changing::{lack_room, step_changing};
-use crate::making::{step_finishing, step_making, stop_making};
+use crate::making::{step_change, step_making, stop_making};
 use crate::opening::{step_fresh, step_locking};
 use crate::searching::step_searching;
 use giving_up::Leaving;
@@ -22,6 +22,7 @@ use inno_types::{Literals, Stmt};
 use shared_lists::SharedLists;
 use sql_lists::{Advance, SqlLists};
 use std::alloc::Global;
+use std::mem;
 
 /// A statement that changes rows.
 #[derive(Drop)]
@@ -137,8 +138,55 @@ impl WriteStatement {
         }
     }
 
-    /// One step of the session's statement.
+    /// One step of the session's statement, where it lies: a step of its search or of a change under way moves nothing of it.
     pub fn step<L: SharedLists>(
+        &mut self,
+        alloc: Global,
+        session: u32,
+        lists: &mut SqlLists<L>,
+    ) -> Advance
+        requires joined { session < length lists.old.names }
+        requires running { IsRunning lists.old session self.old }
+        requires acked { owes_ack self.old ≡ false }
+        ensures steps { Steps IsRunning session lists.old lists.new self.new result }
+        ensures nears { Nears to_go session lists.old self.old lists.new self.new result }
+    {
+        match self {
+            WriteStatement::Searching(_) => step_searching(self, alloc, session, lists),
+            WriteStatement::Making { rows, .. } => {
+                let rows = *rows;
+                step_making(self, rows, session, lists)
+            }
+            WriteStatement::Finishing { .. } => step_change(self, session, lists),
+            WriteStatement::Fresh { .. }
+            | WriteStatement::Locking { .. }
+            | WriteStatement::Changing { .. }
+            | WriteStatement::Leaving(_) => self.go_over(alloc, session, lists),
+        }
+    }
+
+    /// A step by which it goes over into another state.
+    fn go_over<L: SharedLists>(
+        &mut self,
+        alloc: Global,
+        session: u32,
+        lists: &mut SqlLists<L>,
+    ) -> Advance
+        requires joined { session < length lists.old.names }
+        requires running { IsRunning lists.old session self.old }
+        requires acked { owes_ack self.old ≡ false }
+        requires between { (is_searching self.old ≡ false) × (is_at_change self.old ≡ false) }
+        ensures steps { Steps IsRunning session lists.old lists.new self.new result }
+        ensures nears { Nears to_go session lists.old self.old lists.new self.new result }
+    {
+        let statement = mem::replace(self, WriteStatement::Leaving(Leaving::Unopened));
+        let (next, answer) = statement.stepped(alloc, session, lists);
+        *self = next;
+        answer
+    }
+
+    /// The state behind a step that goes over into another one.
+    fn stepped<L: SharedLists>(
         self,
         alloc: Global,
         session: u32,
@@ -147,6 +195,7 @@ impl WriteStatement {
         requires joined { session < length lists.old.names }
         requires running { IsRunning lists.old session self }
         requires acked { owes_ack self ≡ false }
+        requires between { (is_searching self ≡ false) × (is_at_change self ≡ false) }
         ensures steps { Steps IsRunning session lists.old lists.new result.0 result.1 }
         ensures nears { Nears to_go session lists.old self lists.new result.0 result.1 }
     {
@@ -155,18 +204,39 @@ impl WriteStatement {
             WriteStatement::Locking { stmt, alone } => step_locking(
                 alloc, stmt, alone, session, lists,
             ),
-            WriteStatement::Searching(part) => step_searching(alloc, part, session, lists),
             WriteStatement::Changing { part, todo } => {
                 step_changing(alloc, part, todo, session, lists)
             }
-            WriteStatement::Making { part, todo, rows } => {
-                step_making(part, todo, rows, session, lists)
-            }
-            WriteStatement::Finishing { part, todo } => step_finishing(part, todo, session, lists),
             WriteStatement::Leaving(leaving) => {
                 let (leaving, answer) = leaving.step(session, lists);
                 (WriteStatement::Leaving(leaving), answer)
             }
+            WriteStatement::Searching(_)
+            | WriteStatement::Making { .. }
+            | WriteStatement::Finishing { .. } => unreachable!(),
+        }
+    }
+
+    /// The part that it searches for, which is taken out of it.
+    pub fn part(&mut self) -> Part
+        requires { is_searching self.old ≡ true }
+        ensures { self.old ≡ WriteStatement.Searching result }
+    {
+        match mem::replace(self, WriteStatement::Leaving(Leaving::Unopened)) {
+            WriteStatement::Searching(part) => part,
+            _ => unreachable!(),
+        }
+    }
+
+    /// The part whose change is under way, and the changes behind that one, which are taken out of it.
+    pub fn parts(&mut self) -> (Part, Vec<Change>)
+        requires { is_at_change self.old ≡ true }
+        ensures { AreParts self.old result.0 result.1 }
+    {
+        match mem::replace(self, WriteStatement::Leaving(Leaving::Unopened)) {
+            WriteStatement::Making { part, todo, .. } => (part, todo),
+            WriteStatement::Finishing { part, todo } => (part, todo),
+            _ => unreachable!(),
         }
     }
 }

@@ -1,11 +1,10 @@
 //! A statement makes the steps of one change.
 
-ghost use Rattle.std.specs.Prelude.{◌≡◌, ◌<◌, ◌≤◌, ◌+◌, length};
-ghost use Rattle.sql_history.specs.Counts.{rows_kept, most_rows};
+ghost use Rattle.std.specs.Prelude.{◌≡◌, ◌<◌, length, true};
 ghost use Rattle.sql_lists.specs.Steps.{Steps};
 ghost use Rattle.sql_lists.specs.Going.{Nears};
 ghost use Rattle.write_statement.specs.Going.{to_go};
-ghost use Rattle.write_statement.specs.Running.{IsRunning};
+ghost use Rattle.write_statement.specs.Running.{IsRunning, HasRoomFor, is_at_change};
 
 use crate::answering::give_up;
 use crate::machine::{Part, WriteStatement};
@@ -13,22 +12,28 @@ use inno_db::Change;
 use shared_lists::{Changed, SharedLists};
 use sql_lists::{Advance, SqlLists};
 
+/// Makes a step of a change that the history doesn't tell yet, and by which it will hold so many rows more.
 pub fn step_making<L: SharedLists>(
-    part: Part,
-    todo: Vec<Change>,
+    statement: &mut WriteStatement,
     rows: u64,
     session: u32,
     lists: &mut SqlLists<L>,
-) -> (WriteStatement, Advance)
+) -> Advance
     requires joined { session < length lists.old.names }
-    requires running { IsRunning lists.old session (WriteStatement.Making part todo rows) }
-    ensures steps { Steps IsRunning session lists.old lists.new result.0 result.1 }
-    ensures nears { Nears to_go session lists.old (WriteStatement.Making part todo rows) lists.new result.0 result.1 }
+    requires running { IsRunning lists.old session statement.old }
+    requires making { (part : Part) × (todo : _) × (statement.old ≡ WriteStatement.Making part todo rows) }
+    ensures steps { Steps IsRunning session lists.old lists.new statement.new result }
+    ensures nears { Nears to_go session lists.old statement.old lists.new statement.new result }
 {
     match lists.overfull(rows) {
         // Since the change was begun, replies to others have filled the history.
-        Some(_) => stop_making(part, todo, rows, session, lists),
-        None => go_on(part, todo, rows, session, lists),
+        Some(_) => {
+            let (part, todo) = statement.parts();
+            let (next, answer) = stop_making(part, todo, rows, session, lists);
+            *statement = next;
+            answer
+        }
+        None => step_change(statement, session, lists),
     }
 }
 
@@ -51,45 +56,37 @@ pub fn stop_making<L: SharedLists>(
     give_up(part)
 }
 
-/// Makes a step of a change that the history may tell.
-fn go_on<L: SharedLists>(
-    part: Part,
-    todo: Vec<Change>,
-    rows: u64,
+/// Makes a step of a change, for which the history has room where it doesn't tell it yet.
+pub fn step_change<L: SharedLists>(
+    statement: &mut WriteStatement,
     session: u32,
     lists: &mut SqlLists<L>,
-) -> (WriteStatement, Advance)
+) -> Advance
     requires joined { session < length lists.old.names }
-    requires running { IsRunning lists.old session (WriteStatement.Making part todo rows) }
-    requires within { rows_kept lists.old.past + rows ≤ most_rows }
-    ensures steps { Steps IsRunning session lists.old lists.new result.0 result.1 }
-    ensures nears { Nears to_go session lists.old (WriteStatement.Making part todo rows) lists.new result.0 result.1 }
+    requires running { IsRunning lists.old session statement.old }
+    requires changing { is_at_change statement.old ≡ true }
+    requires within { HasRoomFor statement.old lists.old.past }
+    ensures steps { Steps IsRunning session lists.old lists.new statement.new result }
+    ensures nears { Nears to_go session lists.old statement.old lists.new statement.new result }
 {
     match lists.change(session) {
-        Changed::Went => (WriteStatement::Making { part, todo, rows }, Advance::Went),
-        Changed::Entered => (WriteStatement::Finishing { part, todo }, Advance::Went),
-        Changed::Done => (WriteStatement::Changing { part, todo }, Advance::Went),
-        Changed::NoMemory => give_up(part),
-    }
-}
-
-/// Makes a step of a change that the history tells.
-pub fn step_finishing<L: SharedLists>(
-    part: Part,
-    todo: Vec<Change>,
-    session: u32,
-    lists: &mut SqlLists<L>,
-) -> (WriteStatement, Advance)
-    requires joined { session < length lists.old.names }
-    requires running { IsRunning lists.old session (WriteStatement.Finishing part todo) }
-    ensures steps { Steps IsRunning session lists.old lists.new result.0 result.1 }
-    ensures nears { Nears to_go session lists.old (WriteStatement.Finishing part todo) lists.new result.0 result.1 }
-{
-    match lists.change(session) {
-        Changed::Went | Changed::Entered => {
-            (WriteStatement::Finishing { part, todo }, Advance::Went)
+        Changed::Went => Advance::Went,
+        Changed::Entered => {
+            let (part, todo) = statement.parts();
+            *statement = WriteStatement::Finishing { part, todo };
+            Advance::Went
         }
-        Changed::Done => (WriteStatement::Changing { part, todo }, Advance::Went),
-        Changed::NoMemory => give_up(part),
+        Changed::Done => {
+            let (part, todo) = statement.parts();
+            *statement = WriteStatement::Changing { part, todo };
+            Advance::Went
+        }
+        Changed::NoMemory => {
+            let (part, todo) = statement.parts();
+            drop(todo);
+            let (next, answer) = give_up(part);
+            *statement = next;
+            answer
+        }
     }
 }

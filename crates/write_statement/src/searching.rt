@@ -13,21 +13,32 @@ use shared_lists::{Searched, SharedLists};
 use sql_lists::{Advance, SqlLists};
 use std::alloc::Global;
 
+/// Makes one step of the search.
 pub fn step_searching<L: SharedLists>(
+    statement: &mut WriteStatement,
     alloc: Global,
-    part: Part,
     session: u32,
     lists: &mut SqlLists<L>,
-) -> (WriteStatement, Advance)
+) -> Advance
     requires joined { session < length lists.old.names }
-    requires running { IsRunning lists.old session (WriteStatement.Searching part) }
-    ensures steps { Steps IsRunning session lists.old lists.new result.0 result.1 }
-    ensures nears { Nears to_go session lists.old (WriteStatement.Searching part) lists.new result.0 result.1 }
+    requires running { IsRunning lists.old session statement.old }
+    requires searching { (part : Part) × (statement.old ≡ WriteStatement.Searching part) }
+    ensures steps { Steps IsRunning session lists.old lists.new statement.new result }
+    ensures nears { Nears to_go session lists.old statement.old lists.new statement.new result }
 {
     match lists.search(session) {
-        Searched::Went => (WriteStatement::Searching(part), Advance::Went),
-        Searched::Found(rows) => answer_found(alloc, part, rows, session, lists),
-        Searched::NoMemory => give_up(part),
+        Searched::Went => Advance::Went,
+        Searched::Found(rows) => {
+            let part = statement.part();
+            let (next, answer) = answer_found(alloc, part, rows, session, lists);
+            *statement = next;
+            answer
+        }
+        Searched::NoMemory => {
+            let (next, answer) = give_up(statement.part());
+            *statement = next;
+            answer
+        }
     }
 }
 

@@ -1,5 +1,5 @@
-use Rattle.std.proofs.Common.{length, ◌≡◌, ◌<◌, ◌∙◌, subst, sym}
-use Rattle.session_engine.proofs.Seating.{spelled_at, step_keeps, gave_up_steps, gave_up_lacks, gave_up_busy}
+use Rattle.std.proofs.Common.{length, ◌<◌, ◌∙◌, subst, sym}
+use Rattle.session_engine.proofs.Seating.{spelled_at, gave_up_keeps, gave_up_steps, gave_up_lacks, gave_up_busy}
 use Rattle.session_engine.proofs.machine.SessionEngine.give_up.Goals as goal
 
 pub invariant_of-self : goal.invariant_of-self
@@ -7,39 +7,35 @@ invariant_of-self g c =
     let engine = c.self.inside in
     let joined : c.args.s < length engine.lists.names = subst (λ st. c.args.s < length st.lists.names) (sym c.self.view_is) c.requires.joined in
     let step = c.without_room-statement in
-    let seat = c.settled-seat in
     rw (c.replace-in-Busy.ensures.is, c.replace.ensures.is)
-    (step_keeps engine.lists step.new.lists engine.seats c.args.s c.self.invariant joined
+    (gave_up_keeps engine.lists step.new.lists engine.seats c.args.s c.self.invariant joined c.in-Busy.statement step.result.0 step.result.1
+    step.ensures.lacks
     (spelled_at engine.lists step.new.lists engine.seats c.args.s c.self.invariant joined c.in-Busy.statement (sym c.replace.ensures.was ∙ c.in-Busy.is))
-    step.result.0 step.result.1 seat.result.0 seat.result.1 step.ensures.steps seat.ensures)
+    step.ensures.steps)
 
 pub returns-clause-steps : goal.returns-clause-steps
 returns-clause-steps g c =
     let engine = c.self.inside in
     let joined : c.args.s < length engine.lists.names = subst (λ st. c.args.s < length st.lists.names) (sym c.self.view_is) c.requires.joined in
     let step = c.without_room-statement in
-    let seat = c.settled-seat in
     rw (← c.self.view_is, c.replace-in-Busy.ensures.is, c.replace.ensures.is)
     (gave_up_steps engine.lists step.new.lists engine.seats c.args.s c.self.invariant joined c.in-Busy.statement step.result.0 step.result.1
-    seat.result.0 seat.result.1 step.ensures.lacks seat.ensures step.ensures.steps)
+    step.ensures.lacks step.ensures.steps)
 
 pub returns-clause-lacks : goal.returns-clause-lacks
 returns-clause-lacks g c =
     let engine = c.self.inside in
     let joined : c.args.s < length engine.lists.names = subst (λ st. c.args.s < length st.lists.names) (sym c.self.view_is) c.requires.joined in
     let step = c.without_room-statement in
-    let seat = c.settled-seat in
     rw (← c.self.view_is, c.replace-in-Busy.ensures.is, c.replace.ensures.is)
     (gave_up_lacks engine.lists step.new.lists engine.seats c.args.s c.self.invariant joined c.in-Busy.statement step.result.0 step.result.1
-    seat.result.0 seat.result.1 step.ensures.lacks seat.ensures
-    (sym c.replace.ensures.was ∙ c.in-Busy.is) step.ensures.nears)
+    step.ensures.lacks (sym c.replace.ensures.was ∙ c.in-Busy.is) step.ensures.nears)
 
 pub returns-clause-busy : goal.returns-clause-busy
 returns-clause-busy g c =
     let engine = c.self.inside in
     let joined : c.args.s < length engine.lists.names = subst (λ st. c.args.s < length st.lists.names) (sym c.self.view_is) c.requires.joined in
     let step = c.without_room-statement in
-    let seat = c.settled-seat in
     rw (c.replace-in-Busy.ensures.is, c.replace.ensures.is)
     (gave_up_busy engine.lists step.new.lists engine.seats c.args.s c.self.invariant joined c.in-Busy.statement step.result.0 step.result.1
-    seat.result.0 seat.result.1 step.ensures.lacks seat.ensures)
+    step.ensures.lacks)

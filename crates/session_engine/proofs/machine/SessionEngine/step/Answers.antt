@@ -1,20 +1,65 @@
-use Rattle.std.proofs.Common.{length, ◌≡◌, ◌<◌, ◌∙◌, subst, sym, ap, true}
-use Rattle.session_engine.specs.Seats.{seat_at, is_working}
-use Rattle.session_engine.proofs.Seating.{leaving_is, spelled_at, step_keeps, step_does, step_nears, unread, refused_keeps, refused_does, refused_nears}
-use Rattle.session_engine.proofs.Seating.{signals_keep, signals_do, signals_near, signals_patient, signals_wait, out_keeps, out_does, out_nears, step_lacks}
-use Rattle.session_engine.proofs.Seating.{refused_lacks, out_lacks, signalling_lacks}
+use Rattle.std.proofs.Common.{length, ◌≡◌, ◌<◌, ◌∙◌, subst, sym, ap, true, false}
+use Rattle.std.proofs.lemmas.Bool.{false≢true}
+use Rattle.session_engine.specs.Seats.{seat_at, is_working, is_busy, owes}
+use Rattle.session_engine.proofs.Seating.{leaving_is, at_work, unread, refused_keeps, refused_does, refused_nears}
+use Rattle.session_engine.proofs.Seating.{stepped_keeps, stepped_does, stepped_nears, stepped_lacks, stepped_quiet, stepped_answers}
+use Rattle.session_engine.proofs.Seating.{signals_keep, signals_do, signals_near, signals_patient, signals_wait, out_keeps}
+use Rattle.session_engine.proofs.Seating.{refused_lacks, signalling_lacks}
 use Rattle.session_engine.proofs.machine.SessionEngine.step.Goals as goal
+
+pub step-requires-clause-at_work : goal.step-requires-clause-at_work
+step-requires-clause-at_work g c =
+    let engine = c.self.inside in
+    let joined : c.args.s < length engine.lists.names = subst (λ st. c.args.s < length st.lists.names) (sym c.self.view_is) c.requires.joined in
+    at_work engine.lists engine.lists engine.seats c.args.s c.self.invariant joined (sym c.is_busy.ensures ∙ c.if-is_busy.true)
+    (subst (λ st. owes (seat_at st.seats c.args.s) ≡ false) (sym c.self.view_is) c.requires.acked)
 
 pub invariant_of-self : goal.invariant_of-self
 invariant_of-self g c =
     let engine = c.self.inside in
     let joined : c.args.s < length engine.lists.names = subst (λ st. c.args.s < length st.lists.names) (sym c.self.view_is) c.requires.joined in
-    let step = c.step-statement in
-    let seat = c.settled-seat in
-    rw (c.replace-in-Busy.ensures.is, c.replace.ensures.is)
-    (step_keeps engine.lists step.new.lists engine.seats c.args.s c.self.invariant joined
-    (spelled_at engine.lists step.new.lists engine.seats c.args.s c.self.invariant joined c.in-Busy.statement (sym c.replace.ensures.was ∙ c.in-Busy.is))
-    step.result.0 step.result.1 seat.result.0 seat.result.1 step.ensures.steps seat.ensures)
+    let seat = c.step.ensures.0 in
+    rw (c.step.ensures.1) (stepped_keeps engine.lists c.step.new.lists engine.seats c.args.s c.self.invariant joined seat c.step.result c.step.ensures.2)
+
+pub returns-then-is_busy-clause-steps : goal.returns-then-is_busy-clause-steps
+returns-then-is_busy-clause-steps g c =
+    let engine = c.self.inside in
+    let joined : c.args.s < length engine.lists.names = subst (λ st. c.args.s < length st.lists.names) (sym c.self.view_is) c.requires.joined in
+    let seat = c.step.ensures.0 in
+    rw (← c.self.view_is, c.step.ensures.1) (stepped_does engine.lists c.step.new.lists engine.seats c.args.s c.self.invariant joined seat c.step.result c.step.ensures.2)
+
+pub returns-then-is_busy-clause-nears : goal.returns-then-is_busy-clause-nears
+returns-then-is_busy-clause-nears g c =
+    let engine = c.self.inside in
+    let joined : c.args.s < length engine.lists.names = subst (λ st. c.args.s < length st.lists.names) (sym c.self.view_is) c.requires.joined in
+    let seat = c.step.ensures.0 in
+    rw (← c.self.view_is, c.step.ensures.1) (stepped_nears engine.lists c.step.new.lists engine.seats c.args.s c.self.invariant joined seat c.step.result c.step.ensures.2)
+
+pub returns-then-is_busy-clause-lacks : goal.returns-then-is_busy-clause-lacks
+returns-then-is_busy-clause-lacks g c =
+    let engine = c.self.inside in
+    let joined : c.args.s < length engine.lists.names = subst (λ st. c.args.s < length st.lists.names) (sym c.self.view_is) c.requires.joined in
+    let seat = c.step.ensures.0 in
+    rw (← c.self.view_is, c.step.ensures.1) (stepped_lacks engine.lists c.step.new.lists engine.seats c.args.s c.self.invariant joined seat c.step.result c.step.ensures.2)
+
+pub returns-then-is_busy-clause-quiet : goal.returns-then-is_busy-clause-quiet
+returns-then-is_busy-clause-quiet g c =
+    let engine = c.self.inside in
+    let joined : c.args.s < length engine.lists.names = subst (λ st. c.args.s < length st.lists.names) (sym c.self.view_is) c.requires.joined in
+    let seat = c.step.ensures.0 in
+    rw (← c.self.view_is) (stepped_quiet engine.lists c.step.new.lists engine.seats c.args.s c.self.invariant joined seat c.step.result c.step.ensures.2)
+
+pub returns-then-is_busy-clause-waits : goal.returns-then-is_busy-clause-waits
+returns-then-is_busy-clause-waits g c =
+    let engine = c.self.inside in
+    let joined : c.args.s < length engine.lists.names = subst (λ st. c.args.s < length st.lists.names) (sym c.self.view_is) c.requires.joined in
+    let seat = c.step.ensures.0 in
+    λ waits. absurd (stepped_answers engine.lists c.step.new.lists engine.seats c.args.s c.self.invariant joined seat c.step.result c.step.ensures.2 waits)
+
+pub returns-then-is_busy-clause-waited : goal.returns-then-is_busy-clause-waited
+returns-then-is_busy-clause-waited g c =
+    let busy = c.step.ensures.2.was in
+    λ item waited at is. absurd (let both = sym busy ∙ (ap (λ st. seat_at st.seats c.args.s) c.self.view_is ∙ at) in cc)
 
 pub invariant_of-self-in_default : goal.invariant_of-self-in_default
 invariant_of-self-in_default g c =
@@ -22,56 +67,11 @@ invariant_of-self-in_default g c =
     let joined : c.args.s < length engine.lists.names = subst (λ st. c.args.s < length st.lists.names) (sym c.self.view_is) c.requires.joined in
     let works : is_working (seat_at engine.seats c.args.s) ≡ true =
     subst (λ st. is_working (seat_at st.seats c.args.s) ≡ true) (sym c.self.view_is) c.requires.working in
-    let leaving = leaving_is (seat_at engine.seats c.args.s) works (λ statement is. c.in_default.not-Busy statement (c.replace.ensures.was ∙ is))
+    let leaving = leaving_is (seat_at engine.seats c.args.s) works (λ statement is. false≢true (sym c.if-is_busy.false ∙ (c.is_busy.ensures ∙ ap is_busy is)))
     (λ at is. c.in_default.not-Refused at (c.replace.ensures.was ∙ is)) (λ item is. c.in_default.not-Signalling item (c.replace.ensures.was ∙ is)) in
     let out = c.go_out-seat in
     rw (c.replace-in_default.ensures.is, c.replace.ensures.is)
     (out_keeps engine.lists out.new.lists engine.seats c.args.s c.self.invariant joined leaving out.result.0 out.result.1 out.ensures.goes)
-
-pub returns-in-Busy-clause-steps : goal.returns-in-Busy-clause-steps
-returns-in-Busy-clause-steps g c =
-    let engine = c.self.inside in
-    let joined : c.args.s < length engine.lists.names = subst (λ st. c.args.s < length st.lists.names) (sym c.self.view_is) c.requires.joined in
-    let step = c.step-statement in
-    let seat = c.settled-seat in
-    rw (← c.self.view_is, c.replace-in-Busy.ensures.is, c.replace.ensures.is)
-    (step_does engine.lists step.new.lists engine.seats c.args.s c.self.invariant joined step.result.0 step.result.1 seat.result.0 seat.result.1
-    step.ensures.steps seat.ensures)
-
-pub returns-in_default-clause-steps : goal.returns-in_default-clause-steps
-returns-in_default-clause-steps g c =
-    let engine = c.self.inside in
-    let joined : c.args.s < length engine.lists.names = subst (λ st. c.args.s < length st.lists.names) (sym c.self.view_is) c.requires.joined in
-    let works : is_working (seat_at engine.seats c.args.s) ≡ true =
-    subst (λ st. is_working (seat_at st.seats c.args.s) ≡ true) (sym c.self.view_is) c.requires.working in
-    let leaving = leaving_is (seat_at engine.seats c.args.s) works (λ statement is. c.in_default.not-Busy statement (c.replace.ensures.was ∙ is))
-    (λ at is. c.in_default.not-Refused at (c.replace.ensures.was ∙ is)) (λ item is. c.in_default.not-Signalling item (c.replace.ensures.was ∙ is)) in
-    let out = c.go_out-seat in
-    rw (← c.self.view_is, c.replace-in_default.ensures.is, c.replace.ensures.is)
-    (out_does engine.lists out.new.lists engine.seats c.args.s c.self.invariant joined leaving out.result.0 out.result.1 out.ensures.goes)
-
-pub returns-in-Busy-clause-nears : goal.returns-in-Busy-clause-nears
-returns-in-Busy-clause-nears g c =
-    let engine = c.self.inside in
-    let joined : c.args.s < length engine.lists.names = subst (λ st. c.args.s < length st.lists.names) (sym c.self.view_is) c.requires.joined in
-    let step = c.step-statement in
-    let seat = c.settled-seat in
-    rw (← c.self.view_is, c.replace-in-Busy.ensures.is, c.replace.ensures.is)
-    (step_nears engine.lists step.new.lists engine.seats c.args.s c.self.invariant joined c.in-Busy.statement step.result.0 step.result.1
-    seat.result.0 seat.result.1 (sym c.replace.ensures.was ∙ c.in-Busy.is) step.ensures.nears seat.ensures)
-
-pub returns-in_default-clause-nears : goal.returns-in_default-clause-nears
-returns-in_default-clause-nears g c =
-    let engine = c.self.inside in
-    let joined : c.args.s < length engine.lists.names = subst (λ st. c.args.s < length st.lists.names) (sym c.self.view_is) c.requires.joined in
-    let works : is_working (seat_at engine.seats c.args.s) ≡ true =
-    subst (λ st. is_working (seat_at st.seats c.args.s) ≡ true) (sym c.self.view_is) c.requires.working in
-    let leaving = leaving_is (seat_at engine.seats c.args.s) works (λ statement is. c.in_default.not-Busy statement (c.replace.ensures.was ∙ is))
-    (λ at is. c.in_default.not-Refused at (c.replace.ensures.was ∙ is)) (λ item is. c.in_default.not-Signalling item (c.replace.ensures.was ∙ is)) in
-    let out = c.go_out-seat in
-    rw (← c.self.view_is, c.replace-in_default.ensures.is, c.replace.ensures.is)
-    (out_nears engine.lists out.new.lists engine.seats c.args.s c.self.invariant joined leaving out.result.0 out.result.1 out.ensures.goes
-    out.ensures.nears)
 
 pub invariant_of-self-in-Signalling : goal.invariant_of-self-in-Signalling
 invariant_of-self-in-Signalling g c =
@@ -118,15 +118,6 @@ returns-in-Signalling-clause-waited g c =
     (signals_wait engine.lists does.new.lists engine.seats c.args.s c.self.invariant joined c.args.now c.in-Signalling.item
     (sym c.replace.ensures.was ∙ c.in-Signalling.is) does.result.0 does.result.1 does.ensures)
 
-pub returns-in-Busy-clause-waited : goal.returns-in-Busy-clause-waited
-returns-in-Busy-clause-waited g c =
-    let busy = sym c.replace.ensures.was ∙ c.in-Busy.is in
-    λ item waited at is. absurd (let both = sym busy ∙ (ap (λ st. seat_at st.seats c.args.s) c.self.view_is ∙ at) in cc)
-
-pub returns-in_default-clause-waited : goal.returns-in_default-clause-waited
-returns-in_default-clause-waited g c =
-    λ item waited at is. absurd (c.in_default.not-Signalling item (c.replace.ensures.was ∙ (ap (λ st. seat_at st.seats c.args.s) c.self.view_is ∙ at)))
-
 pub refuse-seat-requires-clause-unread : goal.refuse-seat-requires-clause-unread
 refuse-seat-requires-clause-unread g c =
     let engine = c.self.inside in
@@ -164,28 +155,6 @@ pub returns-in-Refused-clause-waited : goal.returns-in-Refused-clause-waited
 returns-in-Refused-clause-waited g c =
     let refused = sym c.replace.ensures.was ∙ c.in-Refused.is in
     λ item waited at is. absurd (let both = sym refused ∙ (ap (λ st. seat_at st.seats c.args.s) c.self.view_is ∙ at) in cc)
-
-pub returns-in-Busy-clause-lacks : goal.returns-in-Busy-clause-lacks
-returns-in-Busy-clause-lacks g c =
-    let engine = c.self.inside in
-    let joined : c.args.s < length engine.lists.names = subst (λ st. c.args.s < length st.lists.names) (sym c.self.view_is) c.requires.joined in
-    let step = c.step-statement in
-    let seat = c.settled-seat in
-    rw (← c.self.view_is, c.replace-in-Busy.ensures.is, c.replace.ensures.is)
-    (step_lacks engine.lists step.new.lists engine.seats c.args.s c.self.invariant joined c.in-Busy.statement step.result.0 step.result.1
-    seat.result.0 seat.result.1 (sym c.replace.ensures.was ∙ c.in-Busy.is) step.ensures.nears seat.ensures)
-
-pub returns-in_default-clause-lacks : goal.returns-in_default-clause-lacks
-returns-in_default-clause-lacks g c =
-    let engine = c.self.inside in
-    let joined : c.args.s < length engine.lists.names = subst (λ st. c.args.s < length st.lists.names) (sym c.self.view_is) c.requires.joined in
-    let works : is_working (seat_at engine.seats c.args.s) ≡ true =
-    subst (λ st. is_working (seat_at st.seats c.args.s) ≡ true) (sym c.self.view_is) c.requires.working in
-    let leaving = leaving_is (seat_at engine.seats c.args.s) works (λ statement is. c.in_default.not-Busy statement (c.replace.ensures.was ∙ is))
-    (λ at is. c.in_default.not-Refused at (c.replace.ensures.was ∙ is)) (λ item is. c.in_default.not-Signalling item (c.replace.ensures.was ∙ is)) in
-    let out = c.go_out-seat in
-    rw (← c.self.view_is, c.replace-in_default.ensures.is, c.replace.ensures.is)
-    (out_lacks engine.lists out.new.lists engine.seats c.args.s c.self.invariant joined leaving out.result.0 out.result.1 out.ensures.goes)
 
 pub returns-in-Signalling-clause-lacks : goal.returns-in-Signalling-clause-lacks
 returns-in-Signalling-clause-lacks g c =

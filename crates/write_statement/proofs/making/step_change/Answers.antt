@@ -1,0 +1,37 @@
+use Rattle.write_statement.proofs.Entering.{at_change, may_be_made, change_went, change_entered, change_done, change_fails}
+use Rattle.write_statement.proofs.making.step_change.Goals as goal
+
+pub change-requires : goal.change-requires
+change-requires g c =
+    let s = c.args.session in
+    let old = c.args.lists.now in
+    let m = c.args.statement.now in
+    let now = at_change s old old m c.requires.changing c.requires.running in
+    record {
+      joined = c.requires.joined;
+      locked = now.0;
+      changing = now.2;
+      alone = now.1;
+      may = may_be_made s old old m c.requires.changing c.requires.running c.requires.within;
+    }
+
+pub returns-in-Went-clause-steps : goal.returns-in-Went-clause-steps
+returns-in-Went-clause-steps g c =
+    change_went c.args.session c.args.lists.now c.change.new.self c.args.statement.now c.change.result c.requires.changing c.requires.running
+    c.in-Went.is c.change.ensures.changes
+
+pub returns-in-Entered-clause-steps : goal.returns-in-Entered-clause-steps
+returns-in-Entered-clause-steps g c =
+    change_entered c.args.session c.args.lists.now c.change.new.self c.args.statement.now c.change.result c.parts-part.result.0 c.parts-part.result.1
+    c.parts-part.ensures c.requires.running c.in-Entered.is c.change.ensures.changes
+
+pub returns-in-Done-clause-steps : goal.returns-in-Done-clause-steps
+returns-in-Done-clause-steps g c =
+    change_done c.args.session c.args.lists.now c.change.new.self c.args.statement.now c.change.result c.parts-part-in-Done.result.0 c.parts-part-in-Done.result.1
+    c.parts-part-in-Done.ensures c.requires.running c.in-Done.is c.change.ensures.changes
+
+pub returns-in-NoMemory-clause-steps : goal.returns-in-NoMemory-clause-steps
+returns-in-NoMemory-clause-steps g c =
+    change_fails c.args.session c.args.lists.now c.change.new.self c.args.statement.now c.change.result c.parts-part-in-NoMemory.result.0 c.parts-part-in-NoMemory.result.1
+    c.give_up-next.result.0 c.give_up-next.result.1 c.parts-part-in-NoMemory.ensures c.requires.running c.in-NoMemory.is c.change.ensures.changes
+    c.give_up-next.ensures.state c.give_up-next.ensures.answer
