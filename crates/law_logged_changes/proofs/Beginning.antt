@@ -1,4 +1,5 @@
 -- The newest record of a log tells of the newest version of its place, so a taking back may begin.
+use Rattle.row_changes.proofs.Sessions.{one_found}
 use Rattle.std.proofs.Common.{◌≡◌, inl, inr, ⊎_elim, ℕ, Bool, true, false, cond, List, ◌∷◌, Option, Some, None, refl, sym, ap, subst, ◌∙◌, arith, slice_get}
 use Rattle.std.proofs.Common.{length}
 use Rattle.std.proofs.lemmas.Bool.{cases_order}
@@ -6,9 +7,9 @@ use Rattle.inno_types.specs.{declared.value.Value.Value, declared.value.Column.C
 use Rattle.inno_db.specs.declared.change.Change.{Change}
 use Rattle.key_codec.specs.Keys.{HasKey, key_code}
 use Rattle.entries.specs.Pairs.{Pair}
-use Rattle.row_versions.specs.{declared.kept.Kept.Kept, declared.place.Place.Place, declared.version.Version.Version, Chains.Chains, Chains.versions_at}
-use Rattle.row_versions.specs.{Chains.is_same_place, Chains.older}
-use Rattle.law_stored_rows.specs.{Entries.entry_of, Entries.TellAlike, Records.shown}
+use Rattle.row_versions.specs.{declared.kept.Kept.Kept, declared.place.Place.Place, declared.version.Version.Version}
+use Rattle.row_versions.specs.Chains.{Chains, versions_at, is_same_place, older}
+use Rattle.law_stored_rows.specs.{Records.shown, Entries.entry_of, Entries.TellAlike}
 use Rattle.law_stored_rows.specs.Tables.{Said, in_table, AreCodedAs, LagAt, what_is_there}
 use Rattle.law_stored_rows.proofs.{Values.one_key, Values.same_place, Keys.said_alike}
 use Rattle.law_past_agreement.specs.Rows.{place_in}
@@ -18,7 +19,7 @@ use Rattle.row_changes.specs.Keys.{IsChangingKeys, IsPushed, HasRowsSoFar, SaySo
 use Rattle.undo_apply.specs.{declared.work_room.WorkRoom.WorkRoom, declared.work_room.Stage.Stage, declared.work_room.Stage.TheVariants.Find, Rooms.IsWhole}
 use Rattle.undo_apply.specs.{Told.rows_of, Stages.FitsKeys, Stages.StageHolds, Stages.IsPuttingBack}
 use Rattle.undo_apply.specs.Standing.{TellsOf, IsNewest, versions_before, said_but, AreCodedBut, IsLagging, IsUnderWay}
-use Rattle.undo_apply.proofs.Places.{newest_read}
+use Rattle.undo_apply.proofs.Columns.{newest_read}
 use Rattle.law_logged_changes.specs.Logs.{records_of, HasRecord, Stands, IsLogOf}
 use Rattle.law_logged_changes.proofs.Logs.{newest_stands}
 
@@ -77,18 +78,13 @@ module _ (chains : Chains) (state : WorldState) (logged : Logged) (place : Place
 
   -- where a change of the place hasn't come to its end, its keys lag too
   so_far : (said : Said) (done : ℕ) (put : Option EntryPut) (row : Option (List Value)) (before : List Version) → versions_before chains place ≡ before
-      → SaySoFar chains place done (said_next put row before) before said
-      → versions_at place chains ≡ shown has.coded ∷ versions_before chains place → (which : ℕ) → IsLagging (shown has.coded) (versions_before chains place)
-      (said place.table which place.key)
+      → SaySoFar chains place done (said_next put row before) before said → versions_at place chains ≡ shown has.coded ∷ versions_before chains place
+      → (which : ℕ) → IsLagging (shown has.coded) (versions_before chains place) (said place.table which place.key)
   so_far said done put row before same says is which =
       let Lags : List Version → Type 0 = λ versions. IsLagging (shown has.coded) (versions_before chains place) versions in
-      ⊎_elim
-      (λ here. subst Lags (sym (ap (λ (w : ℕ). said place.table w place.key) here ∙ says.here))
+      ⊎_elim (λ here. subst Lags (sym (ap (λ (w : ℕ). said place.table w place.key) here ∙ says.here))
       (subst (λ (b : List Version). IsLagging (shown has.coded) b (said_next put row before)) (sym same) (next_lags (shown has.coded) put row before)))
-      (λ rest. ⊎_elim
-      (λ less. inr (says.first which less ∙ is))
-      (λ more. inl (inl (says.later which more ∙ sym same))) rest)
-      (cases_order which done)
+      (λ rest. ⊎_elim (λ less. inr (says.first which less ∙ is)) (λ more. inl (inl (says.later which more ∙ sym same))) rest) (cases_order which done)
 
   pub way_lagging : (keys : KeysChange) → IsChangingKeys chains state keys → keys.table ≡ logged.undo.table → keys.key ≡ logged.undo.key → IsTold state
       → IsUnderWay chains place logged.undo schema (rows_of state) has.bytes has.coded 0 (IsLagging (shown has.coded) (versions_before chains place))
@@ -109,17 +105,13 @@ module _ (chains : Chains) (state : WorldState) (logged : Logged) (place : Place
       one_value : is.value ≡ place.key
       one_value =
           let column : key_at.column ≡ tells.primary = let first = key_at.primary in let second = tells.primary_is in cc in
-          one_key tells.primary.kind is.value place.key
-          (subst (λ (c : Column). HasKey c.kind is.value) column key_at.has_key) tells.has_key
+          one_key tells.primary.kind is.value place.key (subst (λ (c : Column). HasKey c.kind is.value) column key_at.has_key) tells.has_key
           (sym (subst (λ (c : Column). logged.undo.key ≡ key_code c.kind is.value) column key_at.spelled) ∙ tells.key_is)
 
       here : at keys.table is.value ≡ place
       here = let table = table_is ∙ sym tells.table_is in λ i. record { table = table i; key = one_value i }
 
 -- ---- a taking back begins
-
-some_place : (found : Option Place) (a b : Place) → found ≡ Some a → found ≡ Some b → a ≡ b
-some_place found a b first second = cc
 
 begins : (chains : Chains) (place : Place) (room : WorkRoom) (state : WorldState) (logged : Logged) (schema : Schema)
     → TellsOf logged.undo schema place state.schemas → IsWhole room → room.stage ≡ Find
@@ -138,9 +130,7 @@ module _ (chains : Chains) (state : WorldState) (logged : Logged) (log : List Lo
   top = (newest_stands (IsTold state) state.schemas (records_of state) state.versions.kept_at logged log change own place place_is log_is).0
 
   pub tells_of_it : TellsOf logged.undo top.schema place state.schemas
-  tells_of_it =
-      subst (λ (p : Place). TellsOf logged.undo top.schema p state.schemas)
-      (some_place (place_in state.schemas change) top.place place top.place_is place_is) top.tells
+  tells_of_it = subst (λ (p : Place). TellsOf logged.undo top.schema p state.schemas) (one_found top.place place top.place_is place_is) top.tells
 
   pub begins_settled : HasRows chains state → IsWhole room → room.stage ≡ Find → IsPuttingBack chains place logged.undo room state
   begins_settled rows whole stage =
@@ -150,6 +140,5 @@ module _ (chains : Chains) (state : WorldState) (logged : Logged) (log : List Lo
   pub begins_lagging : (keys : KeysChange) → IsChangingKeys chains state keys → keys.table ≡ logged.undo.table → keys.key ≡ logged.undo.key → IsWhole room
       → room.stage ≡ Find → IsPuttingBack chains place logged.undo room state
   begins_lagging keys is table_is key_is whole stage =
-      begins chains place room state logged top.schema tells_of_it whole stage
-      (λ told. let has = top.record_is told in inl
+      begins chains place room state logged top.schema tells_of_it whole stage (λ told. let has = top.record_is told in inl
       (has.bytes, has.coded, way_lagging chains state logged place top.schema tells_of_it has keys is table_is key_is told))

@@ -2,10 +2,10 @@
 use Rattle.std.proofs.Common.{ℕ, ap}
 use Rattle.row_versions.specs.Chains.{Chains}
 use Rattle.world.specs.State.{WorldState}
-use Rattle.row_changes.specs.{declared.keys_change.KeysChange.KeysChange, declared.reached.Reached.Reached, declared.reached.Reached.TheVariants.Went}
-use Rattle.row_changes.specs.{declared.reached.Reached.TheVariants.Done, declared.reached.Reached.TheVariants.Hindered}
-use Rattle.row_changes.specs.{declared.row_change.RowChange.RowChange, declared.row_change.RowChange.TheVariants.Record}
-use Rattle.row_changes.specs.{declared.row_change.RowChange.TheVariants.Keys, Keys.StaysBesideKeys, Keys.ChangesKeys, Rows.IsChangingRow, Rows.ChangesRow}
+use Rattle.row_changes.specs.{declared.keys_change.KeysChange.KeysChange, declared.reached.Reached.Reached, declared.row_change.RowChange.RowChange}
+use Rattle.row_changes.specs.{Keys.StaysBesideKeys, Keys.ChangesKeys, Rows.IsChangingRow, Rows.ChangesRow}
+use Rattle.row_changes.specs.declared.reached.Reached.TheVariants.{Went, Done, Hindered}
+use Rattle.row_changes.specs.declared.row_change.RowChange.TheVariants.{Record, Keys}
 use Rattle.row_changes.proofs.Keying.{beside_stay}
 use Rattle.law_logged_changes.specs.{Logs.LogsAgree, Logs.IsAlone, Steps.LeavesRecords, Steps.ChangesPairsAlone}
 use Rattle.law_logged_changes.proofs.{Leaving.all_left, Leaving.aside_left, GoingOn.logs_beside, Logging.change_all}

@@ -1,4 +1,8 @@
 -- An undo record goes, and with it what it kept.
+use Rattle.store_api.specs.declared.answers.Version.{Version as Coded}
+use Rattle.law_logged_changes.specs.{Steps.IsToCut, Steps.HasCut, Logs.records_of, Logs.IsLogOf, Logs.IsAlone}
+use Rattle.law_logged_changes.specs.Pointers.{Reaches, IsNeededBy, AreApart, IsUnneeded, PointersApart}
+use Rattle.law_stored_rows.specs.{Records.IsCodeOf, Records.IsRecordWith, Edits.clustered_index, Tables.in_table, Tables.AreClustered, Tables.AreCoded}
 use Rattle.std.proofs.Common.{◌≡◌, ◌≢◌, ⊎_elim, ℕ, List, [], ◌∷◌, Option, Some, refl, sym, ap, subst, ◌∙◌, slice_get}
 use Rattle.std.specs.Prelude.{IsSome, IsTrue}
 use Rattle.std.specs.List.{AllByRecursion}
@@ -9,31 +13,31 @@ use Rattle.inno_model.specs.Past.{own}
 use Rattle.key_codec.specs.Keys.{key_code}
 use Rattle.entries.specs.Pairs.{Pair, value_of}
 use Rattle.row_versions.specs.{declared.kept.Kept.Kept, declared.version.Version.Version, Chains.Chains}
-use Rattle.law_stored_rows.specs.{Edits.clustered_index, Records.IsRecordWith, Tables.in_table, Tables.AreClustered, Tables.AreCoded}
-use Rattle.world.specs.State.{WorldState, Session, Work, Logged, HasWork}
-use Rattle.world.specs.{Told.IsTold, Told.pairs_of, Undoing.IsCutBack}
+use Rattle.world.specs.{State.WorldState, State.Session, State.Work, State.Logged, State.HasWork, Told.IsTold, Told.pairs_of, Undoing.IsCutBack}
 use Rattle.row_changes.specs.Told.{HasRows}
 use Rattle.row_changes.proofs.{Ids.one_work, Sessions.set_here, Sessions.set_other}
-use Rattle.law_logged_changes.specs.{Pointers.IsNeededBy, Pointers.AreApart, Pointers.IsUnneeded, Pointers.PointersApart, Logs.records_of, Logs.IsLogOf}
-use Rattle.law_logged_changes.specs.{Logs.IsAlone, Steps.IsToCut, Steps.HasCut}
-use Rattle.law_logged_changes.proofs.{Logs.all_of, Logs.all_mapped, Logs.Keeps, Logs.log_on, Leaving.same_schemas_grow, Reaching.leads_without}
-use Rattle.law_logged_changes.proofs.{Reaching.reached_with, GoingOn.none_yet}
+use Rattle.law_logged_changes.proofs.{Leaving.same_schemas_grow, GoingOn.none_yet, Logs.all_of, Logs.all_mapped, Logs.Keeps, Logs.log_on}
+use Rattle.law_logged_changes.proofs.Needs.{leads_without, reached_with}
 
 -- ---- rows without what none needs
 
 module _ (schemas : List Schema) (pairs : ℕ → List Pair) (kept now : ℕ → Option Kept) (gone : ℕ)
     (same : (pointer : ℕ) → pointer ≢ gone → now pointer ≡ kept pointer) (unneeded : IsUnneeded schemas pairs kept gone) where
+  -- the record of a row doesn't lead there
+  not_reached : (table : ℕ) (schema : Schema) (key bytes : List ℕ) (coded : Coded) → slice_get schemas table ≡ Some schema
+      → value_of key (pairs (clustered_index table)) ≡ Some bytes → IsCodeOf schema key bytes coded → (further : ℕ)
+      → Reaches kept coded.pointer further gone → ⊥
+  not_reached table schema key bytes coded there is code further reaches =
+      unneeded table (record
+      { schema = schema; there = there; key = key; bytes = bytes; coded = coded; record_is = is; code_is = code; further = further; reaches = reaches })
+
   record_without : (table : ℕ) (schema : Schema) (key : List ℕ) (found : Option (List ℕ)) (versions : List Version) → slice_get schemas table ≡ Some schema
-      → value_of key (pairs (clustered_index table)) ≡ found
-      → IsRecordWith schema key kept found versions → IsRecordWith schema key now found versions
+      → value_of key (pairs (clustered_index table)) ≡ found → IsRecordWith schema key kept found versions → IsRecordWith schema key now found versions
   record_without table schema key (Some bytes) (version ∷ older) there is (coded, code, shown_is, leads) = (
     coded,
     code,
     shown_is,
-    leads_without schema key kept now gone coded.pointer older same
-        (λ further reaches. unneeded table (record
-        { schema = schema; there = there; key = key; bytes = bytes; coded = coded; record_is = is; code_is = code; further = further; reaches = reaches }))
-        leads,
+    leads_without schema key kept now gone coded.pointer older same (not_reached table schema key bytes coded there is code) leads,
   )
   record_without table schema key found versions there is record_is = record_is
 
@@ -66,18 +70,7 @@ module _ (schemas : List Schema) (pairs : ℕ → List Pair) (kept now : ℕ →
     code_is = needed.code_is;
     further = needed.further;
     reaches = reached_with kept now gone needed.coded.pointer needed.further pointer same
-        (λ further reaches. unneeded table (record {
-          schema = needed.schema;
-          there = needed.there;
-          key = needed.key;
-          bytes = needed.bytes;
-          coded = needed.coded;
-          record_is = needed.record_is;
-          code_is = needed.code_is;
-          further = further;
-          reaches = reaches;
-        }))
-        needed.reaches;
+        (not_reached table needed.schema needed.key needed.bytes needed.coded needed.there needed.record_is needed.code_is) needed.reaches;
   }
 
   pub apart_without : AreApart schemas pairs kept → AreApart schemas pairs now
@@ -145,8 +138,7 @@ module _ (s : ℕ) (old new : WorldState) (logged : Logged) (older : List Logged
 
   pub rows_cut : (chains : Chains) → HasRows chains old → HasRows chains new
   rows_cut chains rows told =
-      still (λ schemas pairs kept. AreCoded schemas pairs kept chains) told
-      (⊎_elim
+      still (λ schemas pairs kept. AreCoded schemas pairs kept chains) told (⊎_elim
       (λ first. subst (λ (kept : ℕ → Option Kept). AreCoded old.schemas (pairs_of old) kept chains) (sym (all_kept first told)) (rows (told_before told)))
       (λ second. coded_without old.schemas (pairs_of old) old.versions.kept_at new.versions.kept_at logged.pointer (kept_elsewhere told)
       (cut.may.unneeded (told_before told) second) chains (rows (told_before told)))
@@ -154,8 +146,7 @@ module _ (s : ℕ) (old new : WorldState) (logged : Logged) (older : List Logged
 
   pub apart_cut : PointersApart new
   apart_cut told =
-      still AreApart told
-      (⊎_elim
+      still AreApart told (⊎_elim
       (λ first. subst (λ (kept : ℕ → Option Kept). AreApart old.schemas (pairs_of old) kept) (sym (all_kept first told)) (cut.logs.apart (told_before told)))
       (λ second. apart_without old.schemas (pairs_of old) old.versions.kept_at new.versions.kept_at logged.pointer (kept_elsewhere told)
       (cut.may.unneeded (told_before told) second) (cut.logs.apart (told_before told)))
@@ -168,8 +159,7 @@ module _ (s : ℕ) (old new : WorldState) (logged : Logged) (older : List Logged
 
   keeps_on : AllByRecursion KeepsOn older
   keeps_on =
-      ⊎_elim
-      (λ first. all_of KeepsOn older (λ l told kind former there. ap (λ (kept : ℕ → Option Kept). kept l.pointer) (all_kept first told) ∙ there))
+      ⊎_elim (λ first. all_of KeepsOn older (λ l told kind former there. ap (λ (kept : ℕ → Option Kept). kept l.pointer) (all_kept first told) ∙ there))
       (λ second. all_mapped (λ (l : Logged). IsTold new → l.undo.kind ≡ 2 → l.pointer ≢ logged.pointer) KeepsOn older
       (λ l apart told kind former there. kept_elsewhere told l.pointer (apart told kind) ∙ there)
       (all_under (λ (l : Logged). l.undo.kind ≡ 2 → l.pointer ≢ logged.pointer) (IsTold new) older (λ told. cut.may.elsewhere (told_before told) second)))
@@ -178,8 +168,7 @@ module _ (s : ℕ) (old new : WorldState) (logged : Logged) (older : List Logged
   pub log_cut : IsLogOf new older before
   log_cut =
       log_on (IsTold old) (IsTold new) old.schemas new.schemas old.versions.kept_at new.versions.kept_at told_before
-      (same_schemas_grow old.schemas new.schemas same_schemas)
-      (records_of old) (records_of new) older before
+      (same_schemas_grow old.schemas new.schemas same_schemas) (records_of old) (records_of new) older before
       (λ told table schema key there. ap (λ (pairs : ℕ → List Pair). value_of key (pairs (clustered_index table))) same_pairs)
       keeps_on cut.logs.mine
 

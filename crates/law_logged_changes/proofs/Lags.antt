@@ -3,16 +3,16 @@ use Rattle.std.proofs.Common.{◌≡◌, ◌⊎◌, inl, inr, ⊎_elim, ℕ, Boo
 use Rattle.std.specs.List.{list_any}
 use Rattle.std.proofs.lemmas.Bool.{cases_order}
 use Rattle.inno_types.specs.{declared.value.Value.Value, declared.value.Schema.Schema}
-use Rattle.store_api.specs.declared.answers.Undo.{Undo}
+use Rattle.store_api.specs.{declared.answers.Undo.Undo}
 use Rattle.store_api.specs.declared.answers.Version.{Version as Coded}
 use Rattle.row_versions.specs.{declared.place.Place.Place, declared.version.Version.Version, Chains.Chains}
 use Rattle.law_stored_rows.specs.{Entries.has_value, Records.shown, Tables.AreClustered, Tables.AreCoded}
 use Rattle.world.specs.{State.WorldState, Told.IsTold, Told.pairs_of}
-use Rattle.undo_apply.specs.{declared.work_room.WorkRoom.WorkRoom, declared.work_room.Stage.Stage, Told.Rows, Told.rows_of, Stages.StageHolds}
-use Rattle.undo_apply.specs.{Stages.IsPuttingBack}
+use Rattle.undo_apply.specs.{declared.work_room.WorkRoom.WorkRoom, declared.work_room.Stage.Stage, Told.Rows, Told.rows_of}
+use Rattle.undo_apply.specs.Stages.{StageHolds, IsPuttingBack}
 use Rattle.undo_apply.specs.declared.work_room.Stage.TheVariants.{Find, Key, Walk, Mark, Await, Remove, Unmark, AwaitRecords, Record}
 use Rattle.undo_apply.specs.Standing.{versions_before, said_but, IsLagging, SayBefore, IsUnderWay, IsTakenBack}
-use Rattle.undo_apply.proofs.{Says.says_place, Says.lags_there, There.lagging_any}
+use Rattle.undo_apply.proofs.{Taken.says_place, Taken.lags_there, Columns.lagging_any}
 use Rattle.law_logged_changes.specs.Lagging.{LagsAt}
 
 -- ---- at whatever stage
@@ -48,14 +48,11 @@ module _ (chains : Chains) (place : Place) (undo : Undo) (schema : Schema) (rows
   at_stage bytes AwaitRecords (coded, way) = lagged bytes coded (length schema.keys) way
   at_stage bytes Record (coded, way) = lagged bytes coded (length schema.keys) way
 
-  -- clustered indexes hold the rows all the time
-  pub clustered_at : (bytes : List ℕ) (stage : Stage) → StageHolds chains place undo schema rows bytes stage
-      → AreClustered rows.schemas rows.pairs rows.kept chains
-  clustered_at bytes stage holds = ⊎_elim (λ lag. lag.way.coded_but.clustered) (λ back. back.all.clustered) (at_stage bytes stage holds)
-
 pub clustered_while : (chains : Chains) (place : Place) (undo : Undo) (room : WorkRoom) (state : WorldState) → IsPuttingBack chains place undo room state
     → IsTold state → AreClustered state.schemas (pairs_of state) state.versions.kept_at chains
-clustered_while chains place undo room state is told = clustered_at chains place undo is.schema (rows_of state) room.newest.items room.stage (is.holds told)
+clustered_while chains place undo room state is told =
+    ⊎_elim (λ lag. lag.way.coded_but.clustered) (λ back. back.all.clustered)
+    (at_stage chains place undo is.schema (rows_of state) room.newest.items room.stage (is.holds told))
 
 -- ---- what readers meet
 
@@ -67,20 +64,16 @@ said_any : (newest : Version) (before : List Version) (said : ℕ → List Versi
 said_any newest before said done says which column value some =
     ⊎_elim (λ same. subst (λ (w : ℕ). any_of column value (said w) ≡ true) (sym same) (lagging_any column value newest before (said done) some says.here))
     (λ rest. ⊎_elim (λ less. ap (any_of column value) (says.first which less) ∙ some)
-    (λ more. lagging_any column value newest before (said which) some (says.others which more)) rest)
-    (cases_order which done)
+    (λ more. lagging_any column value newest before (said which) some (says.others which more)) rest) (cases_order which done)
 
 pub lags_while : (chains : Chains) (place : Place) (undo : Undo) (room : WorkRoom) (state : WorldState) → IsPuttingBack chains place undo room state
     → IsTold state → LagsAt place chains state ⊎ AreCoded state.schemas (pairs_of state) state.versions.kept_at chains
 lags_while chains place undo room state is told =
-    ⊎_elim
-    (λ lag. inl (record {
+    ⊎_elim (λ lag. inl (record {
       said = said_but chains place lag.way.said;
       coded = lag.way.coded_but;
       lag = lags_there chains place lag.way.said;
       older = λ which column value some.
           subst (λ (versions : List Version). any_of column value versions ≡ true) (sym (says_place chains place lag.way.said which))
           (said_any (shown lag.coded) (versions_before chains place) lag.way.said lag.done lag.way.says which column value some);
-    }))
-    (λ back. inr back.all)
-    (at_stage chains place undo is.schema (rows_of state) room.newest.items room.stage (is.holds told))
+    })) (λ back. inr back.all) (at_stage chains place undo is.schema (rows_of state) room.newest.items room.stage (is.holds told))

@@ -1,22 +1,20 @@
 -- Steps that change no record leave logs as they are.
-use Rattle.std.proofs.Common.{◌≡◌, ◌≢◌, ◌⊎◌, inl, inr, ⊎_elim, ℕ, zero, suc, ◌<◌, List, [], ◌∷◌, ◌++◌, Option, refl, sym, ap, subst, ◌∙◌, slice_get}
-use Rattle.std.proofs.lemmas.Bool.{cases_eq}
-use Rattle.std.proofs.lemmas.Option.{slice_get_within}
+use Rattle.law_logged_changes.specs.Logs.{RecordsAt, LogStands, records_of, IsLogOf, LogsAgree, LogsAgreeBut}
+use Rattle.law_logged_changes.specs.Pointers.{Reaches, IsNeededBy, PointersApart}
+use Rattle.law_logged_changes.specs.Steps.{LeavesRecords, LeavesLog, HasNoLog, LeavesLogs, OfAll, IsToCut, HasCut, MakesTable}
+use Rattle.law_stored_rows.specs.{Records.KeepsMore, Edits.clustered_index, Edits.key_index}
+use Rattle.row_versions.specs.{Versions.Stays, declared.kept.Kept.Kept}
+use Rattle.std.proofs.Common.{Some, ◌≡◌, ◌≢◌, ◌⊎◌, inl, inr, ⊎_elim, ℕ, zero, suc, ◌<◌, List, [], ◌∷◌, ◌++◌, Option, refl, sym, ap, subst, ◌∙◌, slice_get}
+use Rattle.std.proofs.lemmas.{Bool.cases_eq, Option.slice_get_within}
 use Rattle.inno_types.specs.declared.value.Schema.{Schema}
 use Rattle.inno_db.specs.{declared.change.Change.Change, declared.change.Change.TheVariants.Create}
 use Rattle.inno_model.specs.Past.{own}
 use Rattle.entries.specs.Pairs.{value_of}
-use Rattle.row_versions.specs.declared.kept.Kept.{Kept}
-use Rattle.law_stored_rows.specs.Edits.{clustered_index, key_index}
 use Rattle.law_stored_rows.proofs.Pairs.{no_key}
-use Rattle.world.specs.State.{WorldState, Session, Work, Logged, HasWork}
-use Rattle.world.specs.Told.{pairs_of, IsTold, LeavesRows}
+use Rattle.world.specs.{State.WorldState, State.Session, State.Work, State.Logged, State.HasWork, Told.pairs_of, Told.IsTold, Told.LeavesRows}
 use Rattle.row_changes.specs.{Asides.StepsAside, Pairs.RowsStay, Pairs.PutsPair}
 use Rattle.row_changes.proofs.{Telling.went, Telling.put_told, Ids.one_work, Sessions.one_session}
 use Rattle.undo_apply.proofs.Telling.{leaves_told, rows_left}
-use Rattle.law_logged_changes.specs.{Pointers.Reaches, Pointers.IsNeededBy, Pointers.PointersApart, Logs.records_of, Logs.IsLogOf, Logs.LogsAgree}
-use Rattle.law_logged_changes.specs.{Logs.LogsAgreeBut}
-use Rattle.law_logged_changes.specs.Steps.{LeavesRecords, LeavesLog, HasNoLog, LeavesLogs, OfAll, MayBeCut, IsToCut, HasCut, MakesTable}
 use Rattle.law_logged_changes.proofs.Logs.{all_of, Grows, Keeps, log_on}
 
 -- ---- which steps are such
@@ -37,10 +35,6 @@ entry_leaves table which entry value old new few puts = record {
   versions = puts.versions;
 }
 
-pub aside_leaves : (s : ℕ) (old new : WorldState) → StepsAside s old new → LeavesRecords old new
-aside_leaves s old new aside =
-    rows_leave old new (record { schemas = ap (λ (state : WorldState). state.schemas) aside.rest; pairs = aside.pairs; versions = aside.versions })
-
 -- ---- what they leave
 
 pub same_clustered : (old new : WorldState) → LeavesRecords old new → IsTold new → (table : ℕ)
@@ -52,16 +46,24 @@ same_clustered old new leaves told table =
 pub same_schemas_grow : (schemas others : List Schema) → others ≡ schemas → Grows schemas others
 same_schemas_grow schemas others same table schema there = ap (λ (s : List Schema). slice_get s table) same ∙ there
 
+-- a log stands in another world where its tables, the records and what was kept are there yet
+pub log_over : (old new : WorldState) (was is : RecordsAt) (log : List Logged) (changes : List Change) → (IsTold new → IsTold old)
+    → Grows old.schemas new.schemas
+    → (IsTold new → (table : ℕ) (schema : Schema) (key : List ℕ) → slice_get old.schemas table ≡ Some schema → is table key ≡ was table key)
+    → (IsTold new → KeepsMore old.versions.kept_at new.versions.kept_at)
+    → LogStands (IsTold old) old.schemas was old.versions.kept_at log changes → LogStands (IsTold new) new.schemas is new.versions.kept_at log changes
+log_over old new was is log changes told grows records more =
+    log_on (IsTold old) (IsTold new) old.schemas new.schemas old.versions.kept_at new.versions.kept_at told grows was is log changes records
+    (all_of (Keeps (IsTold old) (IsTold new) old.schemas new.schemas old.versions.kept_at new.versions.kept_at told grows) log
+    (λ logged at kind former there. more at logged.pointer former there))
+
+pub stay_kept : (old new : WorldState) → Stays old.versions new.versions → IsTold new → KeepsMore old.versions.kept_at new.versions.kept_at
+stay_kept old new stays told pointer found is = ap (λ (kept : ℕ → Option Kept). kept pointer) (stays.kept told.versions) ∙ is
+
 pub log_left : (old new : WorldState) (log : List Logged) (changes : List Change) → LeavesRecords old new → IsLogOf old log changes → IsLogOf new log changes
-log_left old new log changes leaves stands =
-    log_on (IsTold old) (IsTold new) old.schemas new.schemas old.versions.kept_at new.versions.kept_at leaves.told
-    (same_schemas_grow old.schemas new.schemas leaves.schemas)
-    (records_of old) (records_of new) log changes
-    (λ told table schema key there. ap (value_of key) (same_clustered old new leaves told table))
-    (all_of (Keeps (IsTold old) (IsTold new) old.schemas new.schemas old.versions.kept_at new.versions.kept_at leaves.told
-    (same_schemas_grow old.schemas new.schemas leaves.schemas)) log
-    (λ logged told kind former there. ap (λ (kept : ℕ → Option Kept). kept logged.pointer) (leaves.versions.kept told.versions) ∙ there))
-    stands
+log_left old new log changes leaves =
+    log_over old new (records_of old) (records_of new) log changes leaves.told (same_schemas_grow old.schemas new.schemas leaves.schemas)
+    (λ told table schema key there. ap (value_of key) (same_clustered old new leaves told table)) (stay_kept old new leaves.versions)
 
 pub needed_left : (old new : WorldState) (table pointer : ℕ) → LeavesRecords old new → IsTold new
     → IsNeededBy new.schemas (pairs_of new) new.versions.kept_at table pointer → IsNeededBy old.schemas (pairs_of old) old.versions.kept_at table pointer
@@ -107,7 +109,8 @@ but_left s old new log changes leaves logs agree = record {
 }
 
 pub aside_left : (s : ℕ) (old new : WorldState) → StepsAside s old new → LogsAgree old → LogsAgree new
-aside_left s old new aside agree = all_left old new (aside_leaves s old new aside) logs agree
+aside_left s old new aside agree = all_left old new
+    (rows_leave old new (record { schemas = ap (λ (state : WorldState). state.schemas) aside.rest; pairs = aside.pairs; versions = aside.versions })) logs agree
   where
     past : new.past ≡ old.past
     past = ap (λ (state : WorldState). state.past) aside.rest
@@ -125,24 +128,15 @@ aside_left s old new aside agree = all_left old new (aside_leaves s old new asid
           };
           log_is = refl;
           own_is = ap (own u) past;
-        }))
-        (λ differs. inl (record {
+        })) (λ differs. inl (record {
           session = session;
           before = work;
           has_work = record { session_is = sym (aside.others u differs) ∙ has.session_is; work_is = has.work_is };
           log_is = refl;
           own_is = ap (own u) past;
-        }))
-        (cases_eq u s)
+        })) (cases_eq u s)
 
 -- ---- a log that is to be cut, or has been
-
-pub may_left : (old new : WorldState) (logged : Logged) (log : List Logged) → LeavesRecords old new → MayBeCut logged log old → MayBeCut logged log new
-may_left old new logged log leaves may = record {
-  kind_is = may.kind_is;
-  unneeded = λ told kind table needed. may.unneeded (leaves.told told) kind table (needed_left old new table logged.pointer leaves told needed);
-  elsewhere = λ told. may.elsewhere (leaves.told told);
-}
 
 pub to_cut_left : (s : ℕ) (old new : WorldState) (logged : Logged) (log : List Logged) (before : List Change) (session : Session) (work : Work)
     → LeavesRecords old new → LeavesLogs (λ u. u ≢ s) old new → IsToCut s logged log before old
@@ -152,13 +146,16 @@ to_cut_left s old new logged log before session work leaves logs cut has is = re
   work = work;
   has_work = has;
   log_is = is;
-  may = may_left old new logged log leaves cut.may;
+  may = record {
+    kind_is = cut.may.kind_is;
+    unneeded = λ told kind table needed. cut.may.unneeded (leaves.told told) kind table (needed_left old new table logged.pointer leaves told needed);
+    elsewhere = λ told. cut.may.elsewhere (leaves.told told);
+  };
   logs = but_left s old new log before leaves logs cut.logs;
 }
 
 pub cut_left : (s : ℕ) (old new : WorldState) (log : List Logged) (before : List Change) (session : Session) (work : Work) → LeavesRecords old new
-    → LeavesLogs (λ u. u ≢ s) old new → HasCut s log before old
-    → HasWork s session work new → work.log ≡ log → HasCut s log before new
+    → LeavesLogs (λ u. u ≢ s) old new → HasCut s log before old → HasWork s session work new → work.log ≡ log → HasCut s log before new
 cut_left s old new log before session work leaves logs cut has is = record {
   session = session;
   work = work;
@@ -179,8 +176,7 @@ all_again s state log changes agree own_is log_is = record {
   each = λ u session work has. ⊎_elim
       (λ same. subst (λ (t : ℕ). IsLogOf state work.log (own t state.past)) (sym same)
       (subst (λ (l : List Logged). IsLogOf state l (own s state.past)) (sym (log_is session work (subst (λ (t : ℕ). HasWork t session work state) same has)))
-      (subst (λ (c : List Change). IsLogOf state log c) (sym own_is) agree.mine)))
-      (λ differs. agree.others u session work differs has) (cases_eq u s);
+      (subst (λ (c : List Change). IsLogOf state log c) (sym own_is) agree.mine))) (λ differs. agree.others u session work differs has) (cases_eq u s);
   apart = agree.apart;
 }
 
@@ -200,12 +196,7 @@ more_grow (first ∷ schemas) schema (suc table) found there = more_grow schemas
 pub table_made : (old new : WorldState) (schema : Schema) (log : List Logged) (changes : List Change) → MakesTable schema old new → IsLogOf old log changes
     → IsLogOf new log (Create schema ∷ changes)
 table_made old new schema log changes made stands =
-    let grows : Grows old.schemas new.schemas = subst (Grows old.schemas) (sym made.schemas) (more_grow old.schemas schema) in
-    log_on (IsTold old) (IsTold new) old.schemas new.schemas old.versions.kept_at new.versions.kept_at made.told grows
-    (records_of old) (records_of new) log changes
+    log_over old new (records_of old) (records_of new) log changes made.told (subst (Grows old.schemas) (sym made.schemas) (more_grow old.schemas schema))
     (λ told table found key there. ap (value_of key)
     (went (λ pairs. pairs) (old.indexes (clustered_index table)).pairs (new.indexes (clustered_index table)).pairs
-    (made.pairs table (slice_get_within old.schemas table found there)) (told.pairs (clustered_index table))))
-    (all_of (Keeps (IsTold old) (IsTold new) old.schemas new.schemas old.versions.kept_at new.versions.kept_at made.told grows) log
-    (λ logged told kind former there. ap (λ (kept : ℕ → Option Kept). kept logged.pointer) (made.versions.kept told.versions) ∙ there))
-    stands
+    (made.pairs table (slice_get_within old.schemas table found there)) (told.pairs (clustered_index table)))) (stay_kept old new made.versions) stands

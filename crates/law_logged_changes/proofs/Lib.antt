@@ -2,7 +2,6 @@ pub mod Logs
 pub mod Leaving
 pub mod Lags
 pub mod Beginning
-pub mod Reaching
 pub mod Needs
 pub mod GoingOn
 pub mod TakenBack

@@ -1,4 +1,9 @@
 -- The step that puts a version logs it.
+use Rattle.row_changes.proofs.{Ids.one_work, Sessions.one_session, Sessions.one_found, Changing.key_short, Changing.value_short}
+use Rattle.row_changes.proofs.Pushed.{kept_over, kept_code, kept_more, key_at, code_of_edit, plain, none_of, written_pointer, small_id}
+use Rattle.row_changes.proofs.Telling.{pairs_told, puts_pairs, tells}
+use Rattle.law_logged_changes.proofs.{Leaving.stay_kept, Leaving.log_over, Leaving.same_schemas_grow, Logs.all_mapped, Logs.one_more, GoingOn.none_yet}
+use Rattle.law_logged_changes.proofs.{Entering.place_there, Needs.taken_here, Needs.taken_elsewhere, Needs.here_or_not, Needs.put_elsewhere, Needs.apart_now}
 use Rattle.std.proofs.Common.{◌≡◌, ◌≢◌, inl, inr, ⊎_elim, ℕ, ◌^◌, ◌<◌, true, false, List, [], ◌∷◌, Option, Some, None, refl, sym, ap, subst, ◌∙◌, arith}
 use Rattle.std.proofs.Common.{slice_get}
 use Rattle.std.specs.Prelude.{◌==◌, is_some}
@@ -6,35 +11,24 @@ use Rattle.std.specs.List.{AllByRecursion}
 use Rattle.std.proofs.lemmas.Bool.{cases_eq, cond-true, cond-false, eq-eqb, ne_eqb}
 use Rattle.inno_types.specs.{declared.value.Value.Value, declared.value.Schema.Schema}
 use Rattle.inno_db.specs.{declared.change.Change.Change, declared.change.Change.TheVariants.Create}
-use Rattle.inno_db.proofs.Keys.{key_in-at}
 use Rattle.inno_model.specs.{Past.own, declared.event.Event.TheVariants.Changed}
-use Rattle.store_api.specs.declared.answers.Undo.{Undo}
+use Rattle.store_api.specs.{declared.answers.Undo.Undo}
 use Rattle.store_api.specs.declared.answers.Version.{Version as Coded}
 use Rattle.entries.specs.Pairs.{value_of}
 use Rattle.row_versions.specs.{declared.kept.Kept.Kept, Versions.Stays, declared.place.Place.Place, Chains.Chains}
 use Rattle.row_codec.specs.Rows.{version_code}
 use Rattle.law_stored_rows.specs.{Edits.clustered_index, Edits.Puts, Records.IsCodeOf, Records.KeepsMore, Tables.AreClustered}
 use Rattle.law_stored_rows.proofs.Pairs.{at_index, value_now}
-use Rattle.law_past_agreement.specs.Rows.{place_in}
-use Rattle.world.specs.State.{WorldState, Session, Work, Logged, HasWork}
-use Rattle.world.specs.{Indexes.IsUndo, Indexes.KeepsVersion, Told.IsTold, Told.pairs_of}
-use Rattle.row_changes.specs.declared.row_edit.RowEdit.{RowEdit}
-use Rattle.row_changes.specs.declared.row_edit.RowEdit.TheVariants as edits
-use Rattle.row_changes.specs.declared.record_change.RecordChange.{RecordChange}
-use Rattle.row_changes.specs.declared.record_change.RecordReached.TheVariants as records
-use Rattle.row_changes.specs.{declared.row_change.RowChange.TheVariants.Record, Edits.change_of, Edits.rows_put, Edits.version_by, Rows.IsChangingRow}
-use Rattle.row_changes.specs.{Rows.primary_of, Told.HasRows}
-use Rattle.row_changes.specs.Records.{IsTable, IsChangingRecord, Records, RecordsEdit, PutsFirst, PutsOver, PutsVersion, ChangesRecord, undo_of_new}
-use Rattle.row_changes.specs.Records.{undo_of_former, id_for}
-use Rattle.row_changes.proofs.{Telling.pairs_told, Telling.puts_pairs, Telling.tells, Ids.one_work, Sessions.one_session, Sessions.one_found, Pushed.key_at}
-use Rattle.row_changes.proofs.{Pushed.code_first, Pushed.code_next, Pushed.small_id, Recorded.key_short, Recorded.value_short}
+use Rattle.world.specs.{Indexes.IsUndo, Told.IsTold, Told.pairs_of, State.WorldState, State.Session, State.Work, State.Logged, State.HasWork}
+use Rattle.row_changes.specs.{Rows.primary_of, Rows.IsChangingRow, Told.HasRows, Records.IsTable, Records.Records, Records.PutsOver, Records.id_for}
+use Rattle.row_changes.specs.{declared.record_change.RecordChange.RecordChange, declared.row_change.RowChange.TheVariants.Record, Records.IsChangingRecord}
+use Rattle.row_changes.specs.{Records.RecordsEdit, Records.PutsFirst, Records.PutsVersion, Records.ChangesRecord, Records.undo_of_new, Records.undo_of_former}
+use Rattle.row_changes.specs.Edits.{change_of, rows_put, version_by}
 use Rattle.undo_apply.specs.Standing.{TellsOf, LeadsBack, was_before}
-use Rattle.undo_apply.proofs.Places.{before_new, before_kept}
+use Rattle.undo_apply.proofs.Columns.{before_new, before_kept}
 use Rattle.law_logged_changes.specs.{Pointers.AreApart, Pointers.PointersApart, Steps.HasLogged}
 use Rattle.law_logged_changes.specs.Logs.{RecordsAt, records_of, taken_back, Stands, LogStands, IsLogOf, LogsAgree, IsAlone}
-use Rattle.law_logged_changes.proofs.Logs.{all_of, all_mapped, Keeps, log_on, one_more}
-use Rattle.law_logged_changes.proofs.{Leaving.same_schemas_grow, GoingOn.none_yet}
-use Rattle.law_logged_changes.proofs.Needs.{taken_here, taken_elsewhere, here_or_not, put_elsewhere, apart_now}
+use Rattle.row_changes.specs.declared.record_change.RecordReached.TheVariants as records
 
 -- ---- what older records keep is kept
 
@@ -45,29 +39,18 @@ some_kept undo kept pointer kind (inr (k, some, former, there, bytes)) = ap is_s
 abbrev IsKeptYet : (ℕ → Option Kept) → Logged → Type 0
 IsKeptYet kept logged = logged.undo.kind ≡ 2 → is_some (kept logged.pointer) ≡ true
 
-stands_keeps : (told : Type 0) (schemas : List Schema) (records : RecordsAt) (kept : ℕ → Option Kept) (logged : Logged) (log : List Logged) (change : Change)
-    → told → Stands told schemas records kept logged log change → IsKeptYet kept logged
-stands_keeps told schemas records kept logged log change at stands kind =
-    let has = stands.record_is at in
-    subst (λ (pointer : ℕ). is_some (kept pointer) ≡ true) (has.pointer_is kind) (some_kept logged.undo kept has.coded.pointer kind has.before)
-
 log_keeps : (told : Type 0) (schemas : List Schema) (records : RecordsAt) (kept : ℕ → Option Kept) (log : List Logged) (changes : List Change) → told
     → LogStands told schemas records kept log changes → AllByRecursion (IsKeptYet kept) log
 log_keeps told schemas records kept log [] at stands = subst (AllByRecursion (IsKeptYet kept)) (sym stands) (record {})
 log_keeps told schemas records kept log (Create schema ∷ changes) at stands = log_keeps told schemas records kept log changes at stands
 log_keeps told schemas records kept [] (change ∷ changes) at stands = record {}
 log_keeps told schemas records kept (logged ∷ log) (change ∷ changes) at stands = (
-  stands_keeps told schemas records kept logged log change at stands.0,
+  λ kind. let has = stands.0.record_is at in
+      subst (λ (pointer : ℕ). is_some (kept pointer) ≡ true) (has.pointer_is kind) (some_kept logged.undo kept has.coded.pointer kind has.before),
   log_keeps told schemas (taken_back logged.undo records) kept log changes at stands.1,
 )
 
 -- ---- the step
-
-place_of_edit : (schemas : List Schema) (table : ℕ) (schema : Schema) (edit : RowEdit) → slice_get schemas table ≡ Some schema
-    → place_in schemas (change_of table edit) ≡ Some (record { table = table; key = primary_of schema edit })
-place_of_edit schemas table schema (edits.Put row) there =
-    ap (λ (k : Value). Some (record { table = table; key = k })) (key_in-at schemas table schema row there)
-place_of_edit schemas table schema (edits.Remove value) there = refl
 
 abbrev undo_at : RecordChange → ℕ → List ℕ → Undo
 undo_at change kind value = record { kind = kind; table = change.table; key = change.key; value = value }
@@ -131,12 +114,10 @@ module _ (s : ℕ) (chains : Chains) (old new : WorldState) (change : RecordChan
 
   records_before : IsTold new → (table : ℕ) (key : List ℕ) → records_of old table key ≡ taken_back undo (records_of new) table key
   records_before told table key =
-      ⊎_elim
-      (λ here. ap (λ (t : ℕ). records_of old t key) here.0 ∙ ap (records_of old change.table) here.1 ∙ is.was (is.told told) ∙ sym
+      ⊎_elim (λ here. ap (λ (t : ℕ). records_of old t key) here.0 ∙ ap (records_of old change.table) here.1 ∙ is.was (is.told told) ∙ sym
       (taken_here undo (records_of new) table key here.0 here.1))
       (λ apart. sym (put_elsewhere undo (Some bytes) (pairs_of old) (pairs_of new) table key (puts_now told) apart) ∙ sym
-      (taken_elsewhere undo (records_of new) table key apart))
-      (here_or_not undo table key)
+      (taken_elsewhere undo (records_of new) table key apart)) (here_or_not undo table key)
 
   -- ---- the log
 
@@ -145,7 +126,7 @@ module _ (s : ℕ) (chains : Chains) (old new : WorldState) (change : RecordChan
   stands_now log changes stands = record {
     place = place;
     place_is =
-        place_of_edit new.schemas change.table p.schema change.edit
+        place_there new.schemas change.table change.edit p.schema
         (ap (λ (schemas : List Schema). slice_get schemas change.table) same_schemas ∙ p.table.there);
     schema = p.schema;
     tells = subst (λ (schemas : List Schema). TellsOf undo p.schema place schemas) (sym same_schemas) tells_old;
@@ -167,14 +148,8 @@ module _ (s : ℕ) (chains : Chains) (old new : WorldState) (change : RecordChan
   log_now log changes stands =
       one_more (IsTold new) new.schemas (records_of new) new.versions.kept_at logged log (change_of change.table change.edit) changes
       (stands_now log changes stands)
-      (log_on (IsTold old) (IsTold new) old.schemas new.schemas old.versions.kept_at new.versions.kept_at is.told
-      (same_schemas_grow old.schemas new.schemas same_schemas)
-      (records_of old) (taken_back undo (records_of new)) log changes
-      (λ told table schema key there. sym (records_before told table key))
-      (all_of (Keeps (IsTold old) (IsTold new) old.schemas new.schemas old.versions.kept_at new.versions.kept_at is.told
-      (same_schemas_grow old.schemas new.schemas same_schemas)) log
-      (λ l told two former there. is.more told l.pointer former there))
-      stands)
+      (log_over old new (records_of old) (taken_back undo (records_of new)) log changes is.told (same_schemas_grow old.schemas new.schemas same_schemas)
+      (λ told table schema key there. sym (records_before told table key)) is.more stands)
 
   own_now : own s new.past ≡ change_of change.table change.edit ∷ own s old.past
   own_now = ap (own s) same_past ∙ cond-true (s == s) (change_of change.table change.edit ∷ own s old.past) (own s old.past) (eq-eqb s s refl)
@@ -201,15 +176,13 @@ module _ (s : ℕ) (chains : Chains) (old new : WorldState) (change : RecordChan
   pub apart_logged : PointersApart old → PointersApart new
   apart_logged apart told =
       subst (λ (schemas : List Schema). AreApart schemas (pairs_of new) new.versions.kept_at) (sym same_schemas)
-      (apart_now undo old.schemas p.schema new.versions.kept_at (pairs_of new) (pairs_of old) coded
-      (record {
+      (apart_now undo old.schemas p.schema new.versions.kept_at (pairs_of new) (pairs_of old) coded (record {
         there = p.table.there;
         bytes = bytes;
         record_is = record_now told;
         code_is = is.code_is;
         before = is.leads told;
-        without = records_before
-            told;
+        without = records_before told;
       })
       chains old.versions.kept_at (clustered told) (is.more told) (is.former_code told)
       (λ two. ap old.versions.kept_at (is.pointer_is two) ∙ is.fresh told two) (apart (is.told told)))
@@ -226,8 +199,7 @@ module _ (s : ℕ) (chains : Chains) (old new : WorldState) (change : RecordChan
         subst (λ (t : ℕ). IsLogOf new work.log (own t new.past)) (sym same) (subst (λ (w : Work). IsLogOf new w.log (own s new.past)) one mine.stands))
         (λ differs.
         let had : HasWork u session work old = record { session_is = sym (is.rows.work.others u differs) ∙ has.session_is; work_is = has.work_is } in
-        none_yet u work old new (alone u differs) (others_own u differs) (agree.each u session work had))
-        (cases_eq u s);
+        none_yet u work old new (alone u differs) (others_own u differs) (agree.each u session work had)) (cases_eq u s);
     apart = apart_logged agree.apart;
   } where
     others_own : (u : ℕ) → u ≢ s → own u new.past ≡ []
@@ -236,14 +208,6 @@ module _ (s : ℕ) (chains : Chains) (old new : WorldState) (change : RecordChan
         (ne_eqb s u (λ same. differs (sym same))) ∙ alone u differs
 
 -- ---- whether there was a record
-
-pointer_by : (edit : RowEdit) (former : List Value) (writer pointer : ℕ) → (version_by edit former writer pointer).pointer ≡ pointer
-pointer_by (edits.Put row) former writer pointer = refl
-pointer_by (edits.Remove value) former writer pointer = refl
-
-none_of : (found : Option (List ℕ)) → is_some found ≡ false → found ≡ None
-none_of None is = refl
-none_of (Some bytes) is = absurd (cc)
 
 module _ (s : ℕ) (old new : WorldState) (change : RecordChange) (p : IsChangingRecord s old change) where
   abbrev writer : ℕ
@@ -257,16 +221,15 @@ module _ (s : ℕ) (old new : WorldState) (change : RecordChange) (p : IsChangin
   logging_first f = record {
     table = p.table;
     rows = all;
-    sound = record { kept = inl (refl, refl); key = key_short s old change p; value = omega arith };
-    code_is = code_first p.schema change.edit change.key writer p.fits f.is_put small;
+    sound = record { kept = inl (refl, refl); key = key_short p; value = omega arith };
+    code_is = code_of_edit p.schema change.edit change.key [] (plain [] 0) writer 0 p.fits (inl f.is_put) small (omega arith);
     was =
         λ told. none_of (records_of old change.table change.key)
         (tells (λ pairs. is_some (value_of change.key pairs) ≡ false) (old.indexes (clustered_index change.table)).pairs f.absent
-        (told.pairs (clustered_index change.table)))
-        ∙ sym (before_new (undo_at change 1 []) refl);
-    leads = λ told. inl (refl, pointer_by change.edit [] writer 0);
+        (told.pairs (clustered_index change.table))) ∙ sym (before_new (undo_at change 1 []) refl);
+    leads = λ told. inl (refl, written_pointer change.edit [] writer 0);
     pointer_is = λ two. absurd (omega (arith, two));
-    more = λ told pointer found is. ap (λ (kept : ℕ → Option Kept). kept pointer) (kept.kept told.versions) ∙ is;
+    more = stay_kept old new kept;
     fresh = λ told two. absurd (omega (arith, two));
     former_code = λ told two. absurd (omega (arith, two));
     told =
@@ -291,39 +254,37 @@ module _ (s : ℕ) (old new : WorldState) (change : RecordChange) (p : IsChangin
     table = p.table;
     rows = all;
     sound = record {
-      kept = inr (refl, kept.version, kept.kept);
-      key = key_short s old change p;
+      kept = inr (refl, (kept_over p o).version, (kept_over p o).kept);
+      key = key_short p;
       value = value_short p.schema former change.key o.bytes
           p.table.storable (o.was.code_is.record_is.fits, o.was.code_is.record_is.key_is) o.was.code_is.record_is.value_is;
     };
-    code_is = code_next p.schema change.edit change.key o.bytes former writer o.session.next_pointer p.fits o.was.code_is small o.small;
+    code_is = code_of_edit p.schema change.edit change.key o.bytes former writer o.session.next_pointer p.fits (inr o.was.code_is) small o.small;
     was =
         λ told. tells (λ pairs. value_of change.key pairs ≡ Some o.bytes) (old.indexes (clustered_index change.table)).pairs o.was.there
         (told.pairs (clustered_index change.table)) ∙ sym (before_kept (undo_at change 2 o.bytes) refl);
     leads = λ told. inr (
       refl,
       subst (λ (pointer : ℕ). pointer ≢ 0) (sym pointer) o.leads,
-      record { version = kept.version; bytes = o.bytes },
-      ap new.versions.kept_at pointer ∙ kept.here told.versions,
+      record { version = (kept_over p o).version; bytes = o.bytes },
+      ap new.versions.kept_at pointer ∙ (kept_over p o).here told.versions,
       refl,
     );
     pointer_is = λ two. pointer ∙ ap (λ (x : Session). x.next_pointer) (sym one);
-    more = λ told other found is. ⊎_elim
-        (λ same. let none : old.versions.kept_at o.session.next_pointer ≡ None = kept.fresh told.versions in let some : old.versions.kept_at
-        o.session.next_pointer ≡ Some found = ap old.versions.kept_at (sym same) ∙ is in absurd (cc))
-        (λ differs. kept.elsewhere other differs told.versions ∙ is) (cases_eq other o.session.next_pointer);
-    fresh = λ told two. ap (λ (x : Session). old.versions.kept_at x.next_pointer) one ∙ kept.fresh told.versions;
+    more = λ told.
+        kept_more old.schemas o.session.next_pointer (undo_of_former change.table change.key o.bytes) old.versions new.versions (kept_over p o) told.versions;
+    fresh = λ told two. ap (λ (x : Session). old.versions.kept_at x.next_pointer) one ∙ (kept_over p o).fresh told.versions;
     former_code = λ told two found is.
         let here : new.versions.kept_at (version_by change.edit former.row writer o.session.next_pointer).pointer ≡ Some
-        (record { version = kept.version; bytes = o.bytes }) = ap new.versions.kept_at pointer ∙ kept.here told.versions in
-        let same : record { version = kept.version; bytes = o.bytes } ≡ found =
-        one_found (record { version = kept.version; bytes = o.bytes }) found here is in
-        subst (λ (k : Kept). IsCodeOf p.schema change.key k.bytes k.version) same found_code;
+        (record { version = (kept_over p o).version; bytes = o.bytes }) = ap new.versions.kept_at pointer ∙ (kept_over p o).here told.versions in
+        let same : record { version = (kept_over p o).version; bytes = o.bytes } ≡ found =
+        one_found (record { version = (kept_over p o).version; bytes = o.bytes }) found here is in
+        subst (λ (k : Kept). IsCodeOf p.schema change.key k.bytes k.version) same (kept_code p o);
     told = λ told. record {
       pairs =
           pairs_told (clustered_index change.table) change.key
           (Some (version_code p.schema (version_by change.edit former.row writer o.session.next_pointer))) old new (all.here, all.elsewhere) told;
-      versions = kept.told told.versions;
+      versions = (kept_over p o).told told.versions;
     };
   } where
     all : RecordsEdit s change p.schema former.row writer o.session.next_pointer (undo_of_former change.table change.key o.bytes) old new
@@ -334,27 +295,16 @@ module _ (s : ℕ) (old new : WorldState) (change : RecordChange) (p : IsChangin
     one : all.work.session ≡ o.session
     one = one_session old s all.work.session o.session all.work.had.session_is o.had.session_is
 
-    kept : KeepsVersion old.schemas o.session.next_pointer (undo_of_former change.table change.key o.bytes) old.versions new.versions
-    kept =
-        subst (λ (x : Session). KeepsVersion old.schemas x.next_pointer (undo_of_former change.table change.key o.bytes) old.versions new.versions) one
-        all.work.versions
-
     pointer : (version_by change.edit former.row writer o.session.next_pointer).pointer ≡ o.session.next_pointer
-    pointer = pointer_by change.edit former.row writer o.session.next_pointer
-
-    found_code : IsCodeOf p.schema change.key o.bytes kept.version
-    found_code =
-        let same = one_found kept.kept.schema p.schema kept.kept.there p.table.there in
-        subst (λ (x : Schema). IsCodeOf x change.key o.bytes kept.version) same (record { record_is = kept.kept.record_is; numbers = kept.kept.small })
+    pointer = written_pointer change.edit former.row writer o.session.next_pointer
 
   -- whichever it is, it is logged
   pub logging : (P : Type 0) → ((kind : ℕ) (value bytes : List ℕ) (coded : Coded) → IsLogging s old new change p.schema kind value bytes coded → P)
       → (before : Option (List Value)) → ChangesRecord s old new change (records.Recorded before) → P
   logging P goal before h =
       let one = one_found h.0 p.schema h.1.there p.table.there in
-      let puts : PutsVersion s old new change p.schema before = subst (λ (x : Schema). PutsVersion s old new change x before) one h.2 in
-      ⊎_elim
-      (λ f. goal 1 [] (version_code p.schema (version_by change.edit [] writer 0)) (version_by change.edit [] writer 0) (logging_first f.0))
+      let puts : PutsVersion s old new change p.schema before = rw one at h.2 in
+      ⊎_elim (λ f. goal 1 [] (version_code p.schema (version_by change.edit [] writer 0)) (version_by change.edit [] writer 0) (logging_first f.0))
       (λ o. goal 2 o.1.bytes (version_code p.schema (version_by change.edit o.0.row writer o.1.session.next_pointer))
       (version_by change.edit o.0.row writer o.1.session.next_pointer) (logging_over o.0 o.1))
       puts
@@ -369,8 +319,7 @@ change_logged s chains old new change key before after session work p h has stan
     (λ kind value bytes coded is. has_logged s chains old new change p.0 p.1 kind value bytes coded is session work has stands) before h
 
 pub change_apart : (s : ℕ) (chains : Chains) (old new : WorldState) (change : RecordChange) (key : List ℕ) (before after : Option (List Value))
-    → IsChangingRow s chains old (Record change key after) → ChangesRecord s old new change (records.Recorded before)
-    → PointersApart old → PointersApart new
+    → IsChangingRow s chains old (Record change key after) → ChangesRecord s old new change (records.Recorded before) → PointersApart old → PointersApart new
 change_apart s chains old new change key before after p h apart =
     logging s old new change p.0 (PointersApart new)
     (λ kind value bytes coded is. apart_logged s chains old new change p.0 p.1 kind value bytes coded is apart) before h

@@ -4,8 +4,8 @@ use Rattle.std.specs.Prelude.{◌==◌, ◌&&◌}
 use Rattle.std.specs.List.{AllByRecursion}
 use Rattle.std.specs.BTreeMap.{is_at}
 use Rattle.inno_types.specs.{declared.value.Value.Value, declared.value.Schema.Schema}
-use Rattle.inno_db.specs.{declared.change.Change.Change, declared.change.Change.TheVariants.Create, declared.change.Change.TheVariants.Put}
-use Rattle.inno_db.specs.{declared.change.Change.TheVariants.Remove, Database.key_in}
+use Rattle.inno_db.specs.{declared.change.Change.Change, Database.key_in}
+use Rattle.inno_db.specs.declared.change.Change.TheVariants.{Create, Put, Remove}
 use Rattle.inno_db.proofs.Keys.{key_in-at}
 use Rattle.store_api.specs.declared.answers.Undo.{Undo}
 use Rattle.entries.specs.Pairs.{key_cmp}
@@ -120,9 +120,8 @@ newest_stands told schemas records kept logged log (Create schema) own place is 
 newest_stands told schemas records kept logged log change own place is stands = stands
 
 pub one_more : (told : Type 0) (schemas : List Schema) (records : RecordsAt) (kept : ℕ → Option Kept) (logged : Logged) (log : List Logged) (change : Change)
-    (own : List Change)
-    → Stands told schemas records kept logged log change → LogStands told schemas (taken_back logged.undo records) kept log own → LogStands told schemas
-    records kept (logged ∷ log) (change ∷ own)
+    (own : List Change) → Stands told schemas records kept logged log change → LogStands told schemas (taken_back logged.undo records) kept log own
+    → LogStands told schemas records kept (logged ∷ log) (change ∷ own)
 one_more told schemas records kept logged log (Create schema) own stands rest = absurd (let is = stands.place_is in cc)
 one_more told schemas records kept logged log change own stands rest = (stands, rest)
 

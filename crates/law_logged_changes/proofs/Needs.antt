@@ -1,29 +1,101 @@
 -- Which pointers rows need before a change and after it.
-use Rattle.std.proofs.Common.{◌≡◌, ◌≢◌, ◌⊎◌, inl, inr, ⊎_elim, ℕ, zero, suc, ◌+◌, Bool, true, false, List, Option, Some, None, refl, sym, ap, subst, ◌∙◌, arith}
-use Rattle.std.proofs.Common.{slice_get, length}
+use Rattle.std.proofs.lemmas.Bool.{and_from, and_right, cases_eq, cond-true, cond-false, eq-eqb, ne_eqb}
+use Rattle.std.proofs.Common.{◌≡◌, ◌≢◌, ◌⊎◌, inl, inr, ⊎_elim, ℕ, zero, suc, ◌+◌, Bool, true, false, List, Option, Some, None, refl, sym, ap, subst, ◌∙◌}
+use Rattle.std.proofs.Common.{arith, slice_get, length, [], ◌∷◌}
 use Rattle.std.specs.Prelude.{◌==◌, ◌&&◌, is_some}
 use Rattle.std.specs.BTreeMap.{is_at}
 use Rattle.std.specs.Ordering.{is_eq}
 use Rattle.std.specs.declared.cmp.Ordering.{Ordering}
 use Rattle.std.specs.declared.cmp.Ordering.TheVariants.{Less, Equal, Greater}
-use Rattle.std.proofs.lemmas.Bool.{cases_eq, cond-true, cond-false, eq-eqb, ne_eqb}
-use Rattle.inno_types.specs.declared.value.Schema.{Schema}
+use Rattle.inno_types.specs.{declared.value.Schema.Schema, declared.value.Column.Column}
 use Rattle.inno_db.specs.Database.{key_of}
-use Rattle.store_api.specs.declared.answers.Undo.{Undo}
+use Rattle.store_api.specs.{declared.answers.Undo.Undo}
 use Rattle.store_api.specs.declared.answers.Version.{Version as Coded}
 use Rattle.row_codec.proofs.Once.{same_version}
 use Rattle.entries.specs.Pairs.{Pair, key_cmp, value_of}
 use Rattle.entries.proofs.Order.{same_key, key_itself}
 use Rattle.row_versions.specs.{declared.kept.Kept.Kept, declared.version.Version.Version, Chains.Chains, Chains.older}
-use Rattle.law_stored_rows.specs.{Edits.clustered_index, Edits.Puts, Records.IsCodeOf, Records.LeadTo, Records.KeepsMore, Tables.in_table}
-use Rattle.law_stored_rows.specs.{Tables.AreClustered}
-use Rattle.law_stored_rows.proofs.Pairs.{same_or_not, others_now, at_index, at_others, other_rows}
-use Rattle.law_stored_rows.proofs.{FromTables.decoded, RowRecords.one_lead, RowRecords.pointer_followed, RowRecords.pointer_leads}
+use Rattle.law_stored_rows.specs.{Edits.clustered_index, Edits.Puts, Records.IsCodeOf, Records.LeadTo, Records.KeepsMore}
+use Rattle.law_stored_rows.specs.Tables.{in_table, AreClustered}
+use Rattle.law_stored_rows.proofs.{FromTables.decoded, Pairs.same_or_not, Pairs.others_now, Pairs.at_index, Pairs.at_others, Pairs.other_rows}
+use Rattle.law_stored_rows.proofs.RowRecords.{one_lead, pointer_followed, pointer_leads}
 use Rattle.row_changes.proofs.Sessions.{one_found}
 use Rattle.undo_apply.specs.Standing.{LeadsBack, was_before}
-use Rattle.undo_apply.proofs.Places.{before_new, before_kept}
+use Rattle.undo_apply.proofs.Columns.{before_new, before_kept}
 use Rattle.law_logged_changes.specs.{Pointers.Reaches, Pointers.IsNeededBy, Pointers.AreApart, Pointers.IsUnneeded, Logs.RecordsAt, Logs.taken_back}
-use Rattle.law_logged_changes.proofs.Reaching.{on_way, reached_before, one_row}
+use Rattle.key_codec.specs.Keys.{key_code}
+
+-- ---- what is reached from a pointer, where it leads to versions
+
+-- what is reached leads on to the rest
+pub record IsOnWay (schema : Schema) (key : List ℕ) (kept : ℕ → Option Kept) (pointer further : ℕ) (versions : List Version) : Type 0 where
+  pub rest : List Version
+  pub leads : LeadTo schema key kept pointer rest
+  pub count : length rest + further ≡ length versions
+  pub some : pointer ≢ 0
+
+module _ (schema : Schema) (key : List ℕ) (kept : ℕ → Option Kept) where
+  pub on_way : (from further pointer : ℕ) (versions : List Version) → LeadTo schema key kept from versions → Reaches kept from further pointer
+      → IsOnWay schema key kept pointer further versions
+  on_way from zero pointer versions leads (some, same) = record {
+    rest = versions;
+    leads = subst (λ (p : ℕ). LeadTo schema key kept p versions) same leads;
+    count = omega arith;
+    some = subst (λ (p : ℕ). p ≢ 0) same some;
+  }
+  on_way from (suc further) pointer [] leads (some, found, there, reaches) = absurd (some leads)
+  on_way from (suc further) pointer (version ∷ older) leads (some, found, there, reaches) =
+      let one = one_found leads.0 found leads.1.there there in
+      let behind = subst (λ (k : Kept). LeadTo schema key kept k.version.pointer older) one leads.2 in
+      let way = on_way found.version.pointer further pointer older behind reaches in
+      record { rest = way.rest; leads = way.leads; count = omega (arith, way.count); some = way.some }
+
+  -- more is kept now, but a pointer that led to versions reaches what it did
+  pub reached_before : (now : ℕ → Option Kept) (from further pointer : ℕ) (versions : List Version) → KeepsMore kept now
+      → LeadTo schema key kept from versions → Reaches now from further pointer → Reaches kept from further pointer
+  reached_before now from zero pointer versions more leads reaches = reaches
+  reached_before now from (suc further) pointer [] more leads (some, found, there, reaches) = absurd (some leads)
+  reached_before now from (suc further) pointer (version ∷ older) more leads (some, found, there, reaches) =
+      let one = one_found leads.0 found (more from leads.0 leads.1.there) there in
+      let behind = subst (λ (k : Kept). LeadTo schema key kept k.version.pointer older) one leads.2 in
+      (some, found, ap kept refl ∙ leads.1.there ∙ ap Some one, reached_before now found.version.pointer further pointer older more behind reaches)
+
+  -- what isn't reached may go
+  pub leads_without : (now : ℕ → Option Kept) (gone from : ℕ) (versions : List Version) → ((pointer : ℕ) → pointer ≢ gone → now pointer ≡ kept pointer)
+      → ((further : ℕ) → Reaches kept from further gone → ⊥) → LeadTo schema key kept from versions → LeadTo schema key now from versions
+  leads_without now gone from [] same apart leads = leads
+  leads_without now gone from (version ∷ older) same apart (found, is, behind) = (
+    found,
+    record { leads = is.leads; there = same from (λ e. apart 0 (is.leads, e)) ∙ is.there; code_is = is.code_is; shown_is = is.shown_is },
+    leads_without now gone found.version.pointer older same (λ further reaches. apart (suc further) (is.leads, found, is.there, reaches)) behind,
+  )
+
+pub reached_with : (kept now : ℕ → Option Kept) (gone from further pointer : ℕ) → ((pointer : ℕ) → pointer ≢ gone → now pointer ≡ kept pointer)
+    → ((further : ℕ) → Reaches kept from further gone → ⊥) → Reaches now from further pointer → Reaches kept from further pointer
+reached_with kept now gone from zero pointer same apart reaches = reaches
+reached_with kept now gone from (suc further) pointer same apart (some, found, there, reaches) =
+    let here : kept from ≡ Some found = sym (same from (λ e. apart 0 (some, e))) ∙ there in
+    (some, found, here, reached_with kept now gone found.version.pointer further pointer same (λ more r. apart (suc more) (some, found, here, r)) reaches)
+
+-- ---- one key
+
+pub one_key_of : (schema : Schema) (key other bytes others : List ℕ) (coded : Coded) → IsCodeOf schema key bytes coded → IsCodeOf schema other others coded
+    → key ≡ other
+one_key_of schema key other bytes others coded first second =
+    let a = first.record_is.key_is in
+    let b = second.record_is.key_is in
+    let column = one_found a.column b.column a.primary b.primary in
+    a.spelled ∙ ap (λ (c : Column). key_code c.kind (key_of schema coded.row)) column ∙ sym b.spelled
+
+-- a pointer leads to versions of one row of a table
+pub one_row : (schema : Schema) (key other : List ℕ) (kept : ℕ → Option Kept) (pointer : ℕ) (versions others : List Version) → pointer ≢ 0
+    → LeadTo schema key kept pointer versions → LeadTo schema other kept pointer others → key ≡ other
+one_row schema key other kept pointer [] others some first second = absurd (some first)
+one_row schema key other kept pointer (version ∷ versions) [] some first second = absurd (some second)
+one_row schema key other kept pointer (version ∷ versions) (v ∷ others) some first second =
+    let one = one_found second.0 first.0 second.1.there first.1.there in
+    one_key_of schema key other first.0.bytes first.0.bytes first.0.version first.1.code_is
+    (subst (λ (k : Kept). IsCodeOf schema other k.bytes k.version) one second.1.code_is)
 
 -- ---- the records without a change
 
@@ -37,18 +109,11 @@ not_at key other differs = go (key_cmp key other) refl where
   go Equal is = absurd (differs (sym (same_key key other is)))
   go Greater is = ap is_eq is
 
-both_true : (a b : Bool) → a ≡ true → b ≡ true → a && b ≡ true
-both_true a b first second = ap (λ (t : Bool). t && b) first ∙ second
-
-second_false : (a b : Bool) → b ≡ false → a && b ≡ false
-second_false true b is = is
-second_false false b is = refl
-
 pub taken_here : (undo : Undo) (records : RecordsAt) (table : ℕ) (key : List ℕ) → table ≡ undo.table → key ≡ undo.key
     → taken_back undo records table key ≡ was_before undo
 taken_here undo records table key same also =
     cond-true (table == undo.table && is_at (key_cmp undo.key) key) (was_before undo) (records table key)
-    (both_true (table == undo.table) (is_at (key_cmp undo.key) key) (eq-eqb table undo.table same) (at_itself undo.key key also))
+    (and_from (table == undo.table) (is_at (key_cmp undo.key) key) (eq-eqb table undo.table same) (at_itself undo.key key also))
 
 pub taken_elsewhere : (undo : Undo) (records : RecordsAt) (table : ℕ) (key : List ℕ) → (table ≢ undo.table) ⊎ (key ≢ undo.key)
     → taken_back undo records table key ≡ records table key
@@ -57,7 +122,7 @@ taken_elsewhere undo records table key (inl differs) =
     (ap (λ (t : Bool). t && is_at (key_cmp undo.key) key) (ne_eqb table undo.table differs))
 taken_elsewhere undo records table key (inr differs) =
     cond-false (table == undo.table && is_at (key_cmp undo.key) key) (was_before undo) (records table key)
-    (second_false (table == undo.table) (is_at (key_cmp undo.key) key) (not_at undo.key key differs))
+    (and_right (table == undo.table) (is_at (key_cmp undo.key) key) (not_at undo.key key differs))
 
 -- the change's own record, or another
 pub here_or_not : (undo : Undo) (table : ℕ) (key : List ℕ) → ((table ≡ undo.table) × (key ≡ undo.key)) ⊎ ((table ≢ undo.table) ⊎ (key ≢ undo.key))
@@ -75,16 +140,12 @@ put_in_table undo value old new table key puts differs =
     ap (value_of key) (at_others old new (clustered_index undo.table) undo.key value (clustered_index table) puts (other_rows undo.table table differs))
 
 pub put_elsewhere : (undo : Undo) (value : Option (List ℕ)) (old new : ℕ → List Pair) (table : ℕ) (key : List ℕ)
-    → Puts old new (clustered_index undo.table) undo.key value → (table ≢ undo.table) ⊎ (key ≢ undo.key)
-    → records_in new table key ≡ records_in old table key
+    → Puts old new (clustered_index undo.table) undo.key value → (table ≢ undo.table) ⊎ (key ≢ undo.key) → records_in new table key ≡ records_in old table key
 put_elsewhere undo value old new table key puts (inl differs) = put_in_table undo value old new table key puts differs
 put_elsewhere undo value old new table key puts (inr differs) =
-    ⊎_elim
-    (λ same. subst (λ (t : ℕ). records_in new t key ≡ records_in old t key) (sym same)
+    ⊎_elim (λ same. subst (λ (t : ℕ). records_in new t key ≡ records_in old t key) (sym same)
     (ap (value_of key) (at_index old new (clustered_index undo.table) undo.key value puts) ∙ others_now undo.key value key (old (clustered_index undo.table))
-    differs))
-    (λ apart. put_in_table undo value old new table key puts apart)
-    (cases_eq table undo.table)
+    differs)) (λ apart. put_in_table undo value old new table key puts apart) (cases_eq table undo.table)
 
 -- ---- pairs with a change, and without it
 
@@ -96,9 +157,6 @@ pub record StandsIn (undo : Undo) (schemas : List Schema) (schema : Schema) (kep
   pub code_is : IsCodeOf schema undo.key bytes coded
   pub before : LeadsBack undo kept coded.pointer
   pub without : (table : ℕ) (key : List ℕ) → records_in low table key ≡ taken_back undo (records_in high) table key
-
-some_bytes : (found : Option (List ℕ)) (a b : List ℕ) → found ≡ Some a → found ≡ Some b → a ≡ b
-some_bytes found a b first second = cc
 
 module _ (undo : Undo) (schemas : List Schema) (schema : Schema) (kept : ℕ → Option Kept) (high low : ℕ → List Pair) (coded : Coded)
     (stands : StandsIn undo schemas schema kept high low coded) where
@@ -128,8 +186,7 @@ module _ (undo : Undo) (schemas : List Schema) (schema : Schema) (kept : ℕ →
   pub needed_with : (versions : List Version) → LeadTo schema undo.key kept coded.pointer versions → (table pointer : ℕ)
       → IsNeededBy schemas low kept table pointer → IsNeededBy schemas high kept table pointer
   needed_with versions leads table pointer needed =
-      ⊎_elim
-      (λ here. record {
+      ⊎_elim (λ here. record {
         schema = schema;
         there = ap (slice_get schemas) here.0 ∙ stands.there;
         key = undo.key;
@@ -141,8 +198,7 @@ module _ (undo : Undo) (schemas : List Schema) (schema : Schema) (kept : ℕ →
         reaches =
             former_is table needed.key needed.bytes needed.schema needed.coded needed.further pointer versions leads needed.there here.0 here.1
             needed.record_is needed.code_is needed.reaches stands.before;
-      })
-      (λ apart. record {
+      }) (λ apart. record {
         schema = needed.schema;
         there = needed.there;
         key = needed.key;
@@ -152,8 +208,7 @@ module _ (undo : Undo) (schemas : List Schema) (schema : Schema) (kept : ℕ →
         code_is = needed.code_is;
         further = needed.further;
         reaches = needed.reaches;
-      })
-      (here_or_not undo table needed.key)
+      }) (here_or_not undo table needed.key)
 
   pub apart_without : (versions : List Version) → LeadTo schema undo.key kept coded.pointer versions → AreApart schemas high kept → AreApart schemas low kept
   apart_without versions leads apart table other pointer first second =
@@ -173,26 +228,19 @@ module _ (undo : Undo) (schemas : List Schema) (schema : Schema) (kept : ℕ →
     reaches = (some, refl);
   }
 
-  longer : (first : Version) (rest : List Version) (further n : ℕ) → n + suc further ≡ length rest → n ≡ length rest → ⊥
-  longer first rest further n sum same = absurd (omega arith)
-
   -- Without the change its pointer is needed no longer.
   pub unneeded_without : (chains : Chains) (versions : List Version) → AreClustered schemas high kept chains
       → LeadTo schema undo.key kept coded.pointer versions → coded.pointer ≢ 0 → AreApart schemas high kept → IsUnneeded schemas low kept coded.pointer
   unneeded_without chains versions are leads some apart table needed =
       let same : table ≡ undo.table = apart table undo.table coded.pointer (needed_with versions leads table coded.pointer needed) (needs_its_own some) in
-      ⊎_elim
-      (λ here.
+      ⊎_elim (λ here.
       let again =
       former_is table needed.key needed.bytes needed.schema needed.coded needed.further coded.pointer versions leads needed.there here.0 here.1
       needed.record_is needed.code_is needed.reaches stands.before in
       let way = on_way schema undo.key kept coded.pointer (suc needed.further) coded.pointer versions leads again in
       let one = one_lead schema undo.key kept coded.pointer way.rest versions way.leads leads in
-      absurd (omega (arith, way.count, ap length one)))
-      (λ differs. ⊎_elim (λ table_differs. absurd (table_differs same))
-      (λ key_differs.
-      let schema_is : needed.schema ≡ schema =
-      one_found needed.schema schema (ap (slice_get schemas) (sym same) ∙ needed.there) stands.there in
+      absurd (omega (arith, way.count, ap length one))) (λ differs. ⊎_elim (λ table_differs. absurd (table_differs same)) (λ key_differs.
+      let schema_is : needed.schema ≡ schema = one_found needed.schema schema (ap (slice_get schemas) (sym same) ∙ needed.there) stands.there in
       let code = subst (λ (x : Schema). IsCodeOf x needed.key needed.bytes needed.coded) schema_is needed.code_is in
       let found : records_in high undo.table needed.key ≡ Some needed.bytes
       =
@@ -203,8 +251,7 @@ module _ (undo : Undo) (schemas : List Schema) (schema : Schema) (kept : ℕ →
       on_way schema needed.key kept needed.coded.pointer needed.further coded.pointer
       (older (in_table undo.table chains (key_of schema needed.coded.row))) read.1 needed.reaches in
       absurd (key_differs (one_row schema needed.key undo.key kept coded.pointer way.rest versions some way.leads leads)))
-      differs)
-      (here_or_not undo table needed.key)
+      differs) (here_or_not undo table needed.key)
 
   -- ---- where the version before was kept only now
 
@@ -253,17 +300,13 @@ module _ (undo : Undo) (schemas : List Schema) (schema : Schema) (kept : ℕ →
 
     needed_now : (table pointer : ℕ) → IsNeededBy schemas high kept table pointer → Was table pointer
     needed_now table pointer needed =
-        ⊎_elim
-        (λ here.
-        let schema_is : needed.schema ≡ schema =
-        one_found needed.schema schema (ap (slice_get schemas) (sym here.0) ∙ needed.there) stands.there in
-        let found : records_in high undo.table undo.key ≡ Some needed.bytes =
-        ap (λ (k : List ℕ). records_in high undo.table k) (sym here.1) ∙ ap (λ (t : ℕ). records_in high t needed.key) (sym here.0) ∙ needed.record_is in
-        let bytes_are = some_bytes (records_in high undo.table undo.key) needed.bytes stands.bytes found stands.record_is in
+        ⊎_elim (λ here.
+        let schema_is : needed.schema ≡ schema = one_found needed.schema schema (ap (slice_get schemas) (sym here.0) ∙ needed.there) stands.there in
+        let found : records_in high undo.table undo.key ≡ Some needed.bytes = rw (← here.1, ← here.0) needed.record_is in
+        let bytes_are = one_found needed.bytes stands.bytes found stands.record_is in
         let code : IsCodeOf schema undo.key stands.bytes needed.coded
         =
-        subst (λ (b : List ℕ). IsCodeOf schema undo.key b needed.coded) bytes_are
-        (subst (λ (k : List ℕ). IsCodeOf schema k needed.bytes needed.coded) here.1
+        subst (λ (b : List ℕ). IsCodeOf schema undo.key b needed.coded) bytes_are (subst (λ (k : List ℕ). IsCodeOf schema k needed.bytes needed.coded) here.1
         (subst (λ (x : Schema). IsCodeOf x needed.key needed.bytes needed.coded) schema_is needed.code_is)) in
         let one : needed.coded ≡ coded =
         same_version schema needed.coded coded undo.key stands.bytes code.numbers stands.code_is.numbers code.record_is stands.code_is.record_is in

@@ -15,7 +15,7 @@ use Rattle.row_changes.specs.{declared.keys_change.KeysChange.KeysChange, declar
 use Rattle.row_changes.specs.{declared.row_change.RowChange.TheVariants.Record, declared.row_change.RowChange.TheVariants.Keys, Entries.PutPhaseHolds}
 use Rattle.row_changes.specs.{Records.StageHolds, Records.IsChangingRecord, Keys.said_next, Keys.HasRowsSoFar, Keys.IsEntering, Keys.IsChangingKeys}
 use Rattle.row_changes.specs.{Told.AreRowsAs, Told.HasRows, Rows.IsChangingRow}
-use Rattle.row_changes.proofs.{Telling.told_before, Telling.went, Telling.coded_again, Keying.table_kept, Keying.changing_next}
+use Rattle.row_changes.proofs.{Telling.told_before, Telling.went, Telling.coded_again, Pushed.table_kept, Keying.changing_next}
 use Rattle.law_logged_changes.proofs.Listed.{listed_of}
 
 -- ---- what an index tells

@@ -1,4 +1,8 @@
 -- A change that is taken back leaves the log of the older changes.
+use Rattle.law_logged_changes.proofs.{Leaving.log_over, Leaving.same_schemas_grow, Logs.newest_stands, Lags.at_stage, Lags.clustered_while}
+use Rattle.law_logged_changes.proofs.Beginning.{top, tells_of_it, way_settled, newest_is}
+use Rattle.law_logged_changes.proofs.Needs.{taken_here, taken_elsewhere, here_or_not, StandsIn, put_elsewhere, apart_without, unneeded_without}
+use Rattle.law_logged_changes.proofs.GoingOn.{work_beside, work_again, own_beside, none_yet, done_beside}
 use Rattle.std.proofs.Common.{◌≡◌, ◌≢◌, ◌⊎◌, inl, inr, ⊎_elim, ℕ, List, ◌∷◌, Option, Some, sym, ap, subst, ◌∙◌, arith}
 use Rattle.inno_types.specs.declared.value.Schema.{Schema}
 use Rattle.inno_db.specs.declared.change.Change.{Change}
@@ -8,19 +12,14 @@ use Rattle.entries.specs.Pairs.{Pair, value_of}
 use Rattle.row_versions.specs.{declared.kept.Kept.Kept, declared.place.Place.Place, Chains.Chains, Chains.Pops}
 use Rattle.law_stored_rows.specs.{Edits.clustered_index, Edits.Puts, Records.LeadTo, Tables.AreClustered}
 use Rattle.law_past_agreement.specs.Rows.{place_in}
-use Rattle.world.specs.State.{WorldState, Session, Work, Logged, HasWork}
-use Rattle.world.specs.Told.{IsTold, pairs_of}
+use Rattle.world.specs.{State.WorldState, State.Session, State.Work, State.Logged, State.HasWork, Told.IsTold, Told.pairs_of}
 use Rattle.row_changes.specs.Told.{HasRows}
 use Rattle.row_changes.proofs.Telling.{stays_told, same_pairs_of, put_told, put_pairs}
 use Rattle.undo_apply.specs.{declared.work_room.WorkRoom.WorkRoom, Told.rows_of, Stages.IsPuttingBack, Stages.IsDone}
 use Rattle.undo_apply.specs.Standing.{TellsOf, LeadsBack, was_before, versions_before, IsLagging, IsTakenBack}
-use Rattle.undo_apply.proofs.{Ends.stands, Places.newest_read}
-use Rattle.law_logged_changes.specs.{Pointers.AreApart, Pointers.IsUnneeded, Pointers.PointersApart, Steps.ChangesPairsAlone, Steps.MayBeCut, Steps.IsToCut}
+use Rattle.undo_apply.proofs.{Taken.stands, Columns.newest_read}
+use Rattle.law_logged_changes.specs.{Pointers.AreApart, Pointers.IsUnneeded, Steps.ChangesPairsAlone, Steps.IsToCut}
 use Rattle.law_logged_changes.specs.Logs.{records_of, taken_back, HasRecord, Stands, IsLogOf, LogsAgree, IsAlone}
-use Rattle.law_logged_changes.proofs.{Logs.all_of, Logs.Keeps, Logs.log_on, Logs.newest_stands, Leaving.same_schemas_grow, Lags.at_stage}
-use Rattle.law_logged_changes.proofs.{Lags.clustered_while, Beginning.top, Beginning.tells_of_it, Beginning.way_settled, Beginning.newest_is}
-use Rattle.law_logged_changes.proofs.Needs.{taken_here, taken_elsewhere, here_or_not, StandsIn, put_elsewhere, apart_without, unneeded_without}
-use Rattle.law_logged_changes.proofs.GoingOn.{work_beside, work_again, own_beside, none_yet, done_beside}
 
 module _ (chains after : Chains) (old new : WorldState) (logged : Logged) (older : List Logged) (change : Change) (before : List Change) (place : Place)
     (room next : WorkRoom) (log_is : IsLogOf old (logged ∷ older) (change ∷ before)) (place_is : place_in old.schemas change ≡ Some place)
@@ -61,31 +60,23 @@ module _ (chains after : Chains) (old new : WorldState) (logged : Logged) (older
 
   puts_then : IsTold new → Puts (pairs_of old) (pairs_of new) (clustered_index undo.table) undo.key (was_before undo)
   puts_then told =
-      ⊎_elim
-      (λ stays. absurd (not_before (told_before told)
-      (ap (λ (pairs : ℕ → List Pair). value_of undo.key (pairs (clustered_index undo.table))) (sym (same_pairs_of old new stays told)) ∙
-      (taken told).there)))
+      ⊎_elim (λ stays. absurd (not_before (told_before told)
+      (ap (λ (pairs : ℕ → List Pair). value_of undo.key (pairs (clustered_index undo.table))) (sym (same_pairs_of old new stays told)) ∙ (taken told).there)))
       (λ puts. put_pairs (clustered_index undo.table) undo.key (was_before undo) old new puts told)
       done.changes
 
   records_then : IsTold new → (table : ℕ) (key : List ℕ) → records_of new table key ≡ taken_back undo (records_of old) table key
   records_then told table key =
-      ⊎_elim
-      (λ here. ap (λ (t : ℕ). records_of new t key) here.0 ∙ ap (records_of new undo.table) here.1 ∙ (taken told).there ∙ sym
+      ⊎_elim (λ here. ap (λ (t : ℕ). records_of new t key) here.0 ∙ ap (records_of new undo.table) here.1 ∙ (taken told).there ∙ sym
       (taken_here undo (records_of old) table key here.0 here.1))
       (λ apart. put_elsewhere undo (was_before undo) (pairs_of old) (pairs_of new) table key (puts_then told) apart ∙ sym
-      (taken_elsewhere undo (records_of old) table key apart))
-      (here_or_not undo table key)
+      (taken_elsewhere undo (records_of old) table key apart)) (here_or_not undo table key)
 
   pub log_then : IsLogOf new older before
   log_then =
-      log_on (IsTold old) (IsTold new) old.schemas new.schemas old.versions.kept_at new.versions.kept_at told_before
-      (same_schemas_grow old.schemas new.schemas same_schemas)
-      (taken_back undo (records_of old)) (records_of new) older before
+      log_over old new (taken_back undo (records_of old)) (records_of new) older before told_before (same_schemas_grow old.schemas new.schemas same_schemas)
       (λ told table schema key there. records_then told table key)
-      (all_of (Keeps (IsTold old) (IsTold new) old.schemas new.schemas old.versions.kept_at new.versions.kept_at told_before
-      (same_schemas_grow old.schemas new.schemas same_schemas)) older
-      (λ l told kind former there. ap (λ (kept : ℕ → Option Kept). kept l.pointer) (same_kept told) ∙ there))
+      (λ told pointer found is. ap (λ (kept : ℕ → Option Kept). kept pointer) (same_kept told) ∙ is)
       (newest_stands (IsTold old) old.schemas (records_of old) old.versions.kept_at logged older change before place place_is log_is).1
 
   -- ---- what no row needs then
@@ -126,18 +117,8 @@ module _ (chains after : Chains) (old new : WorldState) (logged : Logged) (older
         (unneeded_without undo old.schemas newest.schema old.versions.kept_at (pairs_of old) (pairs_of new) has.coded stands_in chains
         (versions_before chains place) clustered leads (some_pointer kind has.before) apart)))
 
-  pub apart_then : PointersApart old → PointersApart new
-  apart_then apart told = apart_in told (apart (told_before told))
-
   kinds : (undo.kind ≡ 1) ⊎ (undo.kind ≡ 2)
   kinds = ⊎_elim (λ first. inl first.0) (λ second. inr second.0) tells.undo_is.kept
-
-  pub may_then : PointersApart old → MayBeCut logged older new
-  may_then apart = record {
-    kind_is = kinds;
-    unneeded = λ told kind. unneeded_in told kind (apart (told_before told));
-    elsewhere = λ told. newest.elsewhere (told_before told);
-  }
 
   pub to_cut_then : (s : ℕ) (session : Session) (work : Work) → LogsAgree old → IsAlone s old → HasWork s session work old → work.log ≡ logged ∷ older
       → IsToCut s logged older before new
@@ -146,13 +127,17 @@ module _ (chains after : Chains) (old new : WorldState) (logged : Logged) (older
     work = work;
     has_work = work_again s session work old new rest has_work;
     log_is = is;
-    may = may_then agree.apart;
+    may = record {
+      kind_is = kinds;
+      unneeded = λ told kind. unneeded_in told kind (agree.apart (told_before told));
+      elsewhere = λ told. newest.elsewhere (told_before told);
+    };
     logs = record {
       mine = log_then;
       others =
           λ u x w differs h. none_yet u w old new (alone u differs) (own_beside u old new rest ∙ alone u differs)
           (agree.each u x w (work_beside u x w old new rest h));
-      apart = apart_then agree.apart;
+      apart = λ told. apart_in told (agree.apart (told_before told));
     };
   } where
     rest : ChangesPairsAlone old new
@@ -160,11 +145,10 @@ module _ (chains after : Chains) (old new : WorldState) (logged : Logged) (older
 
 -- the session's own changes, as the history has them
 pub to_cut_by_history : (s : ℕ) (chains after : Chains) (old new : WorldState) (session : Session) (work : Work) (logged : Logged) (older : List Logged)
-    (change : Change) (before : List Change) (place : Place) (room next : WorkRoom)
-    → LogsAgree old → IsAlone s old → HasWork s session work old → work.log ≡ logged ∷ older → own s old.past ≡ change ∷ before → place_in old.schemas change
-    ≡ Some place
-    → IsPuttingBack chains place logged.undo room old → IsDone chains place logged.undo room next old new → Pops chains after place → IsToCut s logged older
-    before new
+    (change : Change) (before : List Change) (place : Place) (room next : WorkRoom) → LogsAgree old → IsAlone s old → HasWork s session work old
+    → work.log ≡ logged ∷ older → own s old.past ≡ change ∷ before → place_in old.schemas change ≡ Some place
+    → IsPuttingBack chains place logged.undo room old → IsDone chains place logged.undo room next old new → Pops chains after place
+    → IsToCut s logged older before new
 to_cut_by_history s chains after old new session work logged older change before place room next agree alone has_work is own_is place_is back done pops =
     let log =
     subst (λ (l : List Logged). IsLogOf old l (change ∷ before)) is

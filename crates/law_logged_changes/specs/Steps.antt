@@ -6,8 +6,7 @@ use Rattle.inno_model.specs.Past.{own}
 use Rattle.entries.specs.Index.{AreKept}
 use Rattle.row_versions.specs.Versions.{Stays}
 use Rattle.law_stored_rows.specs.Edits.{clustered_index}
-use Rattle.world.specs.State.{WorldState, Session, Work, Logged, HasWork}
-use Rattle.world.specs.Told.{IsTold, pairs_of}
+use Rattle.world.specs.{State.WorldState, State.Session, State.Work, State.Logged, State.HasWork, Told.IsTold, Told.pairs_of}
 use Rattle.row_changes.specs.{declared.record_change.RecordChange.RecordChange, Edits.change_of}
 use Rattle.law_logged_changes.specs.{Pointers.IsUnneeded, Logs.KeepElsewhere, Logs.IsLogOf, Logs.LogsAgreeBut}
 

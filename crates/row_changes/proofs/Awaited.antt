@@ -1,69 +1,225 @@
--- Who is awaited after the calls of a world's indexes.
-use Rattle.std.proofs.Common.{◌≡◌, ◌⊎◌, ◌+◌, ap, inl, inr, ⊎_elim, ℕ, ◌≤◌, List, Option, Some, None, sym, subst, ◌∙◌, arith}
-use Rattle.std.specs.Prelude.{◌<◌, length, slice_get, IfSome}
+-- What the calls of a world's indexes leave of its pairs, what may hinder them, and who is awaited afterwards.
+use Rattle.std.proofs.Common.{◌≡◌, ◌≢◌, ◌⊎◌, inr, ⊎_elim, ℕ, true, false, Option, Some, None, List, refl, sym, subst, inl, ◌∙◌, ◌+◌, ap, ◌≤◌, arith}
 use Rattle.std.proofs.lemmas.Bool.{cases_eq}
-use Rattle.inno_types.specs.{declared.value.Schema.Schema, declared.value.Value.Value}
-use Rattle.store_api.specs.{declared.answers.Undo.Undo, declared.moves.Move.Move}
+use Rattle.store_api.specs.{declared.moves.Move.Move, declared.answers.Undo.Undo}
 use Rattle.store_api.specs.declared.moves.Move.TheVariants.{At, End, Done, Step, Latch, Again, Full, TooDeep, Failed, Bad, NoMemory}
-use Rattle.entries.specs.{Index.Index, Calls.Delays, Calls.Inserts, Calls.Replaces}
-use Rattle.law_stored_rows.specs.Edits.{clustered_index, key_index}
-use Rattle.world.specs.{State.WorldState, State.Session, State.Work, Indexes.InIndex, Indexes.InsertsWith, Indexes.ReplacesWith}
+use Rattle.entries.specs.{Pairs.Pair, Pairs.value_of, Index.Index, Index.AreKept, Index.HasGone, Index.IsAsBefore}
+use Rattle.entries.specs.Calls.{Inserts, Replaces, Delays, IsKeptOff, Fetches, NextKeys, Removes}
+use Rattle.std.specs.Prelude.{IfSome, is_some, ◌<◌, length, slice_get}
+use Rattle.world.specs.Indexes.{InsertsWith, ReplacesWith, InIndex, Calls, Changes}
+use Rattle.world.specs.State.{WorldState, Session, Work}
+use Rattle.law_stored_rows.specs.Edits.{with_value, clustered_index, key_index}
+use Rattle.row_changes.specs.{Entries.IsThere, Entering.Enters, Rows.IsChangingRow, Rows.table_of, Pairs.RowsStay, Pairs.PutsPair, Pairs.Hinders}
+use Rattle.row_changes.specs.{declared.record_change.RecordChange.RecordChange, declared.row_change.RowChange.TheVariants.Record, Keys.IsChangingKeys}
+use Rattle.row_changes.specs.{declared.entry_put.EntryPut.EntryPut, declared.keys_change.KeysChange.KeysChange, declared.row_change.RowChange.RowChange}
+use Rattle.row_changes.specs.Awaited.{AwaitsAt, AwaitsIn, IsOfTable}
+use Rattle.inno_types.specs.{declared.value.Schema.Schema, declared.value.Value.Value}
 use Rattle.inno_db.specs.declared.change.Change.{Change}
 use Rattle.row_versions.specs.Chains.{Chains}
-use Rattle.row_changes.specs.{declared.record_change.RecordChange.RecordChange, declared.entry_put.EntryPut.EntryPut}
-use Rattle.row_changes.specs.{declared.keys_change.KeysChange.KeysChange, declared.key_entries.KeyEntries.KeyEntries, declared.row_change.RowChange.RowChange}
-use Rattle.row_changes.specs.{declared.row_change.RowChange.TheVariants.Record, Entering.Enters, KeyEntries.AreEntries, Keys.IsEntering, Keys.IsChangingKeys}
-use Rattle.row_changes.specs.{Rows.IsChangingRow, Rows.table_of, Awaited.AwaitsAt, Awaited.AwaitsIn, Awaited.IsOfTable}
+
+-- the pairs are kept, and each actor's place
+abbrev pub HasStayed : Index → Index → Type 0
+HasStayed old new = AreKept old.pairs new.pairs × (new.place ≡ old.place)
+
+-- where a step in one index has kept the places there, no place has changed anywhere
+pub places_if : {index : ℕ} {step : Index → Index → Type 0} {old new : WorldState} → InIndex index step old new
+    → (new.indexes index).place ≡ (old.indexes index).place → (i : ℕ) → (new.indexes i).place ≡ (old.indexes i).place
+places_if {index} {step} {old} {new} is kept i =
+    ⊎_elim (λ e. subst (λ k. (new.indexes k).place ≡ (old.indexes k).place) (sym e) kept) (λ other. (is.elsewhere i other).place) (cases_eq i index)
+
+-- where a step in one index has kept the pairs there, no pair has changed anywhere
+pub pairs_if : {index : ℕ} {step : Index → Index → Type 0} {old new : WorldState} → InIndex index step old new
+    → AreKept (old.indexes index).pairs (new.indexes index).pairs → (i : ℕ) → AreKept (old.indexes i).pairs (new.indexes i).pairs
+pairs_if {index} {step} {old} {new} is kept i =
+    ⊎_elim (λ e. subst (λ k. AreKept (old.indexes k).pairs (new.indexes k).pairs) (sym e) kept) (λ other. (is.elsewhere i other).pairs) (cases_eq i index)
+
+-- where the call has kept its index, no pair has changed anywhere, and no place
+pub stays_if : {index : ℕ} {call : Index → Index → Type 0} {old new : WorldState} → Calls index call old new
+    → HasStayed (old.indexes index) (new.indexes index) → RowsStay old new
+stays_if {index} {call} {old} {new} c kept =
+    record {
+      pairs = pairs_if c.index_is kept.0;
+      places = places_if c.index_is kept.1;
+      versions = c.beside.versions;
+      rest = c.beside.rest;
+      later = c.beside.later;
+    }
 
 -- who is awaited in an index was so before, or is this actor
 abbrev pub AwaitsHere : ℕ → Index → Index → Type 0
 AwaitsHere actor old new = (by : ℕ) → new.awaited ≡ Some by → (old.awaited ≡ Some by) ⊎ (by ≡ actor)
 
-same_here : (actor : ℕ) (old new : Index) → new.awaited ≡ old.awaited → AwaitsHere actor old new
-same_here actor old new same by is = inl (sym same ∙ is)
+-- what a call leaves that changes nothing
+abbrev pub IsLeft : ℕ → Index → Index → Type 0
+IsLeft actor old new = HasStayed old new × AwaitsHere actor old new
+
+as_before : (actor : ℕ) (old new : Index) → IsAsBefore old new → IsLeft actor old new
+as_before actor old new same = ((same.pairs, same.place), λ by is. inl (sym same.awaited ∙ is))
 
 none_here : (actor : ℕ) (old new : Index) → new.awaited ≡ None → AwaitsHere actor old new
 none_here actor old new none by is = absurd (cc)
 
-delay_here : (actor : ℕ) (old new : Index) (move : Move) → Delays actor old new move → AwaitsHere actor old new
-delay_here actor old new Step h = same_here actor old new h.all.awaited
-delay_here actor old new (Latch by) h = same_here actor old new h.all.awaited
-delay_here actor old new Again h = same_here actor old new h.all.awaited
-delay_here actor old new Failed h = same_here actor old new h.awaited
-delay_here actor old new (Bad page rule) h = same_here actor old new h.all.awaited
-delay_here actor old new other h = absurd h
+-- what a delay leaves
+delay_leaves : (actor : ℕ) (old new : Index) (move : Move) → Delays actor old new move → IsAsBefore old new
+delay_leaves actor old new Step h = h.all
+delay_leaves actor old new (Latch by) h = h.all
+delay_leaves actor old new Again h = h.all
+delay_leaves actor old new Failed h = record { pairs = h.pairs; place = h.place; awaited = h.awaited }
+delay_leaves actor old new (Bad page rule) h = h.all
+delay_leaves actor old new other h = absurd h
 
-insert_here : (actor : ℕ) (key value : List ℕ) (old new : Index) (move : Move) → Inserts actor key value old new move → AwaitsHere actor old new
-insert_here actor key value old new Done h = none_here actor old new h.2.awaited
-insert_here actor key value old new (At there kept) h = none_here actor old new h.3.awaited
-insert_here actor key value old new (Latch by) h =
-    ⊎_elim (λ off. same_here actor old new off.all.awaited) (λ delay. same_here actor old new delay.all.awaited) h
-insert_here actor key value old new NoMemory h = same_here actor old new h.1.awaited
-insert_here actor key value old new (Full need free) h = same_here actor old new h.all.awaited
-insert_here actor key value old new TooDeep h = same_here actor old new h.all.awaited
-insert_here actor key value old new other h = delay_here actor old new other h
+delay_keeps : (actor : ℕ) (old new : Index) (move : Move) → Delays actor old new move → HasStayed old new
+delay_keeps actor old new move h = let same = delay_leaves actor old new move h in (same.pairs, same.place)
+
+pub delay_hinders : (actor : ℕ) (old new : Index) (move : Move) → Delays actor old new move → Hinders actor old new move
+delay_hinders actor old new Step h = h
+delay_hinders actor old new (Latch by) h = inr h
+delay_hinders actor old new Again h = h
+delay_hinders actor old new Failed h = h
+delay_hinders actor old new (Bad page rule) h = h
+delay_hinders actor old new other h = absurd h
+
+-- what one leaves, or who is kept off by another actor
+off_leaves : (actor by : ℕ) (old new : Index) → IsKeptOff actor by old new ⊎ Delays actor old new (Latch by) → IsAsBefore old new
+off_leaves actor by old new (inl off) = off.all
+off_leaves actor by old new (inr delay) = delay.all
+
+off_keeps : (actor by : ℕ) (old new : Index) → IsKeptOff actor by old new ⊎ Delays actor old new (Latch by) → HasStayed old new
+off_keeps actor by old new h = let same = off_leaves actor by old new h in (same.pairs, same.place)
+
+-- ---- calls that change nothing
+
+-- an answer of fetch but Done and End
+pub fetch_delays : (actor : ℕ) (key read : List ℕ) (old new : Index) (move : Move) → Fetches actor key read old new move → move ≢ Done → move ≢ End
+    → Delays actor old new move
+fetch_delays actor key read old new Done h not_done not_end = absurd (not_done refl)
+fetch_delays actor key read old new End h not_done not_end = absurd (not_end refl)
+fetch_delays actor key read old new other h not_done not_end = h
+
+pub fetch_keeps : (actor : ℕ) (key read : List ℕ) (old new : Index) (move : Move) → Fetches actor key read old new move → HasStayed old new
+fetch_keeps actor key read old new Done h = (h.1.pairs, h.1.place)
+fetch_keeps actor key read old new End h = (h.1.pairs, h.1.place)
+fetch_keeps actor key read old new other h = delay_keeps actor old new other h
+
+pub next_key_keeps : (actor : ℕ) (key read : List ℕ) (old new : Index) (move : Move) → NextKeys actor key read old new move → HasStayed old new
+next_key_keeps actor key read old new Done h = (h.2.pairs, h.2.place)
+next_key_keeps actor key read old new End h = (h.2.pairs, h.2.place)
+next_key_keeps actor key read old new (Latch by) h = off_keeps actor by old new h
+next_key_keeps actor key read old new other h = delay_keeps actor old new other h
+
+-- ---- changes
+
+-- a change that brings no undo record
+pub puts_if : {index actor : ℕ} {call : Index → Index → Move → Type 0} {old new : WorldState} {answer : Move} {holder : Option ℕ} (key : List ℕ)
+    (value : Option (List ℕ)) → Changes index actor None call old new answer
+    → HasGone (λ before after. after ≡ with_value key value before) holder (old.indexes index) (new.indexes index) → PutsPair index key value old new
+puts_if key value c here =
+    record {
+      here = here.pairs;
+      elsewhere = λ other differs. (c.index_is.elsewhere other differs).pairs;
+      places = places_if c.index_is here.place;
+      versions = c.beside.versions;
+      rest = c.beside.rest;
+      later = c.beside.later;
+    }
+
+pub change_stays_if : {index actor : ℕ} {call : Index → Index → Move → Type 0} {old new : WorldState} {answer : Move}
+    → Changes index actor None call old new answer → HasStayed (old.indexes index) (new.indexes index) → RowsStay old new
+change_stays_if {index} {actor} {call} {old} {new} c kept = stays_if (record { index_is = c.index_is; beside = c.beside }) kept
+
+-- what is known of the key and what was answered contradict each other, so the pairs aren't told
+not_told : (P Q : List Pair → Type 0) (pairs : Option (List Pair)) → ((list : List Pair) → P list → Q list → ⊥) → IfSome pairs P → IfSome pairs Q
+    → pairs ≡ None
+not_told P Q None apart known answered = refl
+not_told P Q (Some list) apart known answered = absurd (apart list known answered)
+
+-- ---- insert
+
+insert_alone : (actor : ℕ) (key value : List ℕ) (old new : Index) (move : Move) → Inserts actor key value old new move → move ≢ Done → IsLeft actor old new
+insert_alone actor key value old new Done h not_done = absurd (not_done refl)
+insert_alone actor key value old new (At there kept) h not_done = ((h.3.pairs, h.3.place), none_here actor old new h.3.awaited)
+insert_alone actor key value old new (Latch by) h not_done = as_before actor old new (off_leaves actor by old new h)
+insert_alone actor key value old new NoMemory h not_done = as_before actor old new h.1
+insert_alone actor key value old new (Full need free) h not_done = as_before actor old new h.all
+insert_alone actor key value old new TooDeep h not_done = as_before actor old new h.all
+insert_alone actor key value old new other h not_done = as_before actor old new (delay_leaves actor old new other h)
+
+pub insert_leaves : (undo : Option Undo) (actor : ℕ) (key value : List ℕ) (old new : Index) (move : Move) → InsertsWith undo actor key value old new move
+    → move ≢ Done → IsLeft actor old new
+insert_leaves None actor key value old new move h not_done = insert_alone actor key value old new move h not_done
+insert_leaves (Some undo) actor key value old new NoMemory h not_done = as_before actor old new h
+insert_leaves (Some undo) actor key value old new other h not_done = insert_alone actor key value old new other h not_done
 
 pub insert_with_here : (undo : Option Undo) (actor : ℕ) (key value : List ℕ) (old new : Index) (move : Move)
     → InsertsWith undo actor key value old new move → AwaitsHere actor old new
-insert_with_here None actor key value old new move h = insert_here actor key value old new move h
-insert_with_here (Some undo) actor key value old new NoMemory h = same_here actor old new h.awaited
-insert_with_here (Some undo) actor key value old new other h = insert_here actor key value old new other h
+insert_with_here None actor key value old new Done h = none_here actor old new h.2.awaited
+insert_with_here (Some undo) actor key value old new Done h = none_here actor old new h.2.awaited
+insert_with_here undo actor key value old new other h = (insert_leaves undo actor key value old new other h (λ e. cc)).1
 
-replace_here : (actor : ℕ) (key value : List ℕ) (old new : Index) (move : Move) → Replaces actor key value old new move → AwaitsHere actor old new
-replace_here actor key value old new Done h = same_here actor old new h.1.awaited
-replace_here actor key value old new End h = same_here actor old new h.1.awaited
-replace_here actor key value old new NoMemory h = same_here actor old new h.1.awaited
-replace_here actor key value old new (Full need free) h = same_here actor old new h.1.all.awaited
-replace_here actor key value old new TooDeep h = same_here actor old new h.1.all.awaited
-replace_here actor key value old new other h = delay_here actor old new other h
+-- where the key was not there
+insert_hinders_alone : (actor : ℕ) (key value : List ℕ) (old new : Index) (move : Move) → IsThere false key old → Inserts actor key value old new move
+    → move ≢ Done → Hinders actor old new move
+insert_hinders_alone actor key value old new Done absent h not_done = absurd (not_done refl)
+insert_hinders_alone actor key value old new (At there kept) absent h not_done =
+    not_told (λ pairs. is_some (value_of key pairs) ≡ false) (λ pairs. value_of key pairs ≡ Some kept) old.pairs (λ pairs none some. cc) absent h.2
+insert_hinders_alone actor key value old new NoMemory absent h not_done = record {}
+insert_hinders_alone actor key value old new End absent h not_done = absurd h
+insert_hinders_alone actor key value old new other absent h not_done = h
+
+pub insert_hinders : (undo : Option Undo) (actor : ℕ) (key value : List ℕ) (old new : Index) (move : Move) → IsThere false key old
+    → InsertsWith undo actor key value old new move → move ≢ Done → Hinders actor old new move
+insert_hinders None actor key value old new move absent h not_done = insert_hinders_alone actor key value old new move absent h not_done
+insert_hinders (Some undo) actor key value old new NoMemory absent h not_done = record {}
+insert_hinders (Some undo) actor key value old new other absent h not_done = insert_hinders_alone actor key value old new other absent h not_done
+
+-- ---- replace
+
+replace_alone : (actor : ℕ) (key value : List ℕ) (old new : Index) (move : Move) → Replaces actor key value old new move → move ≢ Done → IsLeft actor old new
+replace_alone actor key value old new Done h not_done = absurd (not_done refl)
+replace_alone actor key value old new End h not_done = as_before actor old new h.1
+replace_alone actor key value old new NoMemory h not_done = as_before actor old new h.1
+replace_alone actor key value old new (Full need free) h not_done = as_before actor old new h.1.all
+replace_alone actor key value old new TooDeep h not_done = as_before actor old new h.1.all
+replace_alone actor key value old new other h not_done = as_before actor old new (delay_leaves actor old new other h)
+
+pub replace_leaves : (undo : Option Undo) (actor : ℕ) (key value : List ℕ) (old new : Index) (move : Move) → ReplacesWith undo actor key value old new move
+    → move ≢ Done → IsLeft actor old new
+replace_leaves None actor key value old new move h not_done = replace_alone actor key value old new move h not_done
+replace_leaves (Some undo) actor key value old new NoMemory h not_done = as_before actor old new h
+replace_leaves (Some undo) actor key value old new other h not_done = replace_alone actor key value old new other h not_done
 
 pub replace_with_here : (undo : Option Undo) (actor : ℕ) (key value : List ℕ) (old new : Index) (move : Move)
     → ReplacesWith undo actor key value old new move → AwaitsHere actor old new
-replace_with_here None actor key value old new move h = replace_here actor key value old new move h
-replace_with_here (Some undo) actor key value old new NoMemory h = same_here actor old new h.awaited
-replace_with_here (Some undo) actor key value old new other h = replace_here actor key value old new other h
+replace_with_here None actor key value old new Done h = λ by is. inl (sym h.1.awaited ∙ is)
+replace_with_here (Some undo) actor key value old new Done h = λ by is. inl (sym h.1.awaited ∙ is)
+replace_with_here undo actor key value old new other h = (replace_leaves undo actor key value old new other h (λ e. cc)).1
 
--- ---- of a world
+-- where the key was there
+replace_hinders_alone : (actor : ℕ) (key value : List ℕ) (old new : Index) (move : Move) → IsThere true key old → Replaces actor key value old new move
+    → move ≢ Done → Hinders actor old new move
+replace_hinders_alone actor key value old new Done there h not_done = absurd (not_done refl)
+replace_hinders_alone actor key value old new End there h not_done =
+    not_told (λ pairs. is_some (value_of key pairs) ≡ true) (λ pairs. value_of key pairs ≡ None) old.pairs (λ pairs some none. cc) there h.0
+replace_hinders_alone actor key value old new (Full need free) there h not_done = h.1
+replace_hinders_alone actor key value old new TooDeep there h not_done = h.1
+replace_hinders_alone actor key value old new NoMemory there h not_done = record {}
+replace_hinders_alone actor key value old new other there h not_done = delay_hinders actor old new other h
+
+pub replace_hinders : (undo : Option Undo) (actor : ℕ) (key value : List ℕ) (old new : Index) (move : Move) → IsThere true key old
+    → ReplacesWith undo actor key value old new move → move ≢ Done → Hinders actor old new move
+replace_hinders None actor key value old new move there h not_done = replace_hinders_alone actor key value old new move there h not_done
+replace_hinders (Some undo) actor key value old new NoMemory there h not_done = record {}
+replace_hinders (Some undo) actor key value old new other there h not_done = replace_hinders_alone actor key value old new other there h not_done
+
+-- ---- remove
+
+pub remove_keeps : (actor : ℕ) (key : List ℕ) (old new : Index) (move : Move) → Removes actor key old new move → move ≢ Done → HasStayed old new
+remove_keeps actor key old new Done h not_done = absurd (not_done refl)
+remove_keeps actor key old new End h not_done = (h.2.pairs, h.2.place)
+remove_keeps actor key old new (Latch by) h not_done = off_keeps actor by old new h
+remove_keeps actor key old new other h not_done = delay_keeps actor old new other h
+
+-- ---- who is awaited after the calls of a world's indexes
 
 -- what holds in the index of the call holds of the world
 pub awaits_at : (actor index : ℕ) (step : Index → Index → Type 0) (old new : WorldState) → InIndex index step old new
@@ -76,15 +232,6 @@ awaits_at actor index step old new in_index here = record { each = go }
         (here by (subst (λ (k : ℕ). (new.indexes k).awaited ≡ Some by) at is)))
         (λ apart. inl (sym (in_index.elsewhere i apart).awaited ∙ is)) (cases_eq i index)
 
--- no index was called
-pub awaits_same : (actor index : ℕ) (old new : WorldState) → new.indexes ≡ old.indexes → AwaitsAt actor index old new
-awaits_same actor index old new same = record { each = λ i by is. inl (ap (λ (indexes : ℕ → Index). (indexes i).awaited) (sym same) ∙ is) }
-
--- a step that calls no index more
-pub awaits_then : (actor index : ℕ) (old mid new : WorldState) → AwaitsAt actor index old mid → new.indexes ≡ mid.indexes → AwaitsAt actor index old new
-awaits_then actor index old mid new awaits same =
-    record { each = λ i by is. awaits.each i by (ap (λ (indexes : ℕ → Index). (indexes i).awaited) (sym same) ∙ is) }
-
 -- where the index is one of the table
 pub awaits_in : (actor index table : ℕ) (old new : WorldState) → IsOfTable table old.schemas index → AwaitsAt actor index old new → AwaitsIn actor table old new
 awaits_in actor index table old new of_table awaits =
@@ -93,13 +240,16 @@ awaits_in actor index table old new of_table awaits =
           (awaits.each i by is);
     }
 
+-- no index was called
+pub awaits_same : (actor index : ℕ) (old new : WorldState) → new.indexes ≡ old.indexes → AwaitsAt actor index old new
+awaits_same actor index old new same = record { each = λ i by is. inl (ap (λ (indexes : ℕ → Index). (indexes i).awaited) (sym same) ∙ is) }
+
 pub awaits_none_in : (actor table : ℕ) (state : WorldState) → AwaitsIn actor table state state
 awaits_none_in actor table state = record { each = λ i by is. inl is }
 
 pub clustered_of_table : (table : ℕ) (schemas : List Schema) (schema : Schema) → slice_get schemas table ≡ Some schema
     → IsOfTable table schemas (clustered_index table)
-clustered_of_table table schemas schema there =
-    record { schema = schema; there = there; which = 0; within = omega arith; number = omega arith }
+clustered_of_table table schemas schema there = record { schema = schema; there = there; which = 0; within = omega arith; number = omega arith }
 
 pub key_of_table : (table which : ℕ) (schemas : List Schema) (schema : Schema) → slice_get schemas table ≡ Some schema
     → which + 1 ≤ length schema.keys → IsOfTable table schemas (key_index table which)
@@ -107,25 +257,17 @@ key_of_table table which schemas schema there within =
     record { schema = schema; there = there; which = 1 + which; within = omega arith; number = omega arith }
 
 -- the index is that of a key
-key_awaits : (actor index table which : ℕ) (old new : WorldState) (schema : Schema) → slice_get old.schemas table ≡ Some schema → which < length schema.keys
-    → index ≡ key_index table which → AwaitsAt actor index old new → AwaitsIn actor table old new
-key_awaits actor index table which old new schema there within is awaits =
-    awaits_in actor index table old new
-    (subst (λ (k : ℕ). IsOfTable table old.schemas k) (sym is) (key_of_table table which old.schemas schema there (omega (arith, within)))) awaits
+pub key_awaits : (actor index which : ℕ) (old new : WorldState) (change : KeysChange) (chains : Chains) (is : IsChangingKeys chains old change)
+    → which < length is.schema.keys → index ≡ key_index change.table which → AwaitsAt actor index old new → AwaitsIn actor change.table old new
+key_awaits actor index which old new change chains is within number awaits =
+    awaits_in actor index change.table old new
+    (rw number (key_of_table change.table which old.schemas is.schema is.table.there (omega (arith, within)))) awaits
 
 -- the entry that is being put stands in an index of the table
 pub put_awaits : (chains : Chains) (actor : ℕ) (old new : WorldState) (change : KeysChange) (put : EntryPut) → change.put ≡ Some put
     → IsChangingKeys chains old change → AwaitsAt actor put.index old new → AwaitsIn actor change.table old new
-put_awaits chains actor old new change put at is awaits =
-    let Enters : Option EntryPut → Type 0 = λ mine. IfSome mine (IsEntering is.schema change.table change.which change.after change.key old) in
-    let e : Enters (Some put) = subst Enters at is.put in
-    key_awaits actor put.index change.table change.which old new is.schema is.table.there e.within e.index_is awaits
-
-pub mark_awaits : (chains : Chains) (actor index : ℕ) (old new : WorldState) (change : KeysChange) (entries : KeyEntries)
-    → (is : IsChangingKeys chains old change) → AreEntries is.schema change.which change.before change.after change.key entries
-    → index ≡ key_index change.table entries.which → AwaitsAt actor index old new → AwaitsIn actor change.table old new
-mark_awaits chains actor index old new change entries is are number awaits =
-    key_awaits actor index change.table entries.which old new is.schema is.table.there are.within number awaits
+put_awaits chains actor old new change put put_is is awaits =
+    let e = rw put_is at is.put in key_awaits actor put.index change.which old new change chains is e.within e.index_is awaits
 
 -- a change that is at its record
 pub record_awaits_at : (chains : Chains) (s : ℕ) (old new : WorldState) (mine : RowChange) (change : RecordChange) (key : List ℕ) (after : Option (List Value))
@@ -135,8 +277,10 @@ record_awaits_at chains s old new mine change key after at is awaits =
     (λ holds. awaits_in s (clustered_index change.table) change.table old new
     (clustered_of_table change.table old.schemas holds.0.schema holds.0.table.there) awaits) is
 
--- a record that was put, and then the entry of the history
+-- a record that was put, and then the entry of the history, which calls no index
 pub entered_awaits : (s index : ℕ) (step : Index → Index → Type 0) (old mid new : WorldState) (change : Change) (rows : ℕ) (session : Session) (work : Work)
     → InIndex index step old mid → AwaitsHere s (old.indexes index) (mid.indexes index) → Enters s change rows session work mid new → AwaitsAt s index old new
-entered_awaits s index step old mid new change rows session work in_index here enters =
-    awaits_then s index old mid new (awaits_at s index step old mid in_index here) (ap (λ (state : WorldState). state.indexes) enters.rest)
+entered_awaits s index step old mid new change rows session work in_index here enters = record {
+  each = λ i by is.
+      (awaits_at s index step old mid in_index here).each i by (ap (λ (state : WorldState). (state.indexes i).awaited) (sym enters.rest) ∙ is);
+}

@@ -1,29 +1,39 @@
--- What stays known of a record that is being changed.
+-- What stays known of a record that is being changed, what its steps do, and what is there once it stands.
 use Rattle.std.proofs.Common.{◌≡◌, ◌≢◌, ◌⊎◌, inl, inr, ⊎_elim, ℕ, ◌<◌, true, false, List, Option, Some, None, refl, sym, ap, subst, ◌∙◌, arith, cond, Bool}
-use Rattle.std.specs.Prelude.{slice_get, IfSome, is_some, Ok, Err, slice_set, length}
-use Rattle.std.proofs.lemmas.Bool.{cases_eq}
-use Rattle.inno_types.specs.{declared.value.Value.Value, declared.value.Schema.Schema}
-use Rattle.entries.specs.{Pairs.Pair, Pairs.value_of, Index.Index, Index.Told, Index.Goes, Index.AreKept, Calls.Fetches}
-use Rattle.law_stored_rows.specs.{Edits.clustered_index, Records.IsCodeOf}
-use Rattle.std.proofs.lemmas.List.{length-set}
-use Rattle.row_versions.specs.Versions.{Stays}
-use Rattle.world.specs.State.{WorldState, Session, Work, IsSession, with_session}
-use Rattle.world.specs.{Stores.StoreGoes, Indexes.Calls, Undoing.IsReady, Undoing.IsUnchanged, Undoing.MakesRoom, Sessions.with_room}
+use Rattle.std.proofs.Common.{◌+◌, ◌≤◌, ◌∷◌, [], ◌^◌}
+use Rattle.std.specs.Prelude.{slice_get, IfSome, is_some, Ok, Err, length}
+use Rattle.std.proofs.lemmas.{Bool.cases_eq, List.length-set}
+use Rattle.inno_types.specs.{declared.value.Value.Value, declared.value.Schema.Schema, declared.value.Column.Column}
+use Rattle.entries.specs.{Index.Index, Index.Told, Index.Goes, Index.AreKept, Index.HasGone, Calls.Fetches, Calls.is_done, Calls.Inserts}
+use Rattle.entries.specs.Pairs.{Pair, value_of}
+use Rattle.law_stored_rows.specs.{Edits.clustered_index, Edits.with_value, Records.IsCodeOf, Records.row_shown, Storable.IsStorable}
+use Rattle.world.specs.{Stores.StoreGoes, Undoing.IsReady, Undoing.IsUnchanged, Undoing.MakesRoom, Sessions.with_room}
+use Rattle.world.specs.State.{WorldState, Session, Work, IsSession, with_session, IsIndex, HasWork}
+use Rattle.world.specs.Indexes.{InIndex, KeepsAsSaid, Calls, MayLog, IsLogged, Changes, Brings, StaysBeside, InsertsWith, ReplacesWith}
 use Rattle.world.proofs.Stores.{store_stays}
-use Rattle.row_changes.proofs.Worlds.{stays_if}
 use Rattle.txn_table.specs.Txns.{Txns, is_there, id_at}
-use Rattle.row_changes.specs.{declared.record_change.RecordChange.RecordChange, declared.record_change.RecordStage.RecordStage, Coding.Decodes}
-use Rattle.row_changes.specs.{Asides.IsReadied, Asides.StepsAside, Entries.IsThere, Pairs.RowsStay, Pairs.Hinders, declared.row_edit.RowEdit.RowEdit}
-use Rattle.row_changes.specs.{declared.row_edit.RowEdit.TheVariants.Put, declared.row_edit.RowEdit.TheVariants.Remove, Edits.IsPut, Edits.FindsRow}
-use Rattle.row_changes.specs.{Edits.HasNoRow, Edits.LacksRow, declared.record_change.RecordReached.TheVariants.Went}
-use Rattle.row_changes.specs.{declared.record_change.RecordReached.TheVariants.Hindered}
+use Rattle.row_changes.specs.{declared.record_change.RecordChange.RecordChange, declared.record_change.RecordStage.RecordStage, Entries.IsPutting}
+use Rattle.row_changes.specs.{declared.row_edit.RowEdit.RowEdit, Entering.Enters, Entries.IsThere, Entries.PutsEntry, Asides.IsReadied, Asides.StepsAside}
+use Rattle.row_changes.specs.{declared.entry_put.EntryPut.EntryPut, declared.row_edit.RowEdit.TheVariants.Put, declared.row_edit.RowEdit.TheVariants.Remove}
+use Rattle.row_changes.specs.Pairs.{RowsStay, Hinders}
+use Rattle.row_changes.specs.Records.{Decodes, PutsFirst, PutsOver, IsListed, IsFormer, StageHolds, IsChangingRecord, GoesOnWithRecord, HindersRecord}
+use Rattle.row_changes.specs.Records.{IsSpoiled, ChangesRecord, record_steps, when_missed, when_found, HasRoom, Records, id_for, undo_of_new, undo_of_former}
+use Rattle.row_changes.specs.Records.{row_found}
+use Rattle.row_changes.specs.Edits.{IsPut, FindsRow, HasNoRow, LacksRow, change_of, rows_put, FitsEdit, version_by}
+use Rattle.row_changes.specs.declared.record_change.RecordReached.TheVariants.{Went, Hindered, Recorded}
 use Rattle.row_changes.specs.declared.record_change.RecordStage.TheVariants.{Enter, Room, Find, Insert, Replace}
-use Rattle.store_api.specs.{declared.answers.Version.Version, declared.moves.Move.Move}
-use Rattle.row_codec.specs.Rows.{IsRecordOf}
-use Rattle.row_changes.specs.Records.{IsListed, IsFormer, StageHolds, IsChangingRecord, GoesOnWithRecord, HindersRecord, IsSpoiled, ChangesRecord}
-use Rattle.row_changes.specs.Records.{record_steps, when_missed, when_found}
+use Rattle.store_api.specs.{declared.answers.Version.Version, declared.moves.Move.Move, declared.answers.Undo.Undo}
+use Rattle.row_codec.specs.Rows.{IsRecordOf, version_code, IsRowOf, IsKeyOf}
+use Rattle.row_changes.proofs.{Ids.one_work}
+use Rattle.row_changes.proofs.Sessions.{one_session, aside_of_stay, same_pairs, same_versions, set_here, set_other, one_found}
+use Rattle.row_changes.proofs.Awaited.{HasStayed, places_if, stays_if, change_stays_if, insert_leaves, insert_hinders, replace_leaves, replace_hinders}
+use Rattle.inno_db.specs.declared.change.Change.{Change}
+use Rattle.law_stored_rows.proofs.Coding.{short_key, short_value}
+use Rattle.key_codec.specs.Keys.{key_width}
+use Rattle.key_codec.proofs.Lengths.{length-key_code}
 use Rattle.store_api.specs.declared.moves.Move.TheVariants as moves
-use Rattle.row_changes.proofs.Sessions.{one_session, aside_of_stay, same_pairs, same_versions, set_here, set_other}
+use Rattle.row_changes.specs.declared.reached.Reached.TheVariants as reached
+use Rattle.row_changes.specs.declared.entry_put.PutPhase.TheVariants as phases
 
 -- what is told of pairs stays told, if pairs are told still
 pub told_kept : (P : List Pair → Type 0) (old new : Index) → AreKept old.pairs new.pairs → Told P old → Told P new
@@ -66,34 +76,24 @@ stage_kept Insert schema edit key session old new kept holds = (holds.0, holds.1
 stage_kept (Replace before bytes) schema edit key session old new kept holds =
     (holds.0, holds.1, record { there = told_kept _ old new kept holds.2.there; code_is = holds.2.code_is })
 
--- what stays of all else
-pub same_rest : (old new : WorldState) (after : Session) (s : ℕ) → new.sessions ≡ slice_set old.sessions s after → new.indexes ≡ old.indexes
-    → new.versions ≡ old.versions
-    → record (with_session s after old) { paged = new.paged } ≡ record old
-    { indexes = new.indexes; versions = new.versions; paged = new.paged; sessions = new.sessions }
-same_rest old new after s sessions indexes versions = cc
-
 -- a session alone is another, and what is known of pages
 abbrev pub readied_in_pages : (s : ℕ) (before after : Session) (old new : WorldState) → IsSession s before old → IsReadied before after
     → new ≡ record (with_session s after old) { paged = new.paged } → StoreGoes old.paged new.paged → StepsAside s old new
 readied_in_pages s before after old new there readied is later =
-    let sessions = ap (λ (state : WorldState). state.sessions) is in
-    record {
-      pairs =
-          λ index. subst (λ (state : WorldState). AreKept (old.indexes index).pairs (state.indexes index).pairs) (sym is)
-          (same_pairs (old.indexes index).pairs);
-      places = λ index. ap (λ (state : WorldState). (state.indexes index).place) is;
-      versions = subst (λ (state : WorldState). Stays old.versions state.versions) (sym is) (same_versions old.versions);
+    rw is (record {
+      pairs = λ index. same_pairs (old.indexes index).pairs;
+      places = λ index. refl;
+      versions = same_versions old.versions;
       before = before;
       after = after;
       was = there;
-      is = ap (λ (xs : List Session). slice_get xs s) sessions ∙ set_here old.sessions s before after there;
+      is = set_here old.sessions s before after there;
       readied = readied;
-      others = λ t differs. ap (λ (xs : List Session). slice_get xs t) sessions ∙ set_other old.sessions s t after differs;
-      count = ap length sessions ∙ length-set old.sessions s after;
-      rest = is ∙ same_rest old new after s sessions (ap (λ (state : WorldState). state.indexes) is) (ap (λ (state : WorldState). state.versions) is);
+      others = λ t differs. set_other old.sessions s t after differs;
+      count = length-set old.sessions s after;
+      rest = refl;
       later = later;
-    }
+    })
 
 pub unchanged_stays : (old new : WorldState) → IsUnchanged old new → RowsStay old new
 unchanged_stays old new same =
@@ -186,28 +186,25 @@ module _ (s : ℕ) (old new : WorldState) (change : RecordChange) (p : IsChangin
         nears = subst (λ st. record_steps stage < record_steps st) (sym at) nears;
       }
 
+  -- the session has other rooms
+  abbrev readied : (after : Session) → IsReadied p.session after → new ≡ record (with_session s after old) { paged = new.paged } → StoreGoes old.paged new.paged
+      → StepsAside s old new
+  readied after = readied_in_pages s p.session after old new p.has_work.session_is
+
   -- the history has room for the entry
   pub entered : change.stage ≡ Enter → new ≡ with_room s p.session old → GoesOnWithRecord s old new change (record change { stage = Room })
   entered at is =
-      let after = record p.session { can_begin = true; can_change = true } in
-      let paged = ap (λ (state : WorldState). state.paged) is in
-      let aside =
-      readied_in_pages s p.session after old new p.has_work.session_is (record { setting = refl; work = refl; can_reply = refl; can_ack = refl })
-      (is ∙ ap (λ pages. record (with_session s after old) { paged = pages }) (sym paged)) (subst (StoreGoes old.paged) (sym paged) (store_stays old.paged)) in
-      goes_on Enter Room aside at refl (omega arith)
+      goes_on Enter Room
+      (readied (record p.session { can_begin = true; can_change = true }) (record { setting = refl; work = refl; can_reply = refl; can_ack = refl }) (rw is)
+      (rw is (store_stays old.paged))) at refl (omega arith)
 
   -- its log has room for the undo record
   pub room_made : change.stage ≡ Room → IsReady s 1098 old new → GoesOnWithRecord s old new change (record change { stage = Find })
   room_made at ready =
-      let same = one_session old s ready.session p.session ready.session_is p.has_work.session_is in
-      let after = record p.session { undo_room = 1098; next_pointer = ready.pointer } in
-      let is =
-      subst (λ (x : Session). new ≡ record (with_session s (record x { undo_room = 1098; next_pointer = ready.pointer }) old) { paged = new.paged }) same
-      ready.rest in
-      let aside =
-      readied_in_pages s p.session after old new p.has_work.session_is (record { setting = refl; work = refl; can_reply = refl; can_ack = refl }) is
-      ready.later in
-      goes_on Room Find aside at (record { entry = stage_at s old change p Room at; leads = ready.leads; undo = omega arith }) (omega arith)
+      let is = rw (one_session old s ready.session p.session ready.session_is p.has_work.session_is) at ready.rest in
+      goes_on Room Find
+      (readied (record p.session { undo_room = 1098; next_pointer = ready.pointer }) (record { setting = refl; work = refl; can_reply = refl; can_ack = refl })
+      is ready.later) at (record { entry = stage_at s old change p Room at; leads = ready.leads; undo = omega arith }) (omega arith)
 
   -- a call that hinders leaves what is known
   pub hindered : (why : Move) → RowsStay old new → HindersRecord s change p.schema old new why → ChangesRecord s old new change (Hindered change why)
@@ -225,8 +222,7 @@ module _ (s : ℕ) (old new : WorldState) (change : RecordChange) (p : IsChangin
 
   -- no row is there that could be removed
   lacks_row : (edit : RowEdit) → change.edit ≡ edit → RowsStay old new
-      → LacksRow edit p.schema change.key (old.indexes (clustered_index change.table)) moves.End
-      → ChangesRecord s old new change (Hindered change moves.End)
+      → LacksRow edit p.schema change.key (old.indexes (clustered_index change.table)) moves.End → ChangesRecord s old new change (Hindered change moves.End)
   lacks_row edit edit_is stay lacks =
       hindered moves.End stay
       (inr (inr (inr (subst (λ e. LacksRow e p.schema change.key (old.indexes (clustered_index change.table)) moves.End) (sym edit_is) lacks))))
@@ -243,7 +239,7 @@ module _ (s : ℕ) (old new : WorldState) (change : RecordChange) (p : IsChangin
       let i = clustered_index change.table in
       lacks_row (Remove value) edit_is stay
       (told_only (λ pairs. value_of change.key pairs ≡ None) (λ pairs. HasNoRow p.schema change.key (value_of change.key pairs)) (old.indexes i) none
-      (λ pairs is. subst (HasNoRow p.schema change.key) (sym is) (record {})))
+      (λ pairs is. rw is (record {})))
 
   -- a version is there
   found : (edit : RowEdit) (before : Version) (bytes : List ℕ) → change.stage ≡ Find → change.edit ≡ edit → RowsStay old new
@@ -265,8 +261,7 @@ module _ (s : ℕ) (old new : WorldState) (change : RecordChange) (p : IsChangin
       by_mark value true removes is =
           lacks_row (Remove value) removes stay
           (told_only (λ pairs. value_of change.key pairs ≡ Some bytes) (λ pairs. HasNoRow p.schema change.key (value_of change.key pairs))
-          (old.indexes (clustered_index change.table)) there
-          (λ pairs found_is. subst (HasNoRow p.schema change.key) (sym found_is) (before, code, is)))
+          (old.indexes (clustered_index change.table)) there (λ pairs found_is. subst (HasNoRow p.schema change.key) (sym found_is) (before, code, is)))
       by_mark value false removes is = finds (subst (λ e. FindsRow e before) (sym removes) is)
 
       on : (e : RowEdit) → change.edit ≡ e → ChangesRecord s old new change (when_found e before bytes change)
@@ -286,19 +281,16 @@ module _ (s : ℕ) (old new : WorldState) (change : RecordChange) (p : IsChangin
       let stay = stays_if c (c.index_is.here.1.pairs, c.index_is.here.1.place) in
       found change.edit before read at refl stay c.index_is.here.0 (decodes p.schema (there_still stay))
 
-  pub not_decoded : (why : Move) (read : List ℕ)
-      → Calls (clustered_index change.table) (λ b a. Fetches s change.key read b a moves.Done) old new
+  pub not_decoded : (why : Move) (read : List ℕ) → Calls (clustered_index change.table) (λ b a. Fetches s change.key read b a moves.Done) old new
       → ((schema : Schema) → slice_get new.schemas change.table ≡ Some schema → Decodes schema change.key read (Err why))
       → ChangesRecord s old new change (Hindered change why)
   not_decoded why read c decodes =
       let i = clustered_index change.table in
       let stay = stays_if c (c.index_is.here.1.pairs, c.index_is.here.1.place) in
-      hindered why stay
-      (⊎_elim (λ h. inl h) (λ h. inr (inr (inl h)))
+      hindered why stay (⊎_elim (λ h. inl h) (λ h. inr (inr (inl h)))
       (spoiled p.schema change.key read (old.indexes i) why s (new.indexes i) c.index_is.here.0 (decodes p.schema (there_still stay))))
 
-  pub looked_up_none : (read : List ℕ) → change.stage ≡ Find
-      → Calls (clustered_index change.table) (λ b a. Fetches s change.key read b a moves.End) old new
+  pub looked_up_none : (read : List ℕ) → change.stage ≡ Find → Calls (clustered_index change.table) (λ b a. Fetches s change.key read b a moves.End) old new
       → ChangesRecord s old new change (when_missed change.edit change)
   looked_up_none read at c = missed change.edit at refl (stays_if c (c.index_is.here.1.pairs, c.index_is.here.1.place)) c.index_is.here.0
 
@@ -306,3 +298,250 @@ module _ (s : ℕ) (old new : WorldState) (change : RecordChange) (p : IsChangin
 pub lacks_memory : (s : ℕ) (state : WorldState) (change : RecordChange) → IsChangingRecord s state change
     → ChangesRecord s state state change (Hindered change moves.NoMemory)
 lacks_memory s state change p = hindered s state state change p moves.NoMemory (same_rows state) (inl (record {}))
+
+-- ---- what is there behind a call that logs a change
+
+module _ (s : ℕ) (undo : Undo) (old mid : WorldState) (logged : IsLogged s undo old mid) where
+  abbrev pub logged_work : Work
+  logged_work = record logged.work { log = record { pointer = logged.session.next_pointer; undo = undo } ∷ logged.work.log }
+
+  abbrev pub logged_session : Session
+  logged_session = record logged.session { undo_room = 0; next_pointer = logged.next; work = Some logged_work }
+
+  pub logged_here : HasWork s logged_session logged_work mid
+  logged_here = record { session_is = rw logged.rest (set_here old.sessions s logged.session logged_session logged.has_work.session_is); work_is = refl }
+
+  logged_elsewhere : (t : ℕ) → t ≢ s → slice_get mid.sessions t ≡ slice_get old.sessions t
+  logged_elsewhere t differs = ap (λ (state : WorldState). slice_get state.sessions t) logged.rest ∙ set_other old.sessions s t logged_session differs
+
+  recorded : (change : Change) (rows table : ℕ) (key bytes : List ℕ) (new : WorldState) (step : Index → Index → Type 0) (holder : Option ℕ)
+      → Enters s change rows logged_session logged_work mid new → InIndex (clustered_index table) step old mid
+      → HasGone (λ before after. after ≡ with_value key (Some bytes) before) holder (old.indexes (clustered_index table)) (mid.indexes (clustered_index table))
+      → Records s change rows table key bytes undo old new
+  recorded change rows table key bytes new step holder enters index_is gone =
+      let now : Work = record logged_work { id = id_for logged.work.id mid.txns.next; own = logged.work.own + 1 } in
+      let places = places_if index_is gone.place in
+      rw (enters.rest, logged.rest) (record {
+        here = gone.pairs;
+        elsewhere = λ other differs. (index_is.elsewhere other differs).pairs;
+        places = places;
+        work = record {
+          session = logged.session;
+          work = logged.work;
+          had = logged.has_work;
+          session_now = record logged_session { can_change = false; work = Some now };
+          work_now = now;
+          has = record { session_is = enters.now; work_is = refl };
+          changed = record {
+            txn = refl;
+            level = refl;
+            view = refl;
+            can_end = refl;
+            own = refl;
+            id_is = ap (λ (state : WorldState). id_for logged.work.id state.txns.next) logged.rest;
+            log = refl;
+          };
+          setting = refl;
+          can_reply = refl;
+          can_ack = refl;
+          others = λ t differs. enters.others t differs ∙ logged_elsewhere t differs;
+          count = enters.count ∙ ap (λ (state : WorldState). length state.sessions) logged.rest ∙ length-set old.sessions s logged_session;
+          txns = refl;
+          versions = logged.kept;
+        };
+        rest = refl;
+        later = logged.later;
+      })
+
+-- where the pair was not put, no undo record has come
+not_brought : (actor : ℕ) (undo : Undo) (answer : Move) (old new : WorldState) → answer ≢ moves.Done → Brings actor (Some undo) (is_done answer) old new
+    → StaysBeside old new
+not_brought actor undo moves.Done old new differs h = absurd (differs refl)
+not_brought actor undo other old new differs h = h
+
+-- ---- the call that changes the record
+
+key_fits : (schema : Schema) (edit : RowEdit) (key : List ℕ) → IsStorable schema → FitsEdit schema edit key → length key ≤ 33
+key_fits schema (Put row) key storable fits = short_key schema row key storable fits.key_is
+key_fits schema (Remove value) key storable fits =
+    let is : length key ≡ key_width fits.column.kind = ap length fits.spelled ∙ length-key_code fits.column.kind value fits.has_key.0 in
+    let width : key_width fits.column.kind ≡ key_width storable.column.kind =
+    ap (λ (c : Column). key_width c.kind) (one_found fits.column storable.column fits.primary storable.primary) in
+    omega (arith, is, width, storable.short)
+
+-- a version is made at these stages alone
+abbrev pub Makes : RecordStage → Type 0
+Makes Insert = Unit {0}
+Makes (Replace before bytes) = Unit {0}
+Makes other = ⊥
+
+-- its row is one of the table, and has the key
+pub version_made : (schema : Schema) (edit : RowEdit) (key : List ℕ) (session : Session) (index : Index) (stage : RecordStage) → FitsEdit schema edit key
+    → StageHolds stage schema edit key session index → Makes stage → (version : Version) (writer pointer : ℕ)
+    → version ≡ version_by edit (row_found stage) writer pointer → IsRowOf schema.columns version.row × IsKeyOf schema version.row key
+version_made schema (Put row) key session index stage fits holds makes version writer pointer is = rw is (fits.fits.columns, fits.key_is)
+version_made schema (Remove value) key session index Insert fits holds makes version writer pointer is = absurd holds.1
+version_made schema (Remove value) key session index (Replace before bytes) fits holds makes version writer pointer is =
+    rw is (holds.2.code_is.record_is.fits, holds.2.code_is.record_is.key_is)
+version_made schema (Remove value) key session index other fits holds makes version writer pointer is = absurd makes
+
+pub value_short : (schema : Schema) (version : Version) (key value : List ℕ) → IsStorable schema
+    → IsRowOf schema.columns version.row × IsKeyOf schema version.row key → value ≡ version_code schema version → length value ≤ 1024
+value_short schema version key value storable fits is = short_value schema version key value storable (record { fits = fits.0; key_is = fits.1; value_is = is })
+
+pub value_of_row : (schema : Schema) (edit : RowEdit) (row row' : List Value) (version : Version) (value : List ℕ) (writer writer' pointer pointer' : ℕ)
+    → value ≡ version_code schema version → version ≡ version_by edit row writer pointer → row ≡ row' → writer ≡ writer' → pointer ≡ pointer'
+    → value ≡ version_code schema (version_by edit row' writer' pointer')
+value_of_row schema edit row row' version value writer writer' pointer pointer' is version_is rows writers pointers =
+    rw (← rows, ← writers, ← pointers, ← version_is) is
+
+-- the room that the call asks for the undo record
+former_room : (key value room : ℕ) → key ≤ 33 → value ≤ 1024 → 1098 ≤ room → 7 + key + value ≤ room
+former_room key value room short_key short_value enough = omega arith
+
+module _ {s : ℕ} {old : WorldState} {change : RecordChange} (p : IsChangingRecord s old change) where
+  abbrev index : ℕ
+  index = clustered_index change.table
+
+  pub key_short : length change.key ≤ 67
+  key_short = let h = key_fits p.schema change.edit change.key p.table.storable p.fits in omega arith
+
+  pub rows_index : (number : ℕ) → number ≡ index → IsIndex old.schemas number
+  rows_index number is =
+      record { table = change.table; which = 0; number = omega (arith, is); schema = p.schema; there = p.table.there; key = omega arith; few = omega arith }
+
+  -- the log has room for the undo record that the call brings
+  may_log : (undo : Undo) → HasRoom p.session → KeepsAsSaid old.schemas undo → undo.key ≡ change.key → length undo.value ≤ 1024 → MayLog s undo old
+  may_log undo room kept key_is small = record {
+    sound = record { kept = kept; key = rw key_is key_short; value = small };
+    session = p.session;
+    work = p.work;
+    has_work = p.has_work;
+    room = rw key_is
+        (former_room (length change.key) (length undo.value) p.session.undo_room
+        (key_fits p.schema change.edit change.key p.table.storable p.fits) small room.undo);
+  }
+
+  pub may_log_new : (undo : Undo) → HasRoom p.session → undo ≡ undo_of_new change.table change.key → MayLog s undo old
+  may_log_new undo room is = rw is (may_log (undo_of_new change.table change.key) room (inl (refl, refl)) refl (omega arith))
+
+  pub may_log_former : (before : Version) (bytes : List ℕ) (undo : Undo) → change.stage ≡ Replace before bytes
+      → undo ≡ undo_of_former change.table change.key bytes → MayLog s undo old
+  may_log_former before bytes undo at is =
+      let holds = stage_at s old change p (Replace before bytes) at in
+      let code = holds.2.code_is in
+      rw is (may_log (undo_of_former change.table change.key bytes) holds.0
+      (inr (refl, before, record { schema = p.schema; there = p.table.there; record_is = code.record_is; small = code.numbers })) refl
+      (short_value p.schema before change.key bytes p.table.storable code.record_is))
+
+  -- what entering the change asks
+  pub may_enter : (undo : Undo) (mid : WorldState) → HasRoom p.session → IsLogged s undo old mid
+      → (session : Session) × (work : Work) × HasWork s session work mid × IsListed s work mid × (session.can_change ≡ true)
+  may_enter undo mid room logged =
+      let session = one_session old s logged.session p.session logged.has_work.session_is p.has_work.session_is in
+      let work = one_work s logged.session p.session logged.work p.work old logged.has_work p.has_work in
+      let listed =
+      listed_on s old mid logged.work (ap (λ (state : WorldState). state.txns) logged.rest) (logged_elsewhere s undo old mid logged)
+      (subst (λ w. IsListed s w old) (sym work) p.listed) in (
+        logged_session s undo old mid logged,
+        logged_work s undo old mid logged,
+        logged_here s undo old mid logged,
+        record { there = listed.there; id = listed.id; few = listed.few; alone = listed.alone },
+        ap (λ (x : Session). x.can_change) session ∙ room.entry,
+      )
+
+  -- who enters the change behind the call
+  abbrev EntersIt : WorldState → WorldState → Type 0
+  EntersIt mid new =
+      (session : Session) (work : Work) → HasWork s session work mid → Enters s (change_of change.table change.edit) (rows_put change.edit) session work mid new
+
+  abbrev Inserting : Undo → List ℕ → WorldState → Move → Type 0
+  Inserting undo value new move =
+      Changes index s (Some undo) (λ before after answer. InsertsWith (Some undo) s change.key value before after answer) old new move
+
+  abbrev Replacing : Undo → List ℕ → WorldState → Move → Type 0
+  Replacing undo value new move =
+      Changes index s (Some undo) (λ before after answer. ReplacesWith (Some undo) s change.key value before after answer) old new move
+
+  pub inserted : (mid new : WorldState) (value : List ℕ) (undo : Undo) → change.stage ≡ Insert
+      → value ≡ version_code p.schema (version_by change.edit [] (id_for p.work.id old.txns.next) 0) → undo ≡ undo_of_new change.table change.key
+      → Inserting undo value mid moves.Done → EntersIt mid new → ChangesRecord s old new change (Recorded None)
+  inserted mid new value undo at value_is undo_is c enters =
+      let holds = stage_at s old change p Insert at in
+      let logged : IsLogged s undo old mid = c.beside in
+      let all =
+      recorded s undo old mid logged (change_of change.table change.edit) (rows_put change.edit) change.table change.key value new _ _
+      (enters _ _ (logged_here s undo old mid logged)) c.index_is c.index_is.here.2 in
+      let first : PutsFirst s old new change p.schema =
+      record { session = p.session; work = p.work; had = p.has_work; is_put = holds.1; absent = holds.2; records = rw (← undo_is, ← value_is) all } in
+      (p.schema, p.table, inl (first, refl))
+
+  pub replaced : (mid new : WorldState) (before : Version) (bytes value : List ℕ) (undo : Undo) (found : Option (List Value))
+      → change.stage ≡ Replace before bytes
+      → value ≡ version_code p.schema (version_by change.edit before.row (id_for p.work.id old.txns.next) p.session.next_pointer)
+      → undo ≡ undo_of_former change.table change.key bytes → found ≡ row_shown before.marked before.row → p.session.next_pointer < 2 ^ 64
+      → Replacing undo value mid moves.Done → EntersIt mid new → ChangesRecord s old new change (Recorded found)
+  replaced mid new before bytes value undo found at value_is undo_is found_is small c enters =
+      let holds = stage_at s old change p (Replace before bytes) at in
+      let logged : IsLogged s undo old mid = c.beside in
+      let all =
+      recorded s undo old mid logged (change_of change.table change.edit) (rows_put change.edit) change.table change.key value new _ _
+      (enters _ _ (logged_here s undo old mid logged)) c.index_is c.index_is.here.1 in
+      let over : PutsOver s old new change p.schema before =
+      record {
+        session = p.session;
+        work = p.work;
+        had = p.has_work;
+        bytes = bytes;
+        leads = holds.0.leads;
+        small = small;
+        finds = holds.1;
+        was = holds.2;
+        records = rw (← undo_is, ← value_is) all;
+      } in
+      (p.schema, p.table, inr (before, over, found_is))
+
+  -- where the call was not done
+  hindered_by : (new : WorldState) (undo : Undo) (answer : Move) (call : Index → Index → Move → Type 0) → Changes index s (Some undo) call old new answer
+      → answer ≢ moves.Done → HasStayed (old.indexes index) (new.indexes index) → Hinders s (old.indexes index) (new.indexes index) answer
+      → ChangesRecord s old new change (Hindered change answer)
+  hindered_by new undo answer call c differs kept hinders =
+      hindered s old new change p answer
+      (stays_if (record { index_is = c.index_is; beside = not_brought s undo answer old new differs c.beside }) kept) (inl hinders)
+
+  pub insert_hindered : (new : WorldState) (value : List ℕ) (undo : Undo) (answer : Move) → change.stage ≡ Insert → Inserting undo value new answer
+      → answer ≢ moves.Done → ChangesRecord s old new change (Hindered change answer)
+  insert_hindered new value undo answer at c differs =
+      let here = c.index_is.here in
+      hindered_by new undo answer _ c differs
+      (insert_leaves (Some undo) s change.key value (old.indexes index) (new.indexes index) answer here differs).0
+      (insert_hinders (Some undo) s change.key value (old.indexes index) (new.indexes index) answer (stage_at s old change p Insert at).2 here differs)
+
+  pub replace_hindered : (new : WorldState) (before : Version) (bytes value : List ℕ) (undo : Undo) (answer : Move) → change.stage ≡ Replace before bytes
+      → Replacing undo value new answer → answer ≢ moves.Done → ChangesRecord s old new change (Hindered change answer)
+  replace_hindered new before bytes value undo answer at c differs =
+      let here = c.index_is.here in
+      let there =
+      told_only (λ pairs. value_of change.key pairs ≡ Some bytes) (λ pairs. is_some (value_of change.key pairs) ≡ true) (old.indexes index)
+      (stage_at s old change p (Replace before bytes) at).2.there (λ pairs is. ap is_some is) in
+      hindered_by new undo answer _ c differs
+      (replace_leaves (Some undo) s change.key value (old.indexes index) (new.indexes index) answer here differs).0
+      (replace_hinders (Some undo) s change.key value (old.indexes index) (new.indexes index) answer there here differs)
+
+-- ---- an entry that is being put
+
+pub entry_hindered : (actor : ℕ) (value : List ℕ) (old new : WorldState) (put : EntryPut) (move : Move) → IsPutting old put → put.phase ≡ phases.Insert
+    → Changes put.index actor None (λ before after answer. Inserts actor put.entry value before after answer) old new move → move ≢ moves.Done
+    → PutsEntry actor old new put (reached.Hindered put move)
+entry_hindered actor value old new put move is phase_is call not_done =
+    let absent : IsThere false put.entry (old.indexes put.index) = rw phase_is at is.phase in
+    let kept = (insert_leaves None actor put.entry value (old.indexes put.index) (new.indexes put.index) move call.index_is.here not_done).0 in (
+      refl,
+      change_stays_if call kept,
+      record {
+        index_is = rw (ap (λ (w : WorldState). w.schemas) call.beside.rest) is.index_is;
+        short = is.short;
+        phase = rw phase_is (told_kept _ (old.indexes put.index) (new.indexes put.index) kept.0 absent);
+      },
+      insert_hinders None actor put.entry value (old.indexes put.index) (new.indexes put.index) move absent call.index_is.here not_done,
+    )

@@ -1,9 +1,7 @@
 -- A transaction is given its id, and its change is entered.
-use Rattle.std.proofs.Common.{◌≡◌, ◌≢◌, ℕ, ◌+◌, ◌==◌, true, false, List, ◌∷◌, length, Option, Some, None, refl, sym, ap, subst, ◌∙◌, eq-eqb}
-use Rattle.std.proofs.lemmas.List.{length-map, length-set}
+use Rattle.std.proofs.Common.{◌≡◌, ◌≢◌, ℕ, ◌+◌, ◌==◌, false, List, ◌∷◌, length, Option, Some, None, refl, sym, ap, subst, ◌∙◌, eq-eqb}
+use Rattle.std.proofs.lemmas.{List.length-map, List.length-set, Bool.cond-true, Bool.cond-false, Bool.ne_eqb, Option.slice_get-map}
 use Rattle.std.specs.Prelude.{slice_get, option_map}
-use Rattle.std.proofs.lemmas.Bool.{cond-true, cond-false, ne_eqb}
-use Rattle.std.proofs.lemmas.Option.{slice_get-map}
 use Rattle.inno_db.specs.declared.change.Change.{Change}
 use Rattle.inno_model.specs.declared.event.Event.TheVariants.{Changed}
 use Rattle.store_api.specs.declared.answers.Standing.{Standing}
@@ -12,13 +10,6 @@ use Rattle.world.specs.State.{WorldState, Session, Work, HasWork, txn_of, id_of,
 use Rattle.world.specs.Sessions.{of_txn, change_txn, work_with_id, identified, change_added}
 use Rattle.row_changes.specs.{Records.IsListed, Records.id_for, Records.txns_with_id, Entering.GivesId, Entering.Enters}
 use Rattle.row_changes.proofs.Sessions.{one_found, set_here, set_other}
-
--- what a session tells of its transaction
-pub tells_txn : (s : ℕ) (session : Session) (work : Work) (state : WorldState) → HasWork s session work state → (standing_of session).txn ≡ Some work.txn
-tells_txn s session work state has = ap txn_of has.work_is
-
-pub tells_id : (s : ℕ) (session : Session) (work : Work) (state : WorldState) → HasWork s session work state → (standing_of session).id ≡ work.id
-tells_id s session work state has = ap id_of has.work_is
 
 pub id_given : (own next : ℕ) → own ≢ 0 → id_for own next ≡ own
 id_given own next differs = cond-false (own == 0) next own (ne_eqb own 0 differs)
@@ -60,8 +51,7 @@ changed_elsewhere s t work f state listed differs =
 pub changed_here : (s : ℕ) (session : Session) (work : Work) (f : Session → Session) (state : WorldState) → HasWork s session work state
     → slice_get (change_txn work.txn f state.sessions) s ≡ Some (f session)
 changed_here s session work f state has =
-    slice_get-map (λ x. of_txn work.txn f x x.work) state.sessions s
-    ∙ ap (option_map (λ x. of_txn work.txn f x x.work)) has.session_is
+    slice_get-map (λ x. of_txn work.txn f x x.work) state.sessions s ∙ ap (option_map (λ x. of_txn work.txn f x x.work)) has.session_is
     ∙ ap Some (mine_changed work.txn f session work has.work_is refl)
 
 -- ---- the id
@@ -80,8 +70,7 @@ gives_new_id s session work old new has listed none is =
       rest =
           is ∙ ap (λ (xs : List Session). record old
           { sessions = xs; txns = record old.txns { open_txns = with_id work.txn old.txns.next old.txns.open_txns; next = old.txns.next + 1 } })
-          (sym sessions)
-          ∙ ap (λ (txns : Txns). record old { sessions = new.sessions; txns = txns }) (sym (txns_new work old.txns none));
+          (sym sessions) ∙ ap (λ (txns : Txns). record old { sessions = new.sessions; txns = txns }) (sym (txns_new work old.txns none));
     }
 
 pub keeps_id : (s : ℕ) (session : Session) (work : Work) (state : WorldState) → HasWork s session work state → work.id ≢ 0 → GivesId s session work state state
@@ -122,13 +111,14 @@ pub now_has : (s : ℕ) (session : Session) (work : Work) (old new : WorldState)
     → HasWork s (record session { work = Some (record work { id = id_for work.id old.txns.next }) }) (record work { id = id_for work.id old.txns.next }) new
 now_has s session work old new gives = record { session_is = gives.now; work_is = refl }
 
-pub told_txn : (s : ℕ) (session : Session) (work : Work) (state : WorldState) (standing : Standing) (txn : ℕ) → HasWork s session work state
-    → standing ≡ standing_of session → standing.txn ≡ Some txn → txn ≡ work.txn
-told_txn s session work state standing txn has is told = one_found txn work.txn told (ap (λ (x : Standing). x.txn) is ∙ tells_txn s session work state has)
+-- what a session tells of its transaction
+pub told_txn : (s : ℕ) (session : Session) (work : Work) (state : WorldState) (standing : Standing) → HasWork s session work state
+    → standing ≡ standing_of session → standing.txn ≡ Some work.txn
+told_txn s session work state standing has is = ap (λ (x : Standing). x.txn) is ∙ ap txn_of has.work_is
 
 pub told_id : (s : ℕ) (session : Session) (work : Work) (state : WorldState) (standing : Standing) → HasWork s session work state
     → standing ≡ standing_of session → standing.id ≡ work.id
-told_id s session work state standing has is = ap (λ (x : Standing). x.id) is ∙ tells_id s session work state has
+told_id s session work state standing has is = ap (λ (x : Standing). x.id) is ∙ ap id_of has.work_is
 
 -- the transaction that was told of is given its id
 pub gives_told : (s : ℕ) (x session : Session) (w work : Work) (old new : WorldState) (standing : Standing) (txn : ℕ) → HasWork s x w old
@@ -137,9 +127,6 @@ pub gives_told : (s : ℕ) (x session : Session) (w work : Work) (old new : Worl
 gives_told s x session w work old new standing txn has listed also is told none given =
     let same = one_work s x session w work old has also in
     let listed' = subst (λ k. IsListed s k old) same listed in
-    let txn_is = told_txn s x w old standing txn has is told ∙ ap (λ (k : Work). k.txn) same in
+    let txn_is = one_found txn w.txn told (told_txn s x w old standing has is) ∙ ap (λ (k : Work). k.txn) same in
     let id_is = ap (λ (k : Work). k.id) (sym same) ∙ sym (told_id s x w old standing has is) ∙ none in
     gives_new_id s session work old new also listed' id_is (given ∙ ap (λ t. identified t old) txn_is)
-
-pub differ : false ≡ true → ⊥
-differ h = cc

@@ -1,13 +1,7 @@
-pub mod Worlds
-pub mod Putting
 pub mod Sessions
 pub mod Changing
 pub mod Ids
-pub mod Recorded
-pub mod KeySteps
 pub mod Telling
-pub mod KeyLists
 pub mod Keying
 pub mod Pushed
-pub mod Whole
 pub mod Awaited

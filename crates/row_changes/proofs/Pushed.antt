@@ -1,22 +1,58 @@
--- A version that was recorded is the newest of its place, and the keys come next.
+-- A version that was recorded is the newest of its place, and the keys come next: the whole change of a row.
 use Rattle.std.proofs.Common.{◌≡◌, ◌≢◌, ◌∙◌, sym, ap, subst, refl, ℕ, ◌-◌, ◌^◌, ◌<◌, ◌==◌, Bool, true, false, cond, List, [], Option, None, Some, slice_get}
-use Rattle.std.proofs.Common.{arith}
-use Rattle.std.specs.Prelude.{IfSome}
+use Rattle.std.proofs.Common.{arith, ⊎_elim, inl, inr, ◌⊎◌}
+use Rattle.std.specs.Prelude.{IfSome, IsTrue, is_some}
 use Rattle.inno_types.specs.{declared.value.Value.Value, declared.value.Schema.Schema}
 use Rattle.inno_db.specs.Database.{key_of}
+use Rattle.store_api.specs.{declared.answers.Undo.Undo, declared.moves.Move.Move}
 use Rattle.store_api.specs.declared.answers.Version.{Version as Coded}
 use Rattle.entries.specs.Pairs.{Pair, value_of}
-use Rattle.row_versions.specs.{declared.kept.Kept.Kept, declared.version.Version.Version, Chains.Chains, Chains.Pushes}
+use Rattle.row_versions.specs.{declared.kept.Kept.Kept, declared.version.Version.Version, Chains.Chains, Chains.Pushes, Chains.versions_at, Chains.newest}
+use Rattle.row_versions.specs.Versions.{Versions, Stays}
 use Rattle.row_codec.specs.Rows.{version_code}
-use Rattle.law_stored_rows.specs.{Edits.clustered_index, Edits.Puts, Records.IsCodeOf, Records.shown, Records.row_shown, Tables.AreCodedAs, Tables.AreCoded}
-use Rattle.law_stored_rows.specs.{Tables.what_is_there, Tables.place_in}
-use Rattle.law_stored_rows.proofs.{Values.one_key, Values.key_there, Steps.new_record, Steps.replaced_record}
-use Rattle.row_changes.specs.{declared.row_edit.RowEdit.RowEdit, declared.row_edit.RowEdit.TheVariants.Put, declared.row_edit.RowEdit.TheVariants.Remove}
-use Rattle.row_changes.specs.{Records.id_for, Rows.row_after, Rows.primary_of}
-use Rattle.row_changes.specs.Edits.{IsRowFor, IsKeyAt, FitsEdit, IsPut, version_by}
-use Rattle.row_changes.proofs.KeySteps.{plain, code_of}
+use Rattle.law_stored_rows.specs.{Edits.clustered_index, Edits.Puts, Records.IsCodeOf, Records.shown, Records.row_shown, Records.KeepsMore}
+use Rattle.law_stored_rows.specs.Tables.{AreCodedAs, AreCoded, what_is_there, place_in}
+use Rattle.law_stored_rows.proofs.{Values.one_key, Values.key_there, Steps.new_record, Steps.replaced_record, FromTables.decoded, FromTables.absent}
+use Rattle.law_stored_rows.proofs.Tables.{lag_stays, pushed_here, pushed_elsewhere, coded_still}
+use Rattle.row_changes.specs.{declared.row_edit.RowEdit.RowEdit, declared.keys_change.KeysChange.KeysChange, declared.row_edit.RowEdit.TheVariants.Remove}
+use Rattle.row_changes.specs.{Asides.StepsAside, Told.HasRows, Records.PutsFirst, Records.PutsOver, Records.IsTable, Records.PutsVersion, Records.RecordsEdit}
+use Rattle.row_changes.specs.{declared.reached.Reached.TheVariants.Went, declared.row_change.RowChange.RowChange, declared.row_edit.RowEdit.TheVariants.Put}
+use Rattle.row_changes.specs.{declared.reached.Reached.TheVariants.Hindered, declared.reached.Reached.Reached, declared.row_change.RowChange.TheVariants.Keys}
+use Rattle.row_changes.specs.{declared.record_change.RecordStage.RecordStage, Records.IsChangingRecord, declared.row_change.RowChange.TheVariants.Record}
+use Rattle.row_changes.specs.{declared.record_change.RecordChange.RecordChange, declared.record_change.RecordStage.TheVariants.Enter, Records.undo_of_former}
+use Rattle.row_changes.specs.{Keys.IsChangingKeys, Records.undo_of_new, Records.id_for, Records.GoesOnWithRecord, Records.ChangesRecord, Records.record_steps}
+use Rattle.row_changes.specs.Edits.{version_by, IsRowFor, IsKeyAt, FitsEdit, IsPut}
+use Rattle.row_changes.specs.Rows.{primary_of, PushesEdit, IsChangingRow, row_after, place_of, ChangesRow}
+use Rattle.std.proofs.lemmas.Bool.{cases_eq}
+use Rattle.world.specs.{State.WorldState, State.Session, State.Work, State.HasWork, Indexes.KeepsVersion, Told.pairs_of, Told.IsTold}
+use Rattle.row_changes.proofs.{Sessions.one_found, Sessions.one_session, Ids.one_work}
+use Rattle.row_changes.proofs.Telling.{HasPut, told_if, rows_if, coded_again, pairs_told, puts_pairs, tells}
+use Rattle.row_changes.specs.declared.record_change.RecordReached.TheVariants as records
 
 -- ---- the version and its place
+
+abbrev pub plain : List Value → ℕ → Coded
+plain row writer = record { row = row; writer = writer; pointer = 0; marked = false }
+
+-- the record of the version that an edit makes: of a row that is put, or of one that was there
+pub code_of_edit : (schema : Schema) (edit : RowEdit) (key bytes : List ℕ) (former : Coded) (writer pointer : ℕ) → FitsEdit schema edit key
+    → IsPut edit ⊎ IsCodeOf schema key bytes former → writer < 2 ^ 64 → pointer < 2 ^ 64
+    → IsCodeOf schema key (version_code schema (version_by edit former.row writer pointer)) (version_by edit former.row writer pointer)
+code_of_edit schema (Put row) key bytes former writer pointer fits code small low =
+    record {
+      record_is = record { fits = fits.fits.columns; key_is = fits.key_is; value_is = refl };
+      numbers = record { writer = small; pointer = low; row = fits.numbers };
+    }
+code_of_edit schema (Remove value) key bytes former writer pointer fits (inl put) small low = absurd put
+code_of_edit schema (Remove value) key bytes former writer pointer fits (inr code) small low =
+    record {
+      record_is = record { fits = code.record_is.fits; key_is = code.record_is.key_is; value_is = refl };
+      numbers = record { writer = small; pointer = low; row = code.numbers.row };
+    }
+
+pub code_of : (schema : Schema) (row : List Value) (key : List ℕ) (writer : ℕ) → writer < 2 ^ 64 → IsRowFor schema row key
+    → IsCodeOf schema key (version_code schema (plain row writer)) (plain row writer)
+code_of schema row key writer small is = code_of_edit schema (Put row) key [] (plain [] 0) writer 0 is (inl (record {})) small (omega arith)
 
 -- the bytes of the key are those of the primary value
 pub key_at : (schema : Schema) (edit : RowEdit) (key : List ℕ) → FitsEdit schema edit key → IsKeyAt schema (primary_of schema edit) key
@@ -38,30 +74,9 @@ pub version_shown : (edit : RowEdit) (former : List Value) (writer pointer : ℕ
 version_shown (Put row) former writer pointer = refl
 version_shown (Remove value) former writer pointer = refl
 
-written_pointer : (edit : RowEdit) (former : List Value) (writer pointer : ℕ) → (version_by edit former writer pointer).pointer ≡ pointer
+pub written_pointer : (edit : RowEdit) (former : List Value) (writer pointer : ℕ) → (version_by edit former writer pointer).pointer ≡ pointer
 written_pointer (Put row) former writer pointer = refl
 written_pointer (Remove value) former writer pointer = refl
-
-pub code_first : (schema : Schema) (edit : RowEdit) (key : List ℕ) (writer : ℕ) → FitsEdit schema edit key → IsPut edit → writer < 2 ^ 64
-    → IsCodeOf schema key (version_code schema (version_by edit [] writer 0)) (version_by edit [] writer 0)
-code_first schema (Put row) key writer fits is small = code_of schema row key writer small fits
-code_first schema (Remove value) key writer fits is small = absurd is
-
-pub code_next : (schema : Schema) (edit : RowEdit) (key bytes : List ℕ) (former : Coded) (writer pointer : ℕ) → FitsEdit schema edit key
-    → IsCodeOf schema key bytes former → writer < 2 ^ 64 → pointer < 2 ^ 64
-    → IsCodeOf schema key (version_code schema (version_by edit former.row writer pointer)) (version_by edit former.row writer pointer)
-code_next schema (Put row) key bytes former writer pointer fits code small low =
-    record {
-      record_is = record { fits = fits.fits.columns; key_is = fits.key_is; value_is = refl };
-      numbers = record
-          { writer = small; pointer = low; row = fits.numbers };
-    }
-code_next schema (Remove value) key bytes former writer pointer fits code small low =
-    record {
-      record_is = record { fits = code.record_is.fits; key_is = code.record_is.key_is; value_is = refl };
-      numbers = record
-          { writer = small; pointer = low; row = code.numbers.row };
-    }
 
 -- the row of a version that readers see fits the table
 pub shown_fits : (schema : Schema) (key bytes : List ℕ) (marked : Bool) (former : Coded) → IsCodeOf schema key bytes former
@@ -104,19 +119,239 @@ module _ (schemas : List Schema) (old new : ℕ → List Pair) (before after : C
       → AreCodedAs schemas new kept after (what_is_there before)
   first_rows kept put none puts is =
       let coded = version_by edit [] writer 0 in
-      let code = code_first schema edit key writer fits put small in
+      let code = code_of_edit schema edit key [] (plain [] 0) writer 0 fits (inl put) small (omega arith) in
       new_record schemas old new kept before after (what_is_there before) table schema key (version_code schema coded) coded is
-      (record { there = there; code_is = code; puts = puts }) none (written_pointer edit [] writer 0)
-      (pushes_version [] 0 (version_code schema coded) code)
+      (record { there = there; code_is = code; puts = puts }) none (written_pointer edit [] writer 0) (pushes_version [] 0 (version_code schema coded) code)
 
-  pub next_rows : (kept : ℕ → Option Kept) (former : Coded) (pointer : ℕ) (found : Kept) → value_of key (old (clustered_index table)) ≡ Some found.bytes
+  next_rows : (kept : ℕ → Option Kept) (former : Coded) (pointer : ℕ) (found : Kept) → value_of key (old (clustered_index table)) ≡ Some found.bytes
       → IsCodeOf schema key found.bytes former → IsCodeOf schema key found.bytes found.version → pointer ≢ 0 → pointer < 2 ^ 64 → kept pointer ≡ Some found
       → Puts old new (clustered_index table) key (Some (version_code schema (version_by edit former.row writer pointer))) → AreCoded schemas old kept before
       → AreCodedAs schemas new kept after (what_is_there before)
   next_rows kept former pointer found some code found_code leads low keeps puts is =
       let coded = version_by edit former.row writer pointer in
-      let coded_is = code_next schema edit key found.bytes former writer pointer fits code small low in
+      let coded_is = code_of_edit schema edit key found.bytes former writer pointer fits (inr code) small low in
       let same = written_pointer edit former.row writer pointer in
       replaced_record schemas old new kept before after (what_is_there before) table schema key (version_code schema coded) coded is found
       (record { there = there; code_is = coded_is; puts = puts }) some found_code
       (λ zero. leads (sym same ∙ zero)) (ap kept same ∙ keeps) (pushes_version former.row pointer (version_code schema coded) coded_is)
+
+-- ---- while the record is not there yet
+
+rows_aside : (s : ℕ) (chains : Chains) (old new : WorldState) → StepsAside s old new → HasRows chains old → HasRows chains new
+rows_aside s chains old new aside rows told =
+    rows_if old new chains (what_is_there chains) (ap (λ (state : WorldState). state.schemas) aside.rest) aside.pairs aside.versions told
+    (rows (told_if old new aside.pairs aside.versions told))
+
+-- ---- the record stands
+
+pub table_kept : (table : ℕ) (schema : Schema) (old new : WorldState) → new.schemas ≡ old.schemas → IsTable table schema old → IsTable table schema new
+table_kept table schema old new same is = record { there = ap (λ (s : List Schema). slice_get s table) same ∙ is.there; storable = is.storable }
+
+pub none_of : (found : Option (List ℕ)) → is_some found ≡ false → found ≡ None
+none_of None is = refl
+none_of (Some bytes) is = absurd (cc)
+
+some_record_step : (stage : RecordStage) → 0 < record_steps stage
+some_record_step Enter = omega arith
+some_record_step other = omega arith
+
+pub kept_more : (schemas : List Schema) (pointer : ℕ) (undo : Undo) (old new : Versions) → KeepsVersion schemas pointer undo old new → IsTrue new.told
+    → KeepsMore old.kept_at new.kept_at
+kept_more schemas pointer undo old new k told other found is =
+    ⊎_elim (λ e. let none : old.kept_at pointer ≡ None = k.fresh told in let some : old.kept_at pointer ≡ Some found = ap old.kept_at (sym e) ∙ is in absurd
+    (cc)) (λ differs. k.elsewhere other differs told ∙ is) (cases_eq other pointer)
+
+-- what is kept of the version that was replaced
+module _ {s : ℕ} {old new : WorldState} {change : RecordChange} {former : Coded} (p : IsChangingRecord s old change)
+    (o : PutsOver s old new change p.schema former) where
+  pub kept_over : KeepsVersion old.schemas o.session.next_pointer (undo_of_former change.table change.key o.bytes) old.versions new.versions
+  kept_over =
+      subst (λ (x : Session). KeepsVersion old.schemas x.next_pointer (undo_of_former change.table change.key o.bytes) old.versions new.versions)
+      (one_session old s o.records.work.session o.session o.records.work.had.session_is o.had.session_is) o.records.work.versions
+
+  pub kept_code : IsCodeOf p.schema change.key o.bytes kept_over.version
+  kept_code =
+      subst (λ (x : Schema). IsCodeOf x change.key o.bytes kept_over.version) (one_found kept_over.kept.schema p.schema kept_over.kept.there p.table.there)
+      (record { record_is = kept_over.kept.record_is; numbers = kept_over.kept.small })
+
+module _ (s : ℕ) (chains pushed : Chains) (old new : WorldState) (change : RecordChange) (p : IsChangingRecord s old change) (rows : HasRows chains old)
+    (push : PushesEdit s change old chains pushed) where
+  abbrev writer : ℕ
+  writer = id_for p.work.id old.txns.next
+
+  abbrev pushed_version : Version
+  pushed_version = record { writer = writer; row = row_after change.edit }
+
+  abbrev index : ℕ
+  index = clustered_index change.table
+
+  -- the bytes of the new record
+  abbrev written : List Value → ℕ → List ℕ
+  written former pointer = version_code p.schema (version_by change.edit former writer pointer)
+
+  -- the change that the keys take over
+  abbrev taken : Option (List Value) → KeysChange
+  taken before = record { table = change.table; key = change.key; before = before; after = row_after change.edit; which = 0; put = None }
+
+  pushes : Pushes chains pushed (place_of p.schema change) pushed_version
+  pushes =
+      let schema = one_found push.schema p.schema push.there p.table.there in
+      let work = one_work s push.session p.session push.work p.work old push.has_work p.has_work in
+      subst (λ (w : Work). Pushes chains pushed (place_of p.schema change) (record { writer = id_for w.id old.txns.next; row = row_after change.edit })) work
+      (subst (λ (x : Schema). Pushes chains pushed (place_of x change) (record { writer = id_for push.work.id old.txns.next; row = row_after change.edit }))
+      schema push.pushes)
+
+  small : writer < 2 ^ 64
+  small = small_id p.work.id old.txns.next p.small p.listed.few
+
+  at : IsKeyAt p.schema (primary_of p.schema change.edit) change.key
+  at = key_at p.schema change.edit change.key p.fits
+
+  -- the keys come next
+  keys_next : (before : Option (List Value)) → new.schemas ≡ old.schemas → IfSome before (λ row. IsRowFor p.schema row change.key)
+      → (IsTold new → newest (versions_at (place_of p.schema change) chains) ≡ before)
+      → (IsTold new → AreCodedAs new.schemas (pairs_of new) new.versions.kept_at pushed (what_is_there chains)) → IsChangingKeys pushed new (taken before)
+  keys_next before same fits was coded =
+      record {
+        schema = p.schema;
+        table = table_kept change.table p.schema old new same p.table;
+        value = primary_of p.schema change.edit;
+        at = at;
+        before = fits;
+        after = after_fits p.schema change.edit change.key p.fits;
+        within = omega arith;
+        put = record {};
+        older = versions_at (place_of p.schema change) chains;
+        pushed =
+            record {
+              version = pushed_version;
+              versions = pushed_here chains pushed (place_of p.schema change) pushed_version pushes;
+              is = refl;
+              small = small;
+            };
+        was = was;
+        rows = λ told. (
+          what_is_there chains,
+          coded told,
+          record {
+            lag = lag_stays chains pushed (place_of p.schema change) (what_is_there chains)
+                (pushed_elsewhere chains pushed (place_of p.schema change) pushed_version pushes) (λ t w v apart. refl);
+            first = λ which below. absurd (omega arith);
+            here = refl;
+            later = λ which above. refl;
+          },
+        );
+      }
+
+  -- the record has been written
+  puts : (former : List Value) (pointer : ℕ) (undo : Undo) (session : Session) (work : Work) → HasWork s session work old
+      → RecordsEdit s change p.schema former (id_for work.id old.txns.next) pointer undo old new
+      → HasPut index change.key (Some (written former pointer)) old new
+  puts former pointer undo session work had records =
+      subst (λ (w : Work). HasPut index change.key (Some (version_code p.schema (version_by change.edit former (id_for w.id old.txns.next) pointer))) old new)
+      (one_work s session p.session work p.work old had p.has_work) (records.here, records.elsewhere)
+
+  first_keys : (f : PutsFirst s old new change p.schema) → IsChangingKeys pushed new (taken None)
+  first_keys f =
+      keys_next None same (record {})
+      (λ told. ap newest (absent old.schemas (pairs_of old) old.versions.kept_at chains change.table p.schema at.column (primary_of p.schema change.edit)
+      (rows (was_told told)).clustered p.table.there at.primary
+      (λ has. subst (λ (k : List ℕ). value_of k (pairs_of old index) ≡ None) at.spelled (nothing told))))
+      (λ told. coded_again old.schemas new.schemas (pairs_of new) (pairs_of new) old.versions.kept_at new.versions.kept_at pushed (what_is_there chains) same
+      refl (kept.kept told.versions)
+      (first_rows old.schemas (pairs_of old) (pairs_of new) chains pushed change.table p.schema change.edit change.key p.table.there p.fits writer small pushes
+      old.versions.kept_at f.is_put (nothing told) (puts_pairs index change.key (Some (written [] 0)) old new stands told) (rows (was_told told))))
+    where
+      stands : HasPut index change.key (Some (written [] 0)) old new
+      stands = puts [] 0 (undo_of_new change.table change.key) f.session f.work f.had f.records
+
+      same : new.schemas ≡ old.schemas
+      same = ap (λ (state : WorldState). state.schemas) f.records.rest
+
+      kept : Stays old.versions new.versions
+      kept = f.records.work.versions
+
+      was_told : IsTold new → IsTold old
+      was_told told = record { pairs = pairs_told index change.key (Some (written [] 0)) old new stands told; versions = kept.told told.versions }
+
+      nothing : IsTold new → value_of change.key (pairs_of old index) ≡ None
+      nothing told =
+          none_of (value_of change.key (pairs_of old index))
+          (tells (λ pairs. is_some (value_of change.key pairs) ≡ false) (old.indexes index).pairs f.absent ((was_told told).pairs index))
+
+  next_keys : (former : Coded) (o : PutsOver s old new change p.schema former) → IsChangingKeys pushed new (taken (row_shown former.marked former.row))
+  next_keys former o =
+      keys_next (row_shown former.marked former.row) same (shown_fits p.schema change.key o.bytes former.marked former o.was.code_is)
+      (λ told. ap (λ (k : Value). newest (versions_at (record { table = change.table; key = k }) chains))
+      (sym (at_primary p.schema (primary_of p.schema change.edit) change.key o.bytes former at o.was.code_is))
+      ∙ ap newest (decoded old.schemas (pairs_of old) old.versions.kept_at chains change.table p.schema change.key o.bytes former
+      (rows (was_told told)).clustered p.table.there (there told) o.was.code_is).0)
+      (λ told. coded_again old.schemas new.schemas (pairs_of new) (pairs_of new) new.versions.kept_at new.versions.kept_at pushed (what_is_there chains) same
+      refl refl
+      (next_rows old.schemas (pairs_of old) (pairs_of new) chains pushed change.table p.schema change.edit change.key p.table.there p.fits writer small pushes
+      new.versions.kept_at former o.session.next_pointer (record { version = (kept_over p o).version; bytes = o.bytes }) (there told) o.was.code_is
+      (kept_code p o) o.leads
+      o.small ((kept_over p o).here told.versions) (puts_pairs index change.key (Some (written former.row o.session.next_pointer)) old new stands told)
+      (coded_still old.schemas (pairs_of old) old.versions.kept_at new.versions.kept_at chains (what_is_there chains)
+      (kept_more old.schemas o.session.next_pointer (undo_of_former change.table change.key o.bytes) old.versions new.versions (kept_over p o) told.versions)
+      (rows (was_told told)))))
+    where
+      stands : HasPut index change.key (Some (written former.row o.session.next_pointer)) old new
+      stands = puts former.row o.session.next_pointer (undo_of_former change.table change.key o.bytes) o.session o.work o.had o.records
+
+      same : new.schemas ≡ old.schemas
+      same = ap (λ (state : WorldState). state.schemas) o.records.rest
+
+      was_told : IsTold new → IsTold old
+      was_told told =
+          record {
+            pairs = pairs_told index change.key (Some (written former.row o.session.next_pointer)) old new stands told;
+            versions = (kept_over p o).told told.versions;
+          }
+
+      there : IsTold new → value_of change.key (pairs_of old index) ≡ Some o.bytes
+      there told = tells (λ pairs. value_of change.key pairs ≡ Some o.bytes) (old.indexes index).pairs o.was.there ((was_told told).pairs index)
+
+  recorded_keys : (before after : Option (List Value)) (key : List ℕ) → key ≡ change.key → after ≡ row_after change.edit
+      → ChangesRecord s old new change (records.Recorded before)
+      → IsChangingKeys pushed new (record { table = change.table; key = key; before = before; after = after; which = 0; put = None })
+  recorded_keys before after key key_is after_is h =
+      let puts_it : PutsVersion s old new change p.schema before = rw (one_found h.0 p.schema h.1.there p.table.there) at h.2 in
+      rw (key_is, after_is) (⊎_elim (λ (f : PutsFirst s old new change p.schema × (before ≡ None)). rw f.1 (first_keys f.0))
+      (λ (o : (former : Coded) × PutsOver s old new change p.schema former × (before ≡ row_shown former.marked former.row)). rw o.2 (next_keys o.0 o.1))
+      puts_it)
+
+-- ---- a step that is made where the change lies
+
+module _ (s : ℕ) (chains : Chains) (old new : WorldState) (mine : RowChange) (change : RecordChange) (key : List ℕ) (after : Option (List Value))
+    (at : mine ≡ Record change key after) (p : IsChangingRow s chains old mine) where
+  at_record : (reached : Reached RowChange)
+      → (IsChangingRow s chains old (Record change key after) → ChangesRow s chains old new (Record change key after) reached)
+      → ChangesRow s chains old new mine reached
+  at_record reached made = subst (λ (r : RowChange). IsChangingRow s chains old r → ChangesRow s chains old new r reached) (sym at) made p
+
+  pub record_went : (next : RecordChange) → GoesOnWithRecord s old new change next → ChangesRow s chains old new mine (Went (Record next key after))
+  record_went next g =
+      at_record (Went (Record next key after)) (λ is. (
+        (g, (g.holds, rows_aside s chains old new g.aside is.1, is.2 ∙ sym g.key_is, is.3 ∙ ap row_after (sym g.edit_is))),
+        λ schema there. let nearer = g.nears in omega arith,
+      ))
+
+  pub record_recorded : (before : Option (List Value)) (keys : KeysChange)
+      → keys ≡ record { table = change.table; key = key; before = before; after = after; which = 0; put = None }
+      → ChangesRecord s old new change (records.Recorded before) → ChangesRow s chains old new mine (Went (Keys keys))
+  record_recorded before keys keys_is h =
+      subst (λ (k : KeysChange). ChangesRow s chains old new mine (Went (Keys k))) (sym keys_is)
+      (at_record (Went (Keys (record { table = change.table; key = key; before = before; after = after; which = 0; put = None }))) (λ is. (
+        (h, λ pushed push. recorded_keys s chains pushed old new change is.0 is.1 push before after key is.2 is.3 h, refl, is.2),
+        λ schema there. let some = some_record_step change.stage in omega arith,
+      )))
+
+  pub record_waits : (same : RecordChange) (why : Move) → ChangesRecord s old new change (records.Hindered same why)
+      → ChangesRow s chains old new mine (Hindered (Record same key after) why)
+  record_waits same why h =
+      at_record (Hindered (Record same key after) why) (λ is. (
+        ap (λ (c : RecordChange). let r : RowChange = Record c key after in r) h.0,
+        (h.2, rows_aside s chains old new h.1 is.1, is.2, is.3),
+        (h.1, h.3, h.4, h.5),
+      ))

@@ -1,8 +1,7 @@
 -- What stays told of pairs and versions.
 use Rattle.std.proofs.Common.{◌≡◌, ◌≢◌, ⊎_elim, ◌∙◌, sym, ap, subst, refl, ℕ, ◌==◌, List, Option, None, Some}
 use Rattle.std.specs.Prelude.{IfSome, IsSome}
-use Rattle.std.proofs.lemmas.Bool.{cases_eq, cond-true, cond-false}
-use Rattle.std.proofs.lemmas.Bool.Decides.{eqb_tells}
+use Rattle.std.proofs.lemmas.{Bool.cases_eq, Bool.cond-true, Bool.cond-false, Bool.Decides.eqb_tells}
 use Rattle.inno_types.specs.declared.value.Schema.{Schema}
 use Rattle.entries.specs.{Pairs.Pair, Index.Goes, Index.AreKept}
 use Rattle.row_versions.specs.{declared.kept.Kept.Kept, Versions.Stays, Chains.Chains}
@@ -73,12 +72,10 @@ pairs_told index key value old new puts told i =
 pub puts_pairs : (index : ℕ) (key : List ℕ) (value : Option (List ℕ)) (old new : WorldState) → HasPut index key value old new → IsTold new
     → Puts (pairs_of old) (pairs_of new) index key value
 puts_pairs index key value old new puts told i =
-    ⊎_elim
-    (λ t. ap (pairs_of new) t.1 ∙ went (with_value key value) (old.indexes index).pairs (new.indexes index).pairs puts.0 (told.pairs index)
+    ⊎_elim (λ t. ap (pairs_of new) t.1 ∙ went (with_value key value) (old.indexes index).pairs (new.indexes index).pairs puts.0 (told.pairs index)
     ∙ sym (cond-true (i == index) (with_value key value (pairs_of old index)) (pairs_of old i) t.0))
     (λ f. went (λ pairs. pairs) (old.indexes i).pairs (new.indexes i).pairs (puts.1 i f.1) (told.pairs i)
-    ∙ sym (cond-false (i == index) (with_value key value (pairs_of old index)) (pairs_of old i) f.0))
-    (eqb_tells i index)
+    ∙ sym (cond-false (i == index) (with_value key value (pairs_of old index)) (pairs_of old i) f.0)) (eqb_tells i index)
 
 pub put_told : (index : ℕ) (key : List ℕ) (value : Option (List ℕ)) (old new : WorldState) → PutsPair index key value old new → IsTold new → IsTold old
 put_told index key value old new puts told =

@@ -17,8 +17,7 @@ pub record IsOfTable (table : ℕ) (schemas : List Schema) (index : ℕ) : Type 
 
 -- the same of the indexes of a table
 pub record AwaitsIn (actor table : ℕ) (old new : WorldState) : Type 0 where
-  pub each : (i by : ℕ) → (new.indexes i).awaited ≡ Some by
-      → ((old.indexes i).awaited ≡ Some by) ⊎ ((by ≡ actor) × IsOfTable table old.schemas i)
+  pub each : (i by : ℕ) → (new.indexes i).awaited ≡ Some by → ((old.indexes i).awaited ≡ Some by) ⊎ ((by ≡ actor) × IsOfTable table old.schemas i)
 
 -- nobody but this actor is awaited anywhere
 abbrev pub IsAwaitedAlone : ℕ → WorldState → Type 0

@@ -2,13 +2,13 @@
 use Rattle.std.specs.Prelude.{◌≡◌, ℕ, true, false, All, List, Option, None, Some, slice_get}
 use Rattle.inno_types.specs.{declared.value.Column.Column, declared.value.Schema.Schema, declared.value.Value.Value}
 use Rattle.inno_db.specs.declared.change.Change.{Change}
-use Rattle.inno_db.specs.declared.change.Change.TheVariants as changes
 use Rattle.store_api.specs.{declared.answers.Version.Version, declared.moves.Move.Move, declared.moves.Move.TheVariants.End}
 use Rattle.entries.specs.{Index.Index, Index.Told, Pairs.value_of}
 use Rattle.key_codec.specs.Keys.{HasKey, Has64Bits, key_code}
 use Rattle.row_codec.specs.Rows.{IsKeyOf}
 use Rattle.law_stored_rows.specs.{Fitting.FitsTable, Records.IsCodeOf}
 use Rattle.row_changes.specs.{declared.row_edit.RowEdit.RowEdit, declared.row_edit.RowEdit.TheVariants.Put, declared.row_edit.RowEdit.TheVariants.Remove}
+use Rattle.inno_db.specs.declared.change.Change.TheVariants as changes
 
 -- as the history tells it
 abbrev pub change_of : ℕ → RowEdit → Change

@@ -1,10 +1,9 @@
 -- How far a step came that was made where the change lies, as one that hands the change on.
-use Rattle.row_changes.specs.{declared.reached.Reached.Reached, declared.reached.Reached.TheVariants.Went, declared.reached.Reached.TheVariants.Done}
-use Rattle.row_changes.specs.{declared.reached.Reached.TheVariants.Hindered, declared.reached.Came.Came}
+use Rattle.row_changes.specs.{declared.reached.Reached.Reached, declared.reached.Came.Came, declared.record_change.RecordChange.RecordChange}
+use Rattle.row_changes.specs.{declared.record_change.RecordReached.RecordReached, declared.record_change.RecordCame.RecordCame}
+use Rattle.row_changes.specs.declared.reached.Reached.TheVariants.{Went, Done, Hindered}
 use Rattle.row_changes.specs.declared.reached.Came.TheVariants as came
-use Rattle.row_changes.specs.{declared.record_change.RecordChange.RecordChange, declared.record_change.RecordReached.RecordReached}
 use Rattle.row_changes.specs.declared.record_change.RecordReached.TheVariants as records
-use Rattle.row_changes.specs.declared.record_change.RecordCame.{RecordCame}
 use Rattle.row_changes.specs.declared.record_change.RecordCame.TheVariants as record_came
 
 abbrev pub reached_at : {T : Type 0} → T → Came → Reached T

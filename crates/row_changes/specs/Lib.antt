@@ -1,12 +1,10 @@
 pub mod Pairs
 pub mod Entries
-pub mod Coding
 pub mod Asides
 pub mod Edits
 pub mod Records
 pub mod Entering
 pub mod Told
-pub mod KeyEntries
 pub mod Keys
 pub mod Rows
 pub mod Awaited

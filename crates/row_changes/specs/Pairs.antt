@@ -1,6 +1,6 @@
 -- What a short step of a change does to the pairs of a world's indexes, and what may keep it from going on.
 use Rattle.std.specs.Prelude.{◌≡◌, ◌≢◌, ◌⊎◌, ℕ, List, Option, None}
-use Rattle.store_api.specs.declared.moves.Move.{Move}
+use Rattle.store_api.specs.{declared.moves.Move.Move}
 use Rattle.store_api.specs.declared.moves.Move.TheVariants.{At, End, Done, Latch, Full, TooDeep, NoMemory}
 use Rattle.entries.specs.{Index.Index, Index.Goes, Index.AreKept, Calls.Delays, Calls.LacksPages, Calls.IsKeptOff}
 use Rattle.row_versions.specs.Versions.{Stays}

@@ -1,24 +1,31 @@
 -- What is known of a record that is being changed between its steps, and what each step does.
-use Rattle.std.specs.Prelude.{◌≡◌, ◌≢◌, ◌⊎◌, ℕ, ◌+◌, ◌-◌, ◌^◌, ◌<◌, ◌≤◌, ◌==◌, if◌then◌else◌, true, false, List, [], ◌∷◌, length, slice_get, Option, None}
-use Rattle.std.specs.Prelude.{Some}
-use Rattle.inno_types.specs.{declared.value.Value.Value, declared.value.Schema.Schema}
+use Rattle.std.specs.Prelude.{ℕ, List, Result, Ok, Err, ◌≡◌, ◌≢◌, ◌⊎◌, ◌+◌, ◌-◌, ◌^◌, ◌<◌, ◌≤◌, ◌==◌, if◌then◌else◌, true, false, [], ◌∷◌, length, slice_get}
+use Rattle.std.specs.Prelude.{Option, None, Some}
+use Rattle.inno_types.specs.{declared.value.Schema.Schema, declared.value.Value.Value}
+use Rattle.store_api.specs.{declared.answers.Version.Version, declared.moves.Move.Move, declared.answers.Undo.Undo}
+use Rattle.store_api.specs.declared.moves.Move.TheVariants.{Bad, NoMemory, Done, End}
+use Rattle.row_codec.specs.Rows.{IsRecordOf, version_code}
+use Rattle.law_stored_rows.specs.{Records.IsCodeOf, Records.row_shown, Storable.IsStorable, Edits.clustered_index, Edits.with_value}
 use Rattle.inno_db.specs.declared.change.Change.{Change}
 use Rattle.inno_model.specs.declared.event.Event.TheVariants.{Changed}
-use Rattle.store_api.specs.{declared.answers.Version.Version, declared.answers.Undo.Undo, declared.moves.Move.Move, declared.moves.Move.TheVariants.Done}
-use Rattle.store_api.specs.{declared.moves.Move.TheVariants.End}
 use Rattle.entries.specs.{Pairs.value_of, Index.Index, Index.Told, Index.Goes, Index.AreKept}
-use Rattle.row_codec.specs.Rows.{IsRecordOf, version_code}
 use Rattle.txn_table.specs.Txns.{Txns, is_there, id_at, with_id}
-use Rattle.law_stored_rows.specs.{Storable.IsStorable, Edits.clustered_index, Edits.with_value, Records.IsCodeOf, Records.row_shown}
-use Rattle.world.specs.State.{WorldState, Session, Work, Logged, HasWork}
-use Rattle.world.specs.{Stores.StoreGoes, Indexes.KeepsIf, Undoing.MakesRoom}
-use Rattle.row_changes.specs.{declared.record_change.RecordChange.RecordChange, declared.record_change.RecordStage.RecordStage}
-use Rattle.row_changes.specs.{declared.record_change.RecordReached.RecordReached, declared.record_change.RecordReached.TheVariants.Went}
-use Rattle.row_changes.specs.{declared.record_change.RecordReached.TheVariants.Recorded, declared.record_change.RecordReached.TheVariants.Hindered}
-use Rattle.row_changes.specs.{declared.row_edit.RowEdit.RowEdit, declared.row_edit.RowEdit.TheVariants.Put, declared.row_edit.RowEdit.TheVariants.Remove}
-use Rattle.row_changes.specs.{Asides.StepsAside, Entries.IsThere, Pairs.Hinders}
+use Rattle.world.specs.{State.WorldState, State.Session, State.Work, State.Logged, State.HasWork, Stores.StoreGoes, Indexes.KeepsIf, Undoing.MakesRoom}
+use Rattle.row_changes.specs.{declared.record_change.RecordChange.RecordChange, declared.record_change.RecordReached.RecordReached, Asides.StepsAside}
+use Rattle.row_changes.specs.{declared.record_change.RecordStage.RecordStage, declared.row_edit.RowEdit.RowEdit, Entries.IsThere, Pairs.Hinders}
+use Rattle.row_changes.specs.declared.record_change.RecordReached.TheVariants.{Went, Recorded, Hindered}
+use Rattle.row_changes.specs.declared.row_edit.RowEdit.TheVariants.{Put, Remove}
 use Rattle.row_changes.specs.declared.record_change.RecordStage.TheVariants.{Enter, Room, Find, Insert, Replace}
 use Rattle.row_changes.specs.Edits.{change_of, rows_put, FitsEdit, IsPut, FindsRow, version_by, LacksRow}
+
+-- the version is that of the bytes, or none is, or memory ran out
+abbrev pub Decodes : Schema → List ℕ → List ℕ → Result Version Move → Type 0
+Decodes schema key bytes (Ok version) = IsCodeOf schema key bytes version
+Decodes schema key bytes (Err NoMemory) = Unit {0}
+Decodes schema key bytes (Err (Bad page rule)) = (version : Version) → IsRecordOf schema version key bytes → ⊥
+Decodes schema key bytes (Err other) = ⊥
+
+-- ---- what is known of a record that is being changed between its steps, and what each step does
 
 -- the longest undo record: seven bytes, a key and a value
 abbrev pub most_undo_bytes : ℕ
@@ -131,8 +138,7 @@ pub record Records (s : ℕ) (change : Change) (rows : ℕ) (table : ℕ) (key b
     rows = old.rows + rows;
     indexes = new.indexes;
     versions = new.versions;
-    paged =
-        new.paged;
+    paged = new.paged;
     sessions = new.sessions;
     txns = new.txns;
   }

@@ -3,7 +3,7 @@
 ghost use Rattle.std.specs.Prelude.{◌≡◌, IfOk, slice_get, Some};
 ghost use Rattle.row_codec.specs.Rows.{IsRowOf, version_code};
 ghost use Rattle.world.specs.State.{Session, Work, HasWork};
-ghost use Rattle.row_changes.specs.Coding.{Decodes};
+ghost use Rattle.row_changes.specs.Records.{Decodes};
 ghost use Rattle.row_changes.specs.Records.{id_for, undo_of_new, undo_of_former};
 
 use inno_types::{Bytes, Schema};

@@ -3,7 +3,7 @@
 ghost use Rattle.std.specs.Prelude.{◌≡◌, ◌≤◌, ◌<◌, ℕ, Some, length, IfOk, IfSome, MatchOption};
 ghost use Rattle.row_codec.specs.Rows.{IsRowOf};
 ghost use Rattle.law_stored_rows.specs.Edits.{key_index};
-ghost use Rattle.row_changes.specs.KeyEntries.{value_stays, StayBetween, IsFirstToChange, IsEntryIn, IsEntryFor, AreEntries};
+ghost use Rattle.row_changes.specs.Keys.{value_stays, StayBetween, IsFirstToChange, IsEntryIn, IsEntryFor, AreEntries};
 
 use inno_db::{at_place, order, to_value};
 use inno_types::{Bytes, Row, Schema};

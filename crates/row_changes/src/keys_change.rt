@@ -5,7 +5,7 @@ ghost use Rattle.std.specs.Prelude.{◌≡◌, ◌<◌, Some, None, IfOk, MatchO
 ghost use Rattle.inno_types.specs.declared.value.Schema.{Schema};
 ghost use Rattle.row_versions.specs.Chains.{Chains};
 ghost use Rattle.law_stored_rows.specs.Edits.{key_index};
-ghost use Rattle.row_changes.specs.KeyEntries.{StayBetween, AreEntries};
+ghost use Rattle.row_changes.specs.Keys.{StayBetween, AreEntries};
 ghost use Rattle.row_changes.specs.Awaited.{AwaitsIn};
 ghost use Rattle.row_changes.specs.Keys.{IsChangingKeys, ChangesKeys, keys_next};
 ghost use Rattle.row_changes.specs.declared.reached.Reached.TheVariants.{Went};

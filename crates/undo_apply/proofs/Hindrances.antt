@@ -3,8 +3,6 @@ use Rattle.std.proofs.Common.{◌≡◌, ◌⊎◌, inl, inr, ⊎_elim, ℕ, ◌
 use Rattle.store_api.specs.{declared.answers.Undo.Undo, declared.moves.Move.Move}
 use Rattle.store_api.specs.declared.moves.Move.TheVariants.{Done, Step, Latch, Again, Failed, Bad}
 use Rattle.entries.specs.{Index.Index, Calls.Delays, Calls.IsKeptOff}
-use Rattle.row_versions.specs.Calls as chain
-use Rattle.row_versions.specs.Versions as versions
 use Rattle.row_versions.specs.{declared.place.Place.Place, Chains.Chains}
 use Rattle.law_stored_rows.specs.Edits.{clustered_index, key_index}
 use Rattle.world.specs.{State.WorldState, Memory.IsInMemory}
@@ -13,6 +11,8 @@ use Rattle.row_changes.specs.Awaited.{AwaitsAt, AwaitsIn, IsAwaitedAlone}
 use Rattle.row_changes.proofs.Awaited.{awaits_in, clustered_of_table, key_of_table}
 use Rattle.undo_apply.specs.{declared.work_room.WorkRoom.WorkRoom, declared.work_room.Stage.Stage, declared.work_room.Stage.TheVariants.Walk}
 use Rattle.undo_apply.specs.Stages.{FitsKeys, IsPuttingBack, PutsBack, Stops, StopsWalk, StopsAt, index_at}
+use Rattle.row_versions.specs.Calls as chain
+use Rattle.row_versions.specs.Versions as versions
 
 pub rows_await : (chains : Chains) (place : Place) (actor : ℕ) (undo : Undo) (room : WorkRoom) (old new : WorldState)
     → IsPuttingBack chains place undo room old → AwaitsAt actor (clustered_index undo.table) old new → AwaitsIn actor undo.table old new

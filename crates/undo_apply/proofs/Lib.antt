@@ -1,16 +1,5 @@
-pub mod Lengths
-pub mod Heads
 pub mod Telling
-pub mod Places
 pub mod Columns
-pub mod Says
 pub mod Taken
-pub mod Walks
-pub mod There
-pub mod Ends
-pub mod Calls
 pub mod Goes
-pub mod KeySteps
-pub mod Looks
-pub mod RecordSteps
 pub mod Hindrances

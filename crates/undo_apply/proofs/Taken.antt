@@ -1,26 +1,111 @@
--- What the change of one entry makes of a change that is being taken back.
-use Rattle.std.proofs.Common.{◌≡◌, ◌≢◌, inl, inr, ⊎_elim, ℕ, ◌+◌, ◌<◌, Bool, true, false, cond, List, [], ◌∷◌, Option, Some, None, refl, sym, ap, subst, ◌∙◌}
-use Rattle.std.proofs.Common.{arith, slice_get, length}
-use Rattle.std.specs.Prelude.{◌==◌}
-use Rattle.std.specs.List.{list_any}
-use Rattle.std.proofs.lemmas.Bool.{cases_eq, cond-false, ne_eqb}
-use Rattle.inno_types.specs.{declared.value.Value.Value, declared.value.Column.Column, declared.value.Key.Key, declared.value.Schema.Schema}
-use Rattle.store_api.specs.declared.answers.Undo.{Undo}
-use Rattle.store_api.specs.declared.answers.Version.{Version as Coded}
-use Rattle.entries.specs.Pairs.{value_of}
-use Rattle.row_versions.specs.{declared.place.Place.Place, declared.version.Version.Version, Chains.Chains, Chains.newest}
+-- What keys say of a place, what the change of one entry makes of a change that is being taken back, and how that ends.
+use Rattle.std.proofs.Common.{◌≡◌, ◌≢◌, ⊎_elim, ℕ, ◌+◌, Bool, true, false, cond, List, Option, Some, refl, sym, ap, subst, ◌∙◌, arith, slice_get, inl, inr}
+use Rattle.std.proofs.Common.{◌<◌, [], ◌∷◌, None, length}
+use Rattle.std.specs.Prelude.{◌==◌, ◌&&◌}
+use Rattle.std.proofs.lemmas.{Bool.cases_eq, Bool.cond-true, Bool.cond-false, Bool.eq-eqb, Bool.ne_eqb, Option.slice_get_within}
+use Rattle.inno_types.specs.{declared.value.Value.Value, declared.value.Key.Key, declared.value.Schema.Schema, declared.value.Column.Column}
+use Rattle.entries.specs.Pairs.{Pair, value_of}
+use Rattle.row_versions.specs.{declared.kept.Kept.Kept, declared.place.Place.Place, declared.version.Version.Version}
+use Rattle.row_versions.specs.Chains.{Chains, is_same_place, Pops, newest, older}
+use Rattle.law_stored_rows.specs.{Tables.in_table, Tables.AreCodedAs, Tables.LagAt, Tables.SaysNow, Edits.clustered_index, Edits.key_index, Edits.Puts}
+use Rattle.law_stored_rows.specs.{Records.shown, Records.row_shown, Records.IsCodeOf, Records.LeadTo, Steps.PutsRecord}
+use Rattle.law_stored_rows.specs.Entries.{TellAlike, value_in, has_value, entry_of as entry_said, TellAlikeBut}
 use Rattle.secondary.specs.Entries.{entry_of}
-use Rattle.law_stored_rows.specs.Edits.{clustered_index, key_index, Puts}
-use Rattle.law_stored_rows.specs.Entries.{value_in, has_value, entry_of as entry_said, TellAlike, TellAlikeBut}
-use Rattle.law_stored_rows.specs.{Records.shown, Records.row_shown, Records.IsCodeOf, Tables.SaysNow}
-use Rattle.law_stored_rows.proofs.{Values.value_itself, Pairs.no_key, Keys.entry_changed}
+use Rattle.law_stored_rows.proofs.{Tables.at, Tables.popped_here, Pairs.no_key, Pairs.value_now, Values.place_itself, Values.same_place, Values.value_itself}
+use Rattle.law_stored_rows.proofs.{Tables.popped_elsewhere, Steps.record_taken_back, Steps.record_removed, RowRecords.pointer_followed, RowRecords.one_lead}
+use Rattle.law_stored_rows.proofs.Keys.{said_alike, entry_changed, change_over}
 use Rattle.law_stored_rows.proofs.Entries.{marked, taken, is_taken, unmarked, is_unmarked, without_row, value_again}
-use Rattle.undo_apply.specs.Told.{Rows}
-use Rattle.undo_apply.specs.Standing.{TellsOf, IsNewest, said_but, AreCodedBut, IsCleared, IsLagging, SayBefore, IsUnderWay, versions_before, column_of}
-use Rattle.undo_apply.specs.Standing.{some_has}
-use Rattle.undo_apply.proofs.{Telling.pairs_after, Places.place_is, Places.WasThere, Places.WasNot}
-use Rattle.undo_apply.proofs.Columns.{IsKeyAt, key_at, column_is, entry_is, few_keys}
-use Rattle.undo_apply.proofs.Says.{set_said, set_here, set_others, here_now, one_done, says_place, sets_there, but_alike}
+use Rattle.undo_apply.specs.{Told.Rows}
+use Rattle.undo_apply.specs.Standing.{said_but, AreCodedBut, IsLagging, SayBefore, TellsOf, IsNewest, IsCleared, IsUnderWay, versions_before, column_of}
+use Rattle.undo_apply.specs.Standing.{some_has, LeadsBack, was_before, IsTakenBack}
+use Rattle.std.specs.List.{list_any}
+use Rattle.store_api.specs.{declared.answers.Undo.Undo}
+use Rattle.store_api.specs.declared.answers.Version.{Version as Coded}
+use Rattle.undo_apply.proofs.{Telling.pairs_after}
+use Rattle.undo_apply.proofs.Columns.{IsKeyAt, key_at, column_is, entry_is, few_keys, place_is, WasThere, WasNot, newest_read, before_new, before_kept}
+use Rattle.row_codec.proofs.Once.{same_version}
+
+-- one key says something else now
+abbrev pub set_said : (ℕ → List Version) → ℕ → List Version → ℕ → List Version
+set_said said which versions other = cond (other == which) versions (said other)
+
+pub set_here : (said : ℕ → List Version) (which : ℕ) (versions : List Version) → set_said said which versions which ≡ versions
+set_here said which versions = cond-true (which == which) versions (said which) (eq-eqb which which refl)
+
+pub set_others : (said : ℕ → List Version) (which : ℕ) (versions : List Version) (other : ℕ) → other ≢ which → set_said said which versions other ≡ said other
+set_others said which versions other differs = cond-false (other == which) versions (said other) (ne_eqb other which differs)
+
+module _ (newest : Version) (before : List Version) (said : ℕ → List Version) (which : ℕ) where
+  pub here_now : (Was Now : List Version → Type 0) (versions : List Version) → Now versions → SayBefore which Was newest before said
+      → SayBefore which Now newest before (set_said said which versions)
+  here_now Was Now versions now says = record {
+    first = λ other less. set_others said which versions other (omega arith) ∙ says.first other less;
+    here = subst Now (sym (set_here said which versions)) now;
+    others =
+        λ other more. subst (λ (v : List Version). IsLagging newest before v) (sym (set_others said which versions other (omega arith)))
+        (says.others other more);
+  }
+
+  pub one_done : (Was : List Version → Type 0) → SayBefore which Was newest before said
+      → SayBefore (which + 1) (IsLagging newest before) newest before (set_said said which before)
+  one_done Was says = record {
+    first = λ other less. ⊎_elim
+        (λ e. ap (λ (k : ℕ). set_said said which before k) e ∙ set_here said which before)
+        (λ differs. set_others said which before other differs ∙ says.first other (omega (arith, less, differs))) (cases_eq other which);
+    here =
+        subst (λ (v : List Version). IsLagging newest before v) (sym (set_others said which before (which + 1) (omega arith)))
+        (says.others (which + 1) (omega arith));
+    others =
+        λ other more. subst (λ (v : List Version). IsLagging newest before v) (sym (set_others said which before other (omega (arith, more))))
+        (says.others other (omega (arith, more)));
+  }
+
+-- ---- what keys say of all places
+
+pub says_place : (chains : Chains) (place : Place) (said : ℕ → List Version) (which : ℕ) → said_but chains place said place.table which place.key ≡ said which
+says_place chains place said which = cond-true (is_same_place place place) (said which) (in_table place.table chains place.key) (place_itself place)
+
+pub lags_there : (chains : Chains) (place : Place) (said : ℕ → List Version) → LagAt place chains (said_but chains place said)
+lags_there chains place said table which value apart = cond-false (is_same_place place (at table value)) (said which) (in_table table chains value) apart
+
+pub sets_there : (chains : Chains) (place : Place) (said : ℕ → List Version) (which : ℕ) (versions : List Version)
+    → SaysNow (said_but chains place said) (said_but chains place (set_said said which versions)) place which versions
+sets_there chains place said which versions table key value = go (key == which) (is_same_place place (at table value)) where
+  go : (b t : Bool)
+      → cond t (cond b versions (said key)) (in_table table chains value) ≡ cond (b && t) versions (cond t (said key) (in_table table chains value))
+  go true true = refl
+  go true false = refl
+  go false true = refl
+  go false false = refl
+
+-- Without its newest version the keys say of the place what they said.
+pub but_after : (schemas : List Schema) (indexes : ℕ → List Pair) (kept : ℕ → Option Kept) (before after : Chains) (place : Place) (said : ℕ → List Version)
+    → Pops before after place → AreCodedAs schemas indexes kept after (said_but before place said) → AreCodedBut schemas indexes kept after place said
+but_after schemas indexes kept before after place said pops is =
+    said_alike schemas indexes kept after (said_but before place said) (said_but after place said) is
+    (λ table which schema key there also value. tells table which key value (is_same_place place (at table value)) refl) where
+      tells : (table which : ℕ) (key : Key) (v : Value) (t : Bool) → is_same_place place (at table v) ≡ t
+          → TellAlike key.column (cond t (said which) (in_table table before v)) (cond t (said which) (in_table table after v))
+      tells table which key v true same = λ other. refl
+      tells table which key v false apart = λ other. ap (entry_said key.column other) (sym (popped_elsewhere before after place pops (at table v) apart))
+
+-- Each key may be said to say of the place what tells alike.
+pub but_alike : (schemas : List Schema) (indexes : ℕ → List Pair) (kept : ℕ → Option Kept) (chains : Chains) (place : Place) (was now : ℕ → List Version)
+    → AreCodedBut schemas indexes kept chains place was
+    → ((schema : Schema) (which : ℕ) (key : Key) → slice_get schemas place.table ≡ Some schema → slice_get schema.keys which ≡ Some key → TellAlike key.column
+    (was which) (now which)) → AreCodedBut schemas indexes kept chains place now
+but_alike schemas indexes kept chains place was now is alike =
+    said_alike schemas indexes kept chains (said_but chains place was) (said_but chains place now) is
+    (λ table which schema key there also value. tells table which schema key there also value (is_same_place place (at table value)) refl) where
+      tells : (table which : ℕ) (schema : Schema) (key : Key) → slice_get schemas table ≡ Some schema → slice_get schema.keys which ≡ Some key
+          → (v : Value) (t : Bool) → is_same_place place (at table v) ≡ t
+          → TellAlike key.column (cond t (was which) (in_table table chains v)) (cond t (now which) (in_table table chains v))
+      tells table which schema key there also v true same =
+          let one : place.table ≡ table = ap (λ (p : Place). p.table) (same_place place (at table v) same) in
+          alike schema which key (subst (λ (t : ℕ). slice_get schemas t ≡ Some schema) (sym one) there) also
+      tells table which schema key there also v false apart = λ other. refl
+
+-- ---- what the change of one entry makes of a change that is being taken back
 
 -- a version without a row
 abbrev gone : Version
@@ -44,12 +129,7 @@ module _ (column : ℕ) (value : Value) (first : Version) (before : List Version
 
   at_before : (b : Bool) → has_value column value (newest before) ≡ b → Dropped before
   at_before true has = gone_now before (marked column value gone before has refl)
-  at_before false has = record {
-    versions = before;
-    alike = λ other apart. refl;
-    told = rw has refl;
-    cleared = inl refl;
-  }
+  at_before false has = record { versions = before; alike = λ other apart. refl; told = rw has refl; cleared = inl refl }
 
   pub drop_to : has_value column value first.row ≡ true → (said : List Version) → IsLagging first before said → Dropped said
   drop_to has said (inl (inl same)) = subst Dropped (sym same) (at_before (has_value column value (newest before)) refl)
@@ -172,15 +252,13 @@ module _ (chains : Chains) (place : Place) (undo : Undo) (schema : Schema) (rows
 
   -- what a key says may be said otherwise
   said_now : (bytes : List ℕ) (coded : Coded) (which done : ℕ) (Was Now : List Version → Type 0) (versions : List Version)
-      (way : UnderWay rows bytes coded which Was)
-      → ((key : Key) → slice_get schema.keys which ≡ Some key → TellAlike key.column (way.said which) versions) → SayBefore done Now (shown coded) before
-      (set_said way.said which versions) → UnderWay rows bytes coded done Now
+      (way : UnderWay rows bytes coded which Was) → ((key : Key) → slice_get schema.keys which ≡ Some key → TellAlike key.column (way.said which) versions)
+      → SayBefore done Now (shown coded) before (set_said way.said which versions) → UnderWay rows bytes coded done Now
   said_now bytes coded which done Was Now versions way alike says = record {
     newest = way.newest;
     said = set_said way.said which versions;
     coded_but = but_alike rows.schemas rows.pairs rows.kept chains place way.said (set_said way.said which versions) way.coded_but
-        (λ other at_key key there key_is. ⊎_elim
-        (λ same.
+        (λ other at_key key there key_is. ⊎_elim (λ same.
         let table : place.table ≡ undo.table = tells.table_is in
         let there_too : slice_get rows.schemas undo.table ≡ Some other = subst (λ (t : ℕ). slice_get rows.schemas t ≡ Some other) table there in
         let one : schema ≡ other = cc (there_too, tells.there) in
@@ -189,8 +267,7 @@ module _ (chains : Chains) (place : Place) (undo : Undo) (schema : Schema) (rows
         subst (λ (w : ℕ). TellAlike key.column (way.said w) (set_said way.said which versions w)) (sym same)
         (subst (λ (v : List Version). TellAlike key.column (way.said which) v) (sym (set_here way.said which versions)) (alike key key_too)))
         (λ differs. subst (λ (v : List Version). TellAlike key.column (way.said at_key) v) (sym (set_others way.said which versions at_key differs))
-        (λ value. refl))
-        (cases_eq at_key which));
+        (λ value. refl)) (cases_eq at_key which));
     says = says;
   }
 
@@ -199,8 +276,7 @@ module _ (chains : Chains) (place : Place) (undo : Undo) (schema : Schema) (rows
       → UnderWay rows bytes coded (which + 1) (IsLagging (shown coded) before)
   passed bytes coded which was way =
       said_now bytes coded which (which + 1) (IsCleared before) (IsLagging (shown coded) before) before way
-      (λ key key_is. alike key (way.said which) way.says.here)
-      (one_done (shown coded) before way.said which (IsCleared before) way.says) where
+      (λ key key_is. alike key (way.said which) way.says.here) (one_done (shown coded) before way.said which (IsCleared before) way.says) where
         alike : (key : Key) (said : List Version) → IsCleared before said → TellAlike key.column said before
         alike key said (inl same) = λ value. ap (entry_said key.column value) same
         alike key said (inr (away, none, same)) = λ value. ap (entry_said key.column value) same ∙ sym (without_row key.column away before none was.first value)
@@ -250,3 +326,80 @@ module _ (chains : Chains) (place : Place) (undo : Undo) (schema : Schema) (rows
         said_now bytes coded which which (IsLagging (shown coded) before) (IsCleared before) before way
         (λ key key_is. subst (λ (v : List Version). TellAlike key.column v before) (sym (is ∙ with_newest)) (alike key key_is))
         (here_now (shown coded) before way.said which (IsLagging (shown coded) before) (IsCleared before) before (inl refl) way.says)
+
+-- ---- the record is put back last
+
+module _ (chains : Chains) (place : Place) (undo : Undo) (schema : Schema) (rows : Rows) (tells : TellsOf undo schema place rows.schemas) where
+  -- the rows once the record is what it was before
+  abbrev pub put_back : Rows
+  put_back = record rows { pairs = pairs_after (clustered_index undo.table) undo.key (was_before undo) rows.pairs }
+
+  step : (bytes : List ℕ) (coded : Coded) (value : Option (List ℕ)) → IsCodeOf schema undo.key bytes coded → was_before undo ≡ value
+      → PutsRecord rows.schemas rows.pairs put_back.pairs undo.table schema undo.key bytes coded value
+  step bytes coded value code now =
+      let Put : Option (List ℕ) → Type 0 = λ o. Puts rows.pairs put_back.pairs (clustered_index undo.table) undo.key o in
+      let puts : Put (was_before undo) = λ other. refl in
+      record { there = tells.there; code_is = code; puts = subst Put now puts }
+
+  -- the record is taken back where its pointer leads to what was before
+  taken_back : (after : Chains) (bytes : List ℕ) (coded : Coded) (said : ℕ → List Version) → IsNewest undo schema rows.pairs rows.kept bytes coded
+      → AreCodedBut rows.schemas rows.pairs rows.kept chains place said → Pops chains after place
+      → LeadsBack undo rows.kept coded.pointer → AreCodedBut rows.schemas put_back.pairs rows.kept after place said
+  taken_back after bytes coded said is are pops (inl new) =
+      but_after rows.schemas put_back.pairs rows.kept chains after place said pops
+      (record_removed rows.schemas rows.pairs put_back.pairs rows.kept chains after (said_but chains place said) undo.table schema undo.key bytes coded are
+      (step bytes coded None is.code_is (before_new undo new.0)) is.there new.1
+      (subst (λ (p : Place). Pops chains after p) (sym (place_is undo schema place rows.schemas tells bytes coded is.code_is)) pops))
+  taken_back after bytes coded said is are pops (inr (kind, leads, former, keeps, same)) =
+      but_after rows.schemas put_back.pairs rows.kept chains after place said pops
+      (record_taken_back rows.schemas rows.pairs put_back.pairs rows.kept chains after (said_but chains place said) undo.table schema undo.key bytes coded are
+      former (step bytes coded (Some former.bytes) is.code_is (before_kept undo kind ∙ ap Some (sym same))) is.there leads keeps
+      (subst (λ (p : Place). Pops chains after p) (sym (place_is undo schema place rows.schemas tells bytes coded is.code_is)) pops))
+
+  -- Once all keys say the versions before, all is what it was without the newest version.
+  pub ends : (bytes : List ℕ) (coded : Coded)
+      → IsUnderWay chains place undo schema rows bytes coded (length schema.keys) (IsLagging (shown coded) (versions_before chains place))
+      → (after : Chains) → Pops chains after place → IsTakenBack after undo put_back
+  ends bytes coded way after pops = record {
+    all =
+        change_over rows.schemas put_back.pairs rows.kept after place (said_but after place way.said)
+        (taken_back after bytes coded way.said way.newest way.coded_but pops way.newest.before) (lags_there after place way.said)
+        (λ which other key there key_is value.
+        let there_too : slice_get rows.schemas undo.table ≡ Some other = subst (λ (t : ℕ). slice_get rows.schemas t ≡ Some other) tells.table_is there in
+        let one : other ≡ schema = cc (there_too, tells.there) in
+        let key_too : slice_get schema.keys which ≡ Some key = subst (λ (s : Schema). slice_get s.keys which ≡ Some key) one key_is in
+        let within : which < length schema.keys = slice_get_within schema.keys which key key_too in
+        ap (entry_said key.column value) (says_place after place way.said which ∙ way.says.first which within ∙ sym (popped_here chains after place pops)));
+    there =
+        ap (value_of undo.key) (cond-true (clustered_index undo.table == clustered_index undo.table) _ (rows.pairs (clustered_index undo.table))
+        (eq-eqb (clustered_index undo.table) (clustered_index undo.table) refl))
+        ∙ value_now undo.key (was_before undo) (rows.pairs (clustered_index undo.table)) (way.coded_but.clustered.tables undo.table schema tells.there).rising;
+  }
+
+-- ---- a record that stands is not what it was before
+
+longer : (first : Version) (rest : List Version) → rest ≡ first ∷ rest → ⊥
+longer first rest is = absurd (omega (arith, ap length is))
+
+stands_yet : (undo : Undo) (schema : Schema) (kept : ℕ → Option Kept) (bytes : List ℕ) (coded : Coded) (before : List Version)
+    → IsCodeOf schema undo.key bytes coded → LeadTo schema undo.key kept coded.pointer before → LeadsBack undo kept coded.pointer
+    → Some bytes ≡ was_before undo → ⊥
+stands_yet undo schema kept bytes coded before code leads_on (inl new) same = let none : Some bytes ≡ None = same ∙ before_new undo new.0 in cc
+stands_yet undo schema kept bytes coded before code leads_on (inr (kind, leads, former, keeps, kept_is)) same =
+    let some : Some bytes ≡ Some undo.value = same ∙ before_kept undo kind in
+    let one_value : bytes ≡ former.bytes = cc (some, kept_is) in
+    let read = pointer_followed schema undo.key kept coded.pointer before former leads_on leads keeps in
+    let code_too = subst (λ (b : List ℕ). IsCodeOf schema undo.key b former.version) (sym one_value) read.0 in
+    let one : former.version ≡ coded =
+    same_version schema former.version coded undo.key bytes code_too.numbers code.numbers code_too.record_is code.record_is in
+    let behind : LeadTo schema undo.key kept coded.pointer (older before) =
+    subst (λ (c : Coded). LeadTo schema undo.key kept c.pointer (older before)) one read.2 in
+    let twice : older before ≡ before = one_lead schema undo.key kept coded.pointer (older before) before behind leads_on in
+    longer (shown former.version) (older before) (twice ∙ read.1)
+
+pub stands : (chains : Chains) (place : Place) (undo : Undo) (schema : Schema) (rows : Rows) (bytes : List ℕ) (coded : Coded) (done : ℕ)
+    (Holds : List Version → Type 0) → TellsOf undo schema place rows.schemas → IsUnderWay chains place undo schema rows bytes coded done Holds
+    → value_of undo.key (rows.pairs (clustered_index undo.table)) ≢ was_before undo
+stands chains place undo schema rows bytes coded done Holds tells way same =
+    let read = newest_read undo schema place rows.schemas tells rows.pairs rows.kept chains bytes coded way.coded_but.clustered way.newest in
+    stands_yet undo schema rows.kept bytes coded (versions_before chains place) way.newest.code_is read.1 way.newest.before (sym way.newest.there ∙ same)

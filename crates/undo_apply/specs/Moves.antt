@@ -1,13 +1,13 @@
 -- What small parts of a step leave of the room.
 use Rattle.std.specs.Prelude.{◌≡◌, ◌≢◌, ◌⊎◌, ℕ, ◌+◌, ◌<◌, ◌≤◌, true, false, List, length, slice_get, Some}
 use Rattle.inno_types.specs.declared.value.Schema.{Schema}
-use Rattle.store_api.specs.{declared.answers.Undo.Undo, declared.answers.Version.Version, declared.moves.Move.Move, declared.moves.Move.TheVariants.End}
-use Rattle.store_api.specs.{declared.moves.Move.TheVariants.Done, declared.moves.Move.TheVariants.Step}
+use Rattle.store_api.specs.{declared.answers.Undo.Undo, declared.answers.Version.Version, declared.moves.Move.Move}
+use Rattle.store_api.specs.declared.moves.Move.TheVariants.{End, Done, Step}
 use Rattle.row_codec.specs.Rows.{IsRecordOf, IsVersion}
 use Rattle.secondary.specs.Entries.{HasSecondary, entry_of}
 use Rattle.world.specs.State.{WorldState}
-use Rattle.undo_apply.specs.{declared.work_room.WorkRoom.WorkRoom, declared.work_room.Stage.Stage, declared.work_room.Stage.TheVariants.Find}
-use Rattle.undo_apply.specs.{declared.work_room.Stage.TheVariants.Walk, declared.work_room.Stage.TheVariants.Mark}
+use Rattle.undo_apply.specs.{declared.work_room.WorkRoom.WorkRoom, declared.work_room.Stage.Stage}
+use Rattle.undo_apply.specs.declared.work_room.Stage.TheVariants.{Find, Walk, Mark}
 
 -- the stage is another, and that alone
 abbrev pub at_stage : Stage → WorkRoom → WorkRoom

@@ -1,11 +1,9 @@
 -- What is known between the steps of a taking back, stage by stage, and what each step does.
 use Rattle.std.specs.Prelude.{◌≡◌, ◌≢◌, ◌⊎◌, ℕ, ◌<◌, ◌≤◌, Bool, true, false, List, length, slice_get, Option, Some}
 use Rattle.inno_types.specs.declared.value.Schema.{Schema}
-use Rattle.store_api.specs.declared.answers.Undo.{Undo}
+use Rattle.store_api.specs.{declared.answers.Undo.Undo, declared.moves.Move.Move}
 use Rattle.store_api.specs.declared.answers.Version.{Version as Coded}
-use Rattle.store_api.specs.declared.moves.Move.{Move}
 use Rattle.store_api.specs.declared.moves.Move.TheVariants.{Done, Step, Latch, Again, Failed, Bad}
-use Rattle.store_api.specs.declared.visits.Visit.TheVariants as visit
 use Rattle.entries.specs.Pairs.{value_of}
 use Rattle.row_versions.specs.{Calls.IsUnseen, declared.place.Place.Place, declared.version.Version.Version, Chains.Chains, Chains.Pops}
 use Rattle.law_stored_rows.specs.{Edits.clustered_index, Edits.key_index, Records.shown, Records.LeadTo}
@@ -14,6 +12,7 @@ use Rattle.row_changes.specs.Pairs.{RowsStay, PutsPair, Hinders}
 use Rattle.undo_apply.specs.{declared.work_room.WorkRoom.WorkRoom, declared.work_room.Stage.Stage, Rooms.IsWhole, Rooms.steps_left, Told.Rows, Told.rows_of}
 use Rattle.undo_apply.specs.declared.work_room.Stage.TheVariants.{Find, Key, Walk, Mark, Await, Remove, Unmark, AwaitRecords, Record}
 use Rattle.undo_apply.specs.Standing.{TellsOf, was_before, had_row, versions_before, IsCleared, IsLagging, IsUnderWay, IsTakenBack, some_has, HasWalked}
+use Rattle.store_api.specs.declared.visits.Visit.TheVariants as visit
 
 -- the key of a stage is one of the table's
 abbrev pub FitsKeys : ℕ → Undo → Stage → Type 0

@@ -2,14 +2,14 @@
 use Rattle.std.specs.Prelude.{◌≡◌, ◌≢◌, ◌⊎◌, ℕ, ◌<◌, ◌≤◌, ◌==◌, Bool, false, if◌then◌else◌, List, ◌∷◌, length, slice_get, slice_index_or, Option, None, Some}
 use Rattle.std.specs.List.{list_any}
 use Rattle.inno_types.specs.{declared.value.Column.Column, declared.value.Schema.Schema}
-use Rattle.store_api.specs.declared.answers.Undo.{Undo}
+use Rattle.store_api.specs.{declared.answers.Undo.Undo}
 use Rattle.store_api.specs.declared.answers.Version.{Version as Coded}
 use Rattle.key_codec.specs.Keys.{HasKey, key_code}
 use Rattle.law_stored_rows.specs.{Storable.IsStorable, Edits.clustered_index, Entries.value_in, Entries.has_value, Records.shown, Records.IsCodeOf}
 use Rattle.law_stored_rows.specs.{Records.LeadTo, Tables.in_table, Tables.Said, Tables.AreCodedAs, Tables.AreCoded}
 use Rattle.entries.specs.Pairs.{Pair, value_of}
-use Rattle.row_versions.specs.{declared.kept.Kept.Kept, declared.place.Place.Place, declared.version.Version.Version, Chains.Chains, Chains.versions_at}
-use Rattle.row_versions.specs.{Chains.is_same_place, Chains.older}
+use Rattle.row_versions.specs.{declared.kept.Kept.Kept, declared.place.Place.Place, declared.version.Version.Version}
+use Rattle.row_versions.specs.Chains.{Chains, versions_at, is_same_place, older}
 use Rattle.secondary.specs.Entries.{place_if}
 use Rattle.world.specs.Indexes.{IsUndo}
 use Rattle.undo_apply.specs.Told.{Rows}
@@ -50,8 +50,7 @@ pub record IsNewest (undo : Undo) (schema : Schema) (pairs : ℕ → List Pair) 
 
 -- at one place what the key of this number says, and elsewhere what is there
 abbrev pub said_but : Chains → Place → (ℕ → List Version) → Said
-said_but chains place said table which value =
-    if is_same_place place (record { table = table; key = value }) then said which else in_table table chains value
+said_but chains place said table which value = if is_same_place place (record { table = table; key = value }) then said which else in_table table chains value
 
 -- While a change of one place is under way: each key says of that place what `said` has for it, and of all others what is there.
 abbrev pub AreCodedBut : List Schema → (ℕ → List Pair) → (ℕ → Option Kept) → Chains → Place → (ℕ → List Version) → Type 0

@@ -1,4 +1,4 @@
-use Rattle.row_changes.specs.KeyEntries.{StayBetween}
+use Rattle.row_changes.specs.Keys.{StayBetween}
 use Rattle.row_changes.proofs.key_entries.first_to_change.Given as goal
 
 abbrev pub invariant-loop-which : goal.invariant-loop-which

@@ -1,4 +1,4 @@
-use Rattle.undo_apply.proofs.KeySteps.{await_step, await_unwritten, nexted_leaves}
+use Rattle.undo_apply.proofs.Goes.{await_step, await_unwritten, nexted_leaves}
 use Rattle.undo_apply.proofs.key_steps.await_entries.Goals as goal
 
 pub returns-clause-puts : goal.returns-clause-puts
@@ -8,12 +8,12 @@ returns-clause-puts g c = λ chains place is.
     let room = c.args.room.now in
     let entry = c.write_entry.new.entries in
     let read = c.next_key-answer.new.into in
-    await_step chains place c.args.actor undo room old is c.args.which c.requires.stage (record room { entries = entry; next = read })
-    (nexted_leaves chains place c.args.actor undo room old is c.args.which entry read c.next_key-answer.ensures.room) entry read.items
-    (g.W.World.state c.next_key-answer.new.self) c.next_key-answer.result
-    (rw (c.entries_of.ensures, c.entry.ensures) at c.next_key-answer.ensures.answer) c.go_on_or_end.new.room c.go_on_or_end.result c.go_on_or_end.ensures
+    await_step c.args.actor is c.args.which c.requires.stage (record room { entries = entry; next = read })
+    (nexted_leaves c.args.actor is entry read c.next_key-answer.ensures.room) entry read.items (g.W.World.state c.next_key-answer.new.self)
+    c.next_key-answer.result (rw (c.entries_of.ensures, c.entry.ensures) at c.next_key-answer.ensures.answer) c.go_on_or_end.new.room c.go_on_or_end.result
+    c.go_on_or_end.ensures
 
 pub returns-then-not-write_entry-clause-puts : goal.returns-then-not-write_entry-clause-puts
 returns-then-not-write_entry-clause-puts g c = λ chains place is.
-    await_unwritten chains place c.args.actor c.args.undo.now c.args.room.now (g.W.World.state c.args.world.now) is c.args.which c.requires.stage
-    c.write_entry.new.entries c.write_entry.result (rw c.deref.ensures.value at c.write_entry.ensures) c.if-not-write_entry.true
+    await_unwritten c.args.actor is c.args.which c.requires.stage c.write_entry.new.entries c.write_entry.result
+    (rw c.deref.ensures.value at c.write_entry.ensures) c.if-not-write_entry.true

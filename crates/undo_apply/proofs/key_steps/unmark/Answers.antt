@@ -1,26 +1,25 @@
 use Rattle.std.proofs.Common.{ℕ, None, subst}
 use Rattle.row_changes.specs.Awaited.{AwaitsAt}
 use Rattle.row_changes.proofs.Awaited.{awaits_at, replace_with_here}
-use Rattle.undo_apply.proofs.KeySteps.{unmark_step, unmark_unwritten}
+use Rattle.undo_apply.proofs.Goes.{unmark_step, unmark_unwritten}
 use Rattle.undo_apply.proofs.key_steps.unmark.Goals as goal
 
 pub returns-clause-puts : goal.returns-clause-puts
 returns-clause-puts g c = λ chains place is.
-    unmark_step chains place c.args.actor c.args.undo.now c.args.room.now (g.W.World.state c.args.world.now) is c.args.which c.requires.stage
-    c.write_entry.new.entries c.write_entry.result (rw c.as_slice.ensures at c.write_entry.ensures) (g.W.World.state c.replace-answer.new.self)
-    c.replace-answer.result (rw (c.entries_of.ensures, c.entry.ensures) at c.replace-answer.ensures) c.go_on.new.room c.go_on.result c.go_on.ensures
+    unmark_step c.args.actor is c.args.which c.requires.stage c.write_entry.new.entries c.write_entry.result (rw c.as_slice.ensures at c.write_entry.ensures)
+    (g.W.World.state c.replace-answer.new.self) c.replace-answer.result (rw (c.entries_of.ensures, c.entry.ensures) at c.replace-answer.ensures)
+    c.go_on.new.room c.go_on.result c.go_on.ensures
 
 pub returns-then-not-write_entry-clause-puts : goal.returns-then-not-write_entry-clause-puts
 returns-then-not-write_entry-clause-puts g c = λ chains place is.
-    unmark_unwritten chains place c.args.actor c.args.undo.now c.args.room.now (g.W.World.state c.args.world.now) is c.args.which c.requires.stage
-    c.write_entry.new.entries c.write_entry.result (rw c.as_slice.ensures at c.write_entry.ensures) c.if-not-write_entry.true
+    unmark_unwritten c.args.actor is c.args.which c.requires.stage c.write_entry.new.entries c.write_entry.result
+    (rw c.as_slice.ensures at c.write_entry.ensures) c.if-not-write_entry.true
 
 pub returns-clause-awaits : goal.returns-clause-awaits
 returns-clause-awaits g c =
     let old = g.W.World.state c.args.world.now in
     let new = g.W.World.state c.replace-answer.new.self in
     let index = c.entries_of.result in
-    subst (λ (i : ℕ). AwaitsAt c.args.actor i old new) c.entries_of.ensures
-    (awaits_at c.args.actor index _ old new c.replace-answer.ensures.index_is
+    subst (λ (i : ℕ). AwaitsAt c.args.actor i old new) c.entries_of.ensures (awaits_at c.args.actor index _ old new c.replace-answer.ensures.index_is
     (replace_with_here None c.args.actor c.entry.result.now c.args.room.now.unmarked (old.indexes index) (new.indexes index) c.replace-answer.result
     c.replace-answer.ensures.index_is.here))

@@ -1,6 +1,6 @@
 use Rattle.std.proofs.Common.{ℕ, subst, sym}
 use Rattle.world.specs.State.{IsIndex}
-use Rattle.undo_apply.proofs.{Columns.index_of_rows, RecordSteps.remove_record, RecordSteps.replace_record}
+use Rattle.undo_apply.proofs.{Columns.index_of_rows, Goes.remove_record, Goes.replace_record}
 use Rattle.undo_apply.proofs.record_steps.put_record.Goals as goal
 
 pub replace-answer-requires-clause-index : goal.replace-answer-requires-clause-index
@@ -11,12 +11,10 @@ replace-answer-requires-clause-index g c =
 
 pub returns-then-undo-eq-NEW_ROW-clause-puts : goal.returns-then-undo-eq-NEW_ROW-clause-puts
 returns-then-undo-eq-NEW_ROW-clause-puts g c = λ chains place is.
-    remove_record chains place c.args.actor c.args.undo.now c.args.room.now (g.W.World.state c.args.world.now) is c.requires.stage
-    c.if-undo-eq-NEW_ROW.true (g.W.World.state c.remove-answer.new.self) c.remove-answer.result
+    remove_record c.args.actor is c.requires.stage c.if-undo-eq-NEW_ROW.true (g.W.World.state c.remove-answer.new.self) c.remove-answer.result
     (rw c.records_of.ensures at c.remove-answer.ensures) c.end.new.room c.end.result c.end.ensures
 
 pub returns-clause-puts : goal.returns-clause-puts
 returns-clause-puts g c = λ chains place is.
-    replace_record chains place c.args.actor c.args.undo.now c.args.room.now (g.W.World.state c.args.world.now) is c.requires.stage
-    c.if-undo-eq-NEW_ROW.false (g.W.World.state c.replace-answer.new.self) c.replace-answer.result
+    replace_record c.args.actor is c.requires.stage c.if-undo-eq-NEW_ROW.false (g.W.World.state c.replace-answer.new.self) c.replace-answer.result
     (rw c.records_of-2.ensures at c.replace-answer.ensures) c.end-2.new.room c.end-2.result c.end-2.ensures

@@ -34,8 +34,7 @@ returns-in-Unmark-clause-awaits g c =
     key_awaits _ _ c.args.actor c.args.undo.now _ _ _ c.in-Unmark.which c.requires.under_way.2 _ c.in-Unmark.is (λ fits. fits.0) c.unmark.ensures.awaits
 
 pub returns-in-AwaitRecords-clause-awaits : goal.returns-in-AwaitRecords-clause-awaits
-returns-in-AwaitRecords-clause-awaits g c =
-    rows_await _ _ c.args.actor c.args.undo.now _ _ _ c.requires.under_way.2 c.await_records.ensures.awaits
+returns-in-AwaitRecords-clause-awaits g c = rows_await _ _ c.args.actor c.args.undo.now _ _ _ c.requires.under_way.2 c.await_records.ensures.awaits
 
 pub returns-in-Record-clause-awaits : goal.returns-in-Record-clause-awaits
 returns-in-Record-clause-awaits g c = rows_await _ _ c.args.actor c.args.undo.now _ _ _ c.requires.under_way.2 c.put_record.ensures.awaits

@@ -1,16 +1,16 @@
-use Rattle.row_changes.proofs.keys_change.KeysChange.advance.Goals as goal
 use Rattle.row_changes.proofs.{Keying.put_went, Keying.put_done, Keying.put_waits, Awaited.put_awaits}
+use Rattle.row_changes.proofs.keys_change.KeysChange.advance.Goals as goal
 
 abbrev pub returns-in-Went-clause-changes : goal.returns-in-Went-clause-changes
 returns-in-Went-clause-changes g c = λ chains p.
-    put_went chains _ _ c.args.self.now p c.in-Some.put c.step.new.self c.in-Some.is c.in-Went.ensures.puts
+    put_went chains _ _ c.args.self.now p c.in-Some.put c.in-Some.is c.step.new.self c.in-Went.ensures.puts
 
 abbrev pub returns-in-Done-clause-changes : goal.returns-in-Done-clause-changes
 returns-in-Done-clause-changes g c = λ chains p. put_done chains _ _ c.args.self.now p c.in-Some.put c.in-Some.is c.in-Done.ensures.puts
 
 abbrev pub returns-in-Hindered-clause-changes : goal.returns-in-Hindered-clause-changes
 returns-in-Hindered-clause-changes g c = λ chains p.
-    put_waits chains _ _ c.args.self.now p c.args.actor c.in-Some.put c.step.new.self c.in-Hindered.why c.in-Some.is c.in-Hindered.ensures.puts
+    put_waits chains _ _ c.args.self.now p c.in-Some.put c.in-Some.is c.args.actor c.step.new.self c.in-Hindered.why c.in-Hindered.ensures.puts
 
 pub returns-in-Went-clause-awaits : goal.returns-in-Went-clause-awaits
 returns-in-Went-clause-awaits g c = put_awaits c.requires.0 c.args.actor _ _ c.args.self.now c.in-Some.put c.in-Some.is c.requires.1 c.in-Went.ensures.awaits

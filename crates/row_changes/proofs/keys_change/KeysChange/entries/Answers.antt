@@ -1,8 +1,8 @@
-use Rattle.row_changes.proofs.keys_change.KeysChange.entries.Goals as goal
 use Rattle.std.proofs.Common.{sym, ap, ◌∙◌, length, slice_get}
 use Rattle.std.specs.Prelude.{MatchOption, option_copied}
-use Rattle.row_changes.specs.KeyEntries.{StayBetween, AreEntries}
+use Rattle.row_changes.specs.Keys.{StayBetween, AreEntries}
 use Rattle.row_changes.proofs.Keying.{for_its_schema}
+use Rattle.row_changes.proofs.keys_change.KeysChange.entries.Goals as goal
 
 abbrev pub returns-in-Some : goal.returns-in-Some
 returns-in-Some g c =

@@ -1,12 +1,11 @@
-use Rattle.row_changes.proofs.keys_change.KeysChange.mark.Goals as goal
 use Rattle.std.proofs.Common.{sym, subst, refl, Some}
 use Rattle.row_changes.specs.Keys.{ChangesKeys}
-use Rattle.row_changes.proofs.{Keying.marked_on, Keying.mark_hindered, Awaited.mark_awaits}
+use Rattle.row_changes.proofs.{Keying.marked_on, Keying.mark_hindered, Awaited.key_awaits}
+use Rattle.row_changes.proofs.keys_change.KeysChange.mark.Goals as goal
 
 abbrev pub returns-in-Ok-clause-changes : goal.returns-in-Ok-clause-changes
 returns-in-Ok-clause-changes g c = λ chains p.
-    subst (ChangesKeys c.args.actor chains (g.W.World.state c.args.world.now) (g.W.World.state c.step.new.world) c.args.self.now)
-    (sym c.next.ensures)
+    subst (ChangesKeys c.args.actor chains (g.W.World.state c.args.world.now) (g.W.World.state c.step.new.world) c.args.self.now) (sym c.next.ensures)
     (marked_on chains _ _ c.args.self.now p c.args.mark.index (record { which = c.args.which; old = Some c.args.mark.entry; new = c.args.new })
     c.args.mark.entry
     c.requires.none c.requires.index (c.requires.entries p.schema p.table.there) refl
@@ -21,6 +20,5 @@ returns-clause-changes g c = λ chains p.
 pub returns-clause-awaits : goal.returns-clause-awaits
 returns-clause-awaits g c =
     let p = c.requires.changing.1 in
-    mark_awaits c.requires.changing.0 c.args.actor c.args.mark.index _ _ c.args.self.now
-    (record { which = c.args.which; old = Some c.args.mark.entry; new = c.args.new }) p (c.requires.entries p.schema p.table.there) c.requires.index
-    c.step.ensures.awaits
+    key_awaits c.args.actor c.args.mark.index c.args.which _ _ c.args.self.now c.requires.changing.0 p
+    (c.requires.entries p.schema p.table.there).within c.requires.index c.step.ensures.awaits

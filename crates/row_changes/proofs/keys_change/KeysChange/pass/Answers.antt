@@ -1,5 +1,5 @@
-use Rattle.row_changes.proofs.keys_change.KeysChange.pass.Goals as goal
 use Rattle.row_changes.proofs.Keying.{all_passed}
+use Rattle.row_changes.proofs.keys_change.KeysChange.pass.Goals as goal
 
 abbrev pub take_over-requires-clause-entries : goal.take_over-requires-clause-entries
 take_over-requires-clause-entries g c = λ schema there.

@@ -1,9 +1,9 @@
-use Rattle.row_changes.proofs.record_change.RecordChange.find.Goals as goal
 use Rattle.std.proofs.Common.{sym, subst, inl}
 use Rattle.std.specs.Prelude.{Ok, Err}
-use Rattle.row_changes.specs.{Coding.Decodes, Records.ChangesRecord}
-use Rattle.row_changes.proofs.{Worlds.stays_if, Worlds.fetch_keeps, Worlds.fetch_delays, Worlds.delay_hinders, Changing.looked_up, Changing.looked_up_none}
-use Rattle.row_changes.proofs.{Changing.not_decoded, Changing.hindered}
+use Rattle.row_changes.specs.Records.{Decodes, ChangesRecord}
+use Rattle.row_changes.proofs.Awaited.{stays_if, fetch_keeps, fetch_delays, delay_hinders}
+use Rattle.row_changes.proofs.Changing.{looked_up, looked_up_none, not_decoded, hindered}
+use Rattle.row_changes.proofs.record_change.RecordChange.find.Goals as goal
 
 abbrev pub returns-in-End-clause-changes : goal.returns-in-End-clause-changes
 returns-in-End-clause-changes g c =

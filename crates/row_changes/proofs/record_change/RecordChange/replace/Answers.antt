@@ -1,33 +1,35 @@
-use Rattle.row_changes.proofs.record_change.RecordChange.replace.Goals as goal
-use Rattle.std.proofs.Common.{◌<◌, ◌^◌, Some, arith}
+use Rattle.std.proofs.Common.{ap, ◌<◌, ◌^◌, Some, arith}
 use Rattle.std.proofs.lemmas.Option.{slice_get_within}
-use Rattle.row_changes.proofs.{Changing.stage_at, Changing.lacks_memory, Awaited.entered_awaits, Awaited.replace_with_here}
-use Rattle.row_changes.proofs.Recorded.{rows_index, value_of_row, found_at, value_short, version_next, may_log_former, may_enter, replaced, replace_hindered}
+use Rattle.row_changes.proofs.Awaited.{entered_awaits, replace_with_here}
+use Rattle.row_changes.proofs.Changing.{stage_at, lacks_memory, rows_index, value_of_row, value_short, version_made, may_log_former, may_enter, replaced}
+use Rattle.row_changes.proofs.Changing.{replace_hindered}
+use Rattle.row_changes.specs.Records.{row_found}
 use Rattle.law_stored_rows.specs.Edits.{clustered_index}
+use Rattle.row_changes.proofs.record_change.RecordChange.replace.Goals as goal
 
 abbrev pub coded-requires : goal.coded-requires
 coded-requires g c =
     let p = c.requires.changing in
-    (p.schema, p.table.there, (version_next _ _ _ p _ _ c.requires.stage.2 _ _ _ c.in-Ok-version.ensures).0)
+    (p.schema, p.table.there, (version_made _ _ _ _ _ _ p.fits p.stage (rw c.requires.stage.2 (record {})) _ _ _ c.in-Ok-version.ensures).0)
 
 abbrev pub replace-requires-clause-index : goal.replace-requires-clause-index
-replace-requires-clause-index g c = rows_index _ _ _ c.requires.changing _ c.index.ensures
+replace-requires-clause-index g c = rows_index c.requires.changing _ c.index.ensures
 
 abbrev pub replace-requires-clause-value : goal.replace-requires-clause-value
 replace-requires-clause-value g c =
     let p = c.requires.changing in
-    value_short p.schema _ _ _ p.table.storable (version_next _ _ _ p _ _ c.requires.stage.2 _ _ _ c.in-Ok-version.ensures)
+    value_short p.schema _ _ _ p.table.storable (version_made _ _ _ _ _ _ p.fits p.stage (rw c.requires.stage.2 (record {})) _ _ _ c.in-Ok-version.ensures)
     (c.in-Ok-coded.ensures p.schema p.table.there)
 
 abbrev pub replace-requires-clause-undo : goal.replace-requires-clause-undo
 replace-requires-clause-undo g c =
     let at = c.requires.stage.2 in
-    may_log_former _ _ _ c.requires.changing _ _ _ at (c.in-Ok.ensures _ _ at).1
+    may_log_former c.requires.changing _ _ _ at (c.in-Ok.ensures _ _ at).1
 
 abbrev pub enter-requires : goal.enter-requires
 enter-requires g c =
     let p = c.requires.changing in
-    may_enter _ _ _ _ _ p (stage_at _ _ _ p _ c.requires.stage.2).0 (rw c.in-Done.is at c.replace.ensures).beside
+    may_enter p _ _ (stage_at _ _ _ p _ c.requires.stage.2).0 (rw c.in-Done.is at c.replace.ensures).beside
 
 abbrev pub returns-in-Done-clause-changes : goal.returns-in-Done-clause-changes
 returns-in-Done-clause-changes g c =
@@ -37,14 +39,14 @@ returns-in-Done-clause-changes g c =
     let pointer_is = c.next_pointer-pointer.ensures p.session p.has_work.session_is in
     let small : p.session.next_pointer < 2 ^ 64 = omega (arith, pointer_is) in
     let value =
-    value_of_row p.schema _ _ _ _ _ _ _ _ _ (c.in-Ok-coded.ensures p.schema p.table.there) c.in-Ok-version.ensures (found_at _ _ _ at)
+    value_of_row p.schema _ _ _ _ _ _ _ _ _ (c.in-Ok-coded.ensures p.schema p.table.there) c.in-Ok-version.ensures (ap row_found at)
     (c.writer_of-writer.ensures p.session p.work p.has_work) pointer_is in
-    replaced _ _ _ _ _ p _ _ _ _ _ at value told.1 told.0 small (rw c.index.ensures at (rw c.in-Done.is at c.replace.ensures))
+    replaced p _ _ _ _ _ _ _ at value told.1 told.0 small (rw c.index.ensures at (rw c.in-Done.is at c.replace.ensures))
     (rw c.take_edit.ensures at c.enter.ensures)
 
 abbrev pub returns-in_default-replace-clause-changes : goal.returns-in_default-replace-clause-changes
 returns-in_default-replace-clause-changes g c =
-    replace_hindered _ _ _ _ c.requires.changing _ _ _ _ _ c.requires.stage.2 (rw c.index.ensures at c.replace.ensures) c.in_default-replace.not-Done
+    replace_hindered c.requires.changing _ _ _ _ _ _ c.requires.stage.2 (rw c.index.ensures at c.replace.ensures) c.in_default-replace.not-Done
 
 abbrev pub returns-in_default-coded-clause-changes : goal.returns-in_default-coded-clause-changes
 returns-in_default-coded-clause-changes g c = lacks_memory c.args.s _ c.args.self.now c.requires.changing
@@ -60,7 +62,7 @@ next_pointer-pointer-requires g c =
 pub returns-in-Done-clause-awaits : goal.returns-in-Done-clause-awaits
 returns-in-Done-clause-awaits g c =
     let p = c.requires.changing in
-    let may = may_enter _ _ _ _ _ p (stage_at _ _ _ p _ c.requires.stage.2).0 (rw c.in-Done.is at c.replace.ensures).beside in
+    let may = may_enter p _ _ (stage_at _ _ _ p _ c.requires.stage.2).0 (rw c.in-Done.is at c.replace.ensures).beside in
     let call = (rw c.index.ensures at c.replace.ensures).index_is in
     let index = clustered_index c.args.self.now.table in
     let old = g.W.World.state c.args.world.now in

@@ -1,6 +1,6 @@
 use Rattle.std.proofs.Common.{sym, subst}
 use Rattle.row_changes.specs.{declared.row_change.RowChange.RowChange, declared.reached.Reached.TheVariants.Went, Rows.ChangesRow}
-use Rattle.row_changes.proofs.{Whole.record_went, Whole.record_recorded, Whole.record_waits, Awaited.record_awaits_at}
+use Rattle.row_changes.proofs.{Pushed.record_went, Pushed.record_recorded, Pushed.record_waits, Awaited.record_awaits_at}
 use Rattle.row_changes.proofs.row_change.RowChange.advance.Goals as goal
 
 abbrev pub returns-in-Went-clause-changes : goal.returns-in-Went-clause-changes
