@@ -33,6 +33,7 @@ fn append_one(alloc: Global, log: &mut Log, number: u8) -> Result<u64, NoMemory>
 /// between the halves.
 fn flushed_by_halves(alloc: Global, disk: &mut MemDisk) -> Result<[u64; 3], Fail> {
     let mut log = Log::packing(alloc, 1, 0, 1)?;
+    log.reserve(2_000_000)?;
     append_one(alloc, &mut log, 1)?;
     append_one(alloc, &mut log, 2)?;
     let written = log.begin_flush(disk)?;

@@ -3,8 +3,6 @@
 #![tactic(auto)]
 
 #[cfg(test)]
-mod flushes;
-#[cfg(test)]
 mod groups;
 #[cfg(test)]
 mod halves;

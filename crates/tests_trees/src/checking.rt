@@ -1,36 +1,23 @@
-//! A tree of three levels, made by insertions, passes the check of a mount. With one byte turned it is refused, at the page that
-//! is wrong and for the rule that it breaks.
+//! A root over two leaves, laid out by hand, passes the check of a mount. With one byte turned it is refused, at the page that is
+//! wrong and for the rule that it breaks.
 
-ghost use Rattle.std.specs.Prelude.{◌≡◌, [], IfOk};
-
-use crate::comparing::page_of;
-use crate::loose_pages::LoosePages;
 use btree::Tree;
-use btree_insert::{Outcome, insert};
-use mtr::Mtr;
 use page_format::PageBad;
 use std::alloc::{AllocError, Global};
 use std::test::Fail;
-use store_api::{NoMemory, SpaceBad, Visit};
-use stored_pages::read_u32;
 use sum64::fnv;
-use tree_check::{NodeBad, PageFault, RowFault, SpaceFault, check_space, check_tree, rule_broken};
+use tree_check::{NodeBad, PageFault, RowFault, SpaceFault, check_space, check_tree};
 
-/// Records of 1,944 bytes, of which a leaf has room for two; an inner page has room for 46 of 84 bytes.
+/// Keys of two bytes, and values of one.
 const TREE: Tree = Tree {
     index: 8,
     root: 21,
-    key_len: 80,
-    value_len: 1864,
+    key_len: 2,
+    value_len: 1,
 };
 
-const VALUE: [u8; 1864] = [7; 1864];
-
-/// How many rows are added.
-const ROWS: u16 = 151;
-
-/// How many pages the file has.
-const PAGES: u8 = 255;
+/// How many pages the file has, of which page 0 counts each, and the map says that they are in use.
+const PAGES: u8 = 24;
 
 /// What a mount says of the pages of a file.
 #[derive(Clone, Copy, Debug, PartialEq, Eq)]
@@ -40,103 +27,56 @@ enum Verdict {
     Tree(RowFault),
 }
 
-/// A page of a file whose pages up to the root are in use, and whose root is an empty leaf.
-fn first_page(number: u8) -> [u8; 4096] {
+/// From its kind on: a page of level 1 without fences, two records of six bytes, the second child from 1, 20 on.
+const ROOT: [u8; 16] = [4, 1, 0, 2, 0, 0, 0, 8, 0, 0, 0, 0, 0, 6, 255, 255];
+
+const CHILDREN: [u8; 12] = [0, 0, 0, 0, 0, 22, 1, 20, 0, 0, 0, 23];
+
+/// A leaf of two records of three bytes that ends at 1, 20.
+const LEFT: [u8; 16] = [3, 0, 0, 2, 0, 0, 0, 8, 0, 0, 0, 23, 0, 3, 255, 2];
+
+const LEFT_ROWS: [u8; 6] = [1, 10, 110, 1, 12, 112];
+
+/// The last leaf, of one record, which begins there.
+const RIGHT: [u8; 16] = [3, 0, 0, 1, 0, 0, 0, 8, 0, 0, 0, 0, 0, 3, 2, 255];
+
+const RIGHT_ROWS: [u8; 3] = [1, 40, 140];
+
+/// A page of the file without its sum.
+fn page_of(number: u8) -> [u8; 4096] {
     let mut page = [0; 4096];
-    if number == 0 {
-        page[47] = PAGES;
-    }
-    if number == 2 {
-        page[32] = 255;
-        page[33] = 255;
-        page[34] = 63;
-    }
-    if number == 21 {
-        page = page_of(0, 0, 0, 0, 34, &[]);
-        page[32..34].copy_from_slice(&1944u16.to_be_bytes());
+    page[11] = number;
+    match number {
+        0 => page[47] = PAGES,
+        2 => page[32..35].copy_from_slice(&[255; 3]),
+        21 => {
+            page[20..36].copy_from_slice(&ROOT);
+            page[208..220].copy_from_slice(&CHILDREN);
+        }
+        22 => {
+            page[20..36].copy_from_slice(&LEFT);
+            page[116..118].copy_from_slice(&[1, 20]);
+            page[208..214].copy_from_slice(&LEFT_ROWS);
+        }
+        23 => {
+            page[20..36].copy_from_slice(&RIGHT);
+            page[36..38].copy_from_slice(&[1, 20]);
+            page[208..211].copy_from_slice(&RIGHT_ROWS);
+        }
+        _ => {}
     }
     page
 }
 
-fn file_of(alloc: Global) -> Result<LoosePages, NoMemory>
-    ensures { IfOk result (λ loose. loose.visited.items ≡ []) }
-{
-    let mut pages = Vec::with_capacity(alloc, 255)?;
-    for number in 0..PAGES {
-        pages.push(first_page(number))?;
+/// That page with so much added to a byte, and with its sum.
+fn turned(number: u8, at: u16, by: u8) -> [u8; 4096] {
+    let mut page = page_of(number);
+    if at < 4096 {
+        page[usize::from(at)] = page[usize::from(at)].wrapping_add(by);
     }
-    LoosePages::new(alloc, pages)
-}
-
-/// Adds the rows, and answers whether each was added.
-fn add(m: &mut LoosePages) -> Result<bool, SpaceBad>
-    requires { m.old.visited.items ≡ [] }
-    ensures { m.new.visited.items ≡ [] }
-{
-    for number in 0..ROWS {
-        let mut key = [0; 80];
-        key[..2].copy_from_slice(&number.to_be_bytes());
-        if insert(m, TREE, &key, &VALUE)? != Outcome::Added {
-            return Ok(false);
-        }
-    }
-    Ok(true)
-}
-
-/// The page with the sum of its bytes.
-fn sealed(page: [u8; 4096]) -> [u8; 4096] {
-    let mut with_sum = page;
     let sum = fnv(&page[8..]);
-    with_sum[..8].copy_from_slice(&sum.to_be_bytes());
-    with_sum
-}
-
-/// The page of that number, as a file has it.
-fn stored(m: &mut LoosePages, number: u8) -> Result<[u8; 4096], Visit>
-    requires { m.old.visited.items ≡ [] }
-    ensures { m.new.visited.items ≡ [] }
-{
-    let mut page = [0; 4096];
-    page.copy_from_slice(m.bytes(u32::from(number))?);
-    m.give_up();
-    page[11] = number;
-    Ok(sealed(page))
-}
-
-/// The pages of a file with a tree of three levels.
-fn tree_pages(alloc: Global) -> Result<Vec<[u8; 4096]>, Fail> {
-    let mut m = file_of(alloc)?;
-    let _ = add(&mut m)?;
-    let mut pages = Vec::with_capacity(alloc, 255)?;
-    for number in 0..PAGES {
-        pages.push(stored(&mut m, number)?)?;
-    }
-    Ok(pages)
-}
-
-/// The child of an inner page's record.
-fn child(pages: &[[u8; 4096]], page: u32, place: u8) -> u32 {
-    if page as usize >= pages.len() || place > 45 {
-        return 0;
-    }
-    read_u32(&pages[page as usize], 288 + 84 * usize::from(place))
-}
-
-/// The pages with so much added to one byte of a page, which is sealed again.
-fn turned(
-    alloc: Global,
-    pages: &[[u8; 4096]],
-    page: u32,
-    at: usize,
-    by: u8,
-) -> Result<Vec<[u8; 4096]>, AllocError> {
-    let mut other = Vec::from_slice(alloc, pages)?;
-    if (page as usize) < other.len() && at < 4096 {
-        let mut changed = other[page as usize];
-        changed[at] = changed[at].wrapping_add(by);
-        other[page as usize] = sealed(changed);
-    }
-    Ok(other)
+    page[..8].copy_from_slice(&sum.to_be_bytes());
+    page
 }
 
 /// What a mount says of the file.
@@ -151,123 +91,103 @@ fn mounted(pages: &[[u8; 4096]]) -> Verdict {
     }
 }
 
-/// What is said once so much was added to one byte of a page.
-fn judged(
-    alloc: Global,
-    pages: &[[u8; 4096]],
-    page: u32,
-    at: usize,
-    by: u8,
-) -> Result<Verdict, AllocError> {
-    let other = turned(alloc, pages, page, at, by)?;
-    Ok(mounted(&other))
-}
-
-fn at_page(page: u32, fault: PageFault) -> Verdict {
-    Verdict::Tree(RowFault::Page { page, fault })
-}
-
-#[test]
-fn a_tree_of_three_levels_passes(rt: HostRuntime) -> Result<(), Fail> {
-    let pages = tree_pages(rt.alloc())?;
-    assert_eq!(rt; pages.len(), 255);
-    assert_eq!(rt; pages[21][21], 2);
-    assert_eq!(rt; mounted(&pages), Verdict::Passes);
-    Ok(())
-}
-
-#[test]
-fn a_byte_of_the_first_pages_is_turned(rt: HostRuntime) -> Result<(), Fail> {
-    let pages = tree_pages(rt.alloc())?;
-    let first = child(&pages, 21, 0);
-    // the file is said to have a page more than it has, or the root and no page behind it
-    assert_eq!(rt;
-        judged(rt.alloc(), &pages, 0, 47, 1)?,
-        Verdict::Space(SpaceFault::Count)
-    );
-    assert_eq!(rt;
-        judged(rt.alloc(), &pages, 0, 47, 23)?,
-        at_page(first, PageFault::Missing)
-    );
-    // one of the first pages, and one of the tree's, is said to be free
-    assert_eq!(rt;
-        judged(rt.alloc(), &pages, 2, 32, 254)?,
-        Verdict::Space(SpaceFault::Free { page: 1 })
-    );
-    assert_eq!(rt;
-        judged(rt.alloc(), &pages, 2, 34, 224)?,
-        at_page(21, PageFault::Free)
-    );
-    Ok(())
-}
-
-#[test]
-fn a_byte_of_a_page_is_turned(rt: HostRuntime) -> Result<(), Fail> {
-    let pages = tree_pages(rt.alloc())?;
-    let inner = child(&pages, 21, 1);
-    let before = child(&pages, inner, 0);
-    let leaf = child(&pages, inner, 1);
-    // the level of a page, its index, and its record's length
-    assert_eq!(rt;
-        judged(rt.alloc(), &pages, inner, 21, 1)?,
-        at_page(inner, PageFault::Wrong(NodeBad::Place))
-    );
-    assert_eq!(rt;
-        judged(rt.alloc(), &pages, leaf, 27, 1)?,
-        at_page(leaf, PageFault::Wrong(NodeBad::Place))
-    );
-    assert_eq!(rt;
-        judged(rt.alloc(), &pages, leaf, 33, 1)?,
-        at_page(leaf, PageFault::Wrong(NodeBad::Field))
-    );
-    // the order of records, and the first key of an inner page
-    assert_eq!(rt;
-        judged(rt.alloc(), &pages, leaf, 208, 9)?,
-        at_page(leaf, PageFault::Unread(PageBad::Shape { rule: 2 }))
-    );
-    assert_eq!(rt;
-        judged(rt.alloc(), &pages, inner, 287, 1)?,
-        at_page(inner, PageFault::Wrong(NodeBad::First))
-    );
-    // a low fence, the high fence of the page before, and a key in the parent
-    assert_eq!(rt;
-        judged(rt.alloc(), &pages, leaf, 37, 255)?,
-        Verdict::Tree(RowFault::Child { page: leaf })
-    );
-    assert_eq!(rt;
-        judged(rt.alloc(), &pages, before, 195, 1)?,
-        Verdict::Tree(RowFault::Child { page: leaf })
-    );
-    assert_eq!(rt;
-        judged(rt.alloc(), &pages, inner, 292 + 79, 1)?,
-        Verdict::Tree(RowFault::Child { page: leaf })
-    );
-    // a neighbour, and the number of a child
-    assert_eq!(rt;
-        judged(rt.alloc(), &pages, before, 31, 1)?,
-        Verdict::Tree(RowFault::Neighbour { page: before })
-    );
-    assert_eq!(rt;
-        judged(rt.alloc(), &pages, inner, 292 + 83, 1)?,
-        Verdict::Tree(RowFault::Neighbour { page: before })
-    );
-    Ok(())
-}
-
-#[test]
-fn each_fault_says_its_rule(rt: HostRuntime) -> Result<(), Fail> {
-    let faults = [
-        (1, PageFault::Wrong(NodeBad::Field)),
-        (1, PageFault::Missing),
-        (2, PageFault::Wrong(NodeBad::First)),
-        (2, PageFault::Unread(PageBad::Shape { rule: 2 })),
-        (3, PageFault::Wrong(NodeBad::Place)),
-        (5, PageFault::Free),
-    ];
-    for (rule, fault) in faults {
-        assert_eq!(rt; rule_broken(RowFault::Page { page: 22, fault }), rule);
+/// What it says once so much was added to one byte of a page.
+fn judged(alloc: Global, page: u8, at: u16, by: u8) -> Result<Verdict, AllocError> {
+    let mut pages = Vec::with_capacity(alloc, usize::from(PAGES))?;
+    for number in 0..PAGES {
+        pages.push(turned(number, at, if number == page { by } else { 0 }))?;
     }
-    assert_eq!(rt; rule_broken(RowFault::Child { page: 22 }), 3);
-    assert_eq!(rt; rule_broken(RowFault::Neighbour { page: 22 }), 4);
+    let verdict = mounted(&pages);
+    drop(pages);
+    Ok(verdict)
+}
+
+/// A page, a place on it, what is added to the byte there, and what is said then.
+const TURNED: [(u8, u16, u8, Verdict); 15] = [
+    (0, 0, 0, Verdict::Passes),
+    // the file is said to have a page more than it has, or the root and no page behind it
+    (0, 47, 1, Verdict::Space(SpaceFault::Count)),
+    (
+        0,
+        47,
+        254,
+        Verdict::Tree(RowFault::Page {
+            page: 22,
+            fault: PageFault::Missing,
+        }),
+    ),
+    // one of the first pages, and one of the tree's, is said to be free
+    (2, 32, 254, Verdict::Space(SpaceFault::Free { page: 1 })),
+    (
+        2,
+        34,
+        224,
+        Verdict::Tree(RowFault::Page {
+            page: 21,
+            fault: PageFault::Free,
+        }),
+    ),
+    // the level of a page, its index, and its record's length
+    (
+        21,
+        21,
+        1,
+        Verdict::Tree(RowFault::Page {
+            page: 22,
+            fault: PageFault::Wrong(NodeBad::Place),
+        }),
+    ),
+    (
+        22,
+        27,
+        1,
+        Verdict::Tree(RowFault::Page {
+            page: 22,
+            fault: PageFault::Wrong(NodeBad::Place),
+        }),
+    ),
+    (
+        23,
+        33,
+        1,
+        Verdict::Tree(RowFault::Page {
+            page: 23,
+            fault: PageFault::Wrong(NodeBad::Field),
+        }),
+    ),
+    // the order of records, and the first key of an inner page
+    (
+        22,
+        208,
+        9,
+        Verdict::Tree(RowFault::Page {
+            page: 22,
+            fault: PageFault::Unread(PageBad::Shape { rule: 2 }),
+        }),
+    ),
+    (
+        21,
+        209,
+        1,
+        Verdict::Tree(RowFault::Page {
+            page: 21,
+            fault: PageFault::Wrong(NodeBad::First),
+        }),
+    ),
+    // a low fence, the high fence of the page before, and a key in the parent
+    (23, 37, 255, Verdict::Tree(RowFault::Child { page: 23 })),
+    (22, 117, 1, Verdict::Tree(RowFault::Child { page: 23 })),
+    (21, 215, 1, Verdict::Tree(RowFault::Child { page: 23 })),
+    // a neighbour, and the number of a child
+    (22, 31, 1, Verdict::Tree(RowFault::Neighbour { page: 22 })),
+    (21, 219, 1, Verdict::Tree(RowFault::Neighbour { page: 22 })),
+];
+
+#[test]
+fn a_byte_is_turned(rt: HostRuntime) -> Result<(), Fail> {
+    for (page, at, by, verdict) in &TURNED {
+        let found = judged(rt.alloc(), *page, *at, *by)?;
+        assert_eq!(rt; found, *verdict, "page {page} at {at}");
+    }
     Ok(())
 }

@@ -2,7 +2,7 @@
 //! and in the end both have the same pairs.
 
 ghost use Rattle.std.specs.Prelude.{◌≡◌, ◌<◌, ◌≤◌, length, IfOk, IfSome, vec_capacity};
-ghost use Rattle.tests_indexes.specs.Wide.{AreWide};
+ghost use Rattle.tests_trees.specs.Wide.{AreWide};
 
 use btree::Tree;
 use entries::{Entries, ListIndex, PairBuffers};

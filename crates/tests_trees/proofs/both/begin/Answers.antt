@@ -1,7 +1,7 @@
 use Rattle.std.proofs.Common.{◌≡◌, ◌≤◌, ◌<◌, ℕ, List, [], length, get_or, vec_len, sym, ap, ◌∙◌, subst, arith}
 use Rattle.stored_pages.specs.Words.{u32_at}
 use Rattle.mtr.specs.Resting.{IsResting}
-use Rattle.tests_indexes.proofs.both.begin.Goals as goal
+use Rattle.tests_trees.proofs.both.begin.Goals as goal
 
 -- page 0 counts no more pages than there are, so the pages are told
 pub begin-requires-clause-told : goal.begin-requires-clause-told
