@@ -51,10 +51,7 @@ past_grows t old new (inr adds) = subst (λ (h : List Event). length old ≤ len
 
 -- its own newest entry isn't a commit that waits for its acknowledgement, if none of these is
 pub waits_not : (t : ℕ) (entries past : List Event) → awaits_ack (cond (t == t) entries (of_item t past)) ≡ true → awaits_ack entries ≡ false → ⊥
-waits_not t entries past waits none =
-    false≢true (sym (ap (λ (b : Bool). awaits_ack (cond b entries (of_item t past))) (eq-eqb t t refl) ∙ none) ∙ waits)
-
--- ---- rows
+waits_not t entries past waits none = false≢true (sym (ap (λ (b : Bool). awaits_ack (cond b entries (of_item t past))) (eq-eqb t t refl) ∙ none) ∙ waits)
 
 pub last_left : (w : ℕ) {old new : WorldState} {logged : Logged} {place : Place} → new.schemas ≡ old.schemas
     → slice_get new.sessions w ≡ slice_get old.sessions w → own w new.past ≡ own w old.past → IsLast old w logged place → IsLast new w logged place
@@ -93,8 +90,7 @@ module _ (w : ℕ) {chains : Chains} {later : Option ℕ} {old new : WorldState}
   pub rows_left : (undo : Undo) (room : WorkRoom) (doing : Doing) → RowsHeld chains old w undo room doing → RowsHeld chains new w undo room doing
   rows_left undo room Nothing rows = (has_rows_left old new leaves chains rows.0, rows.1)
   rows_left undo room (Searching on) rows = (has_rows_left old new leaves chains rows.0, rows.1)
-  rows_left undo room (Changing change) rows =
-      (change_left old new leaves w chains later change rows.0 session agrees, rows.1, newest_left change rows.2)
+  rows_left undo room (Changing change) rows = (change_left old new leaves w chains later change rows.0 session agrees, rows.1, newest_left change rows.2)
   rows_left undo room Lagging rows = (
     record {
       change = rows.0.change;
@@ -128,8 +124,6 @@ rows_quiet chains state w undo room Nothing is rows = rows
 rows_quiet chains state w undo room (Searching on) is rows = rows
 rows_quiet chains state w undo room other is rows = absurd (cc)
 
--- ---- the acting session
-
 -- its rooms, its desk and its search
 pub record IsOwnPart (s : ℕ) (after : Chains) (later : Option ℕ) (cuts : ℕ) (new : WorldState) (now : List Desk) : Type 0 where
   pub replies : (session : Session) → IsSession s session new → is_some (under_way s new.past) ≡ true → session.can_reply ≡ true
@@ -138,8 +132,6 @@ pub record IsOwnPart (s : ℕ) (after : Chains) (later : Option ℕ) (cuts : ℕ
   pub started : started s new.past ≡ (desk_at s now).started
   pub quiet : later ≢ Some s → is_quiet_doing (doing_at s now) ≡ true
   pub search : SearchHeld after new later cuts s (doing_at s now)
-
--- ---- the whole
 
 module _ {s : ℕ} {after : Chains} {writer later : Option ℕ} {cuts counted : ℕ} {undo : UndoRoom} {room : WorkRoom} {old new : WorldState}
     {desks now : List Desk} (held : IsHeld old writer desks cuts undo room) (leaves : LeavesOthers s held.chains after writer later cuts counted old new)
@@ -192,8 +184,7 @@ module _ {s : ℕ} {writer later : Option ℕ} {cuts : ℕ} {undo : UndoRoom} {r
       → HasRows held.chains old × (room.stage ≡ Find)
   own_rows None none is = is
   own_rows (Some w) none is =
-      ⊎_elim
-      (λ here. quiet_rows held.chains old w (read_into undo) room (doing_at w desks) (ap (λ u. is_quiet_doing (doing_at u desks)) here ∙ before) is)
+      ⊎_elim (λ here. quiet_rows held.chains old w (read_into undo) room (doing_at w desks) (ap (λ u. is_quiet_doing (doing_at u desks)) here ∙ before) is)
       (λ differs. absurd (none w differs refl)) (cases_eq w s)
 
   coded : ((u : ℕ) → u ≢ s → later ≢ Some u) → HasRows held.chains new × (room.stage ≡ Find)
@@ -205,13 +196,11 @@ module _ {s : ℕ} {writer later : Option ℕ} {cuts : ℕ} {undo : UndoRoom} {r
   rows_by : (by : Option ℕ) → later ≡ by → RowsHeldBy by held.chains new now (read_into undo) room
   rows_by None none = coded (λ u differs might. let no : None ≡ Some u = sym none ∙ might in cc)
   rows_by (Some w) may =
-      ⊎_elim
-      (λ here. rows_quiet held.chains new w (read_into undo) room (doing_at w now) (ap (λ u. is_quiet_doing (doing_at u now)) here ∙ after)
-      (coded (λ u differs might. differs (some_same u w (sym might ∙ may) ∙ here))))
-      (λ differs. subst (λ (desk : Desk). RowsHeld held.chains new w (read_into undo) room desk.doing) (sym (same w differs))
-      (rows_left w rows leaves.agrees (leaves.sessions w differs) (others_past s w old.past new.past differs leaves.adds).own_is (read_into undo) room
-      (doing_at w desks)
-      (subst (λ by. RowsHeldBy by held.chains old desks (read_into undo) room) (back w differs may) held.rows))) (cases_eq w s)
+      ⊎_elim (λ here. rows_quiet held.chains new w (read_into undo) room (doing_at w now) (ap (λ u. is_quiet_doing (doing_at u now)) here ∙ after)
+      (coded (λ u differs might. differs (some_same u w (sym might ∙ may) ∙ here)))) (λ differs. subst (λ (desk : Desk). RowsHeld held.chains new w
+      (read_into undo) room desk.doing) (sym (same w differs)) (rows_left w rows leaves.agrees (leaves.sessions w differs) (others_past s w old.past new.past
+      differs leaves.adds).own_is (read_into undo) room (doing_at w desks) (subst (λ by. RowsHeldBy by held.chains old desks (read_into undo) room)
+      (back w differs may) held.rows))) (cases_eq w s)
 
   pub quiet_step : RowsHeldBy later held.chains new now (read_into undo) room
   quiet_step = rows_by later refl
@@ -242,8 +231,7 @@ module _ (s : ℕ) {writer : Option ℕ} {cuts : ℕ} {undo : UndoRoom} {room : 
   held_beside now same started_is count quiet search rows logs whole =
       let past = ap (λ (x : WorldState). x.past) rest in
       let names = ap (λ (x : WorldState). x.names) rest in
-      held_after held others_beside same
-      (record {
+      held_after held others_beside same (record {
         replies = λ session has busy. held.has_room.replies s session (sym (ap (λ (x : WorldState). slice_get x.sessions s) rest) ∙ has)
             (sym (ap (λ h. is_some (under_way s h)) past) ∙ busy);
         acks = λ session has waits. held.has_room.acks s session (sym (ap (λ (x : WorldState). slice_get x.sessions s) rest) ∙ has)
@@ -252,7 +240,5 @@ module _ (s : ℕ) {writer : Option ℕ} {cuts : ℕ} {undo : UndoRoom} {room : 
         started = ap (started s) past ∙ held.started s ∙ sym started_is;
         quiet = quiet;
         search = search;
-      })
-      (subst FitsThen (sym past) held.fits) rows logs (count ∙ held.count ∙ ap length (sym names))
-      (subst (λ (n : List (List ℕ)). length n ≤ 68) (sym names) held.few) (subst (λ (h : List Event). cuts ≤ length h) (sym past) held.cut)
-      (subst (AreFew held.chains) (sym past) held.short) whole
+      }) (subst FitsThen (sym past) held.fits) rows logs (count ∙ held.count ∙ ap length (sym names)) (subst (λ (n : List (List ℕ)). length n ≤ 68) (sym names)
+      held.few) (subst (λ (h : List Event). cuts ≤ length h) (sym past) held.cut) (subst (AreFew held.chains) (sym past) held.short) whole

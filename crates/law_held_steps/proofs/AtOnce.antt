@@ -23,40 +23,36 @@ use Rattle.desks.specs.{declared.desk.Desk.Desk, Desks.is_quiet, Holding.IsHeld}
 use Rattle.law_held_steps.specs.{Begun.IsScanOf, Begun.IsNewSearch, Moving.MovesPlaces, TakenUp.MayStep}
 use Rattle.law_held_steps.specs.Newest.{plan_read, TellsTable, IsReadingNewest, AreRead, left_in}
 use Rattle.law_held_steps.proofs.Places.{none_moves, moves_then, moves_in_one, moves_nothing, leaving_moves, moves_leave, moves_told}
-use Rattle.law_held_steps.proofs.{Shows.HasSome, Shows.some_rows_by, Shows.coded_while_quiet, Begins.columns_held, Begins.new_finding, Nearing.steps_nearer}
-use Rattle.law_held_steps.proofs.{Nearing.nearer_in, Stepping.few_held, Stepping.may_step, Stepping.rows_on, AnyStep.some_same}
+use Rattle.law_held_steps.proofs.{Shows.HasSome, Shows.some_rows_by, Shows.coded_while_quiet, Nearing.steps_nearer, Nearing.nearer_in, AnyStep.some_same}
+use Rattle.law_held_steps.proofs.Stepping.{columns_held, new_finding, few_held, may_step, rows_on}
 
--- ---- the plan
-
-module _ (state : WorldState) (writer : Option ℕ) (desks : List Desk) (cuts : ℕ) (undo : UndoRoom) (room : WorkRoom) (table : ℕ) (plan : Plan)
+module _ {state : WorldState} {writer : Option ℕ} {desks : List Desk} {cuts : ℕ} {undo : UndoRoom} {room : WorkRoom} (table : ℕ) (plan : Plan)
     (schema : Schema) (held : IsHeld state writer desks cuts undo room) where
   module _ (told : IsTold state) (there : slice_get state.schemas table ≡ Some schema) (le : plan.which ≤ length schema.keys) where
     tells_by : (quiet : Bool) → is_quiet writer desks ≡ quiet → TellsTable held.chains table (plan_read quiet plan) schema state
     tells_by true is = record {
       there = there;
-      columns = columns_held state writer desks cuts undo room table schema held told there;
+      columns = columns_held table held told there;
       which = le;
       said = what_is_there held.chains;
-      coded = coded_while_quiet held.chains state told writer desks (read_into undo) room is held.rows;
+      coded = coded_while_quiet held.chains told writer desks (read_into undo) room is held.rows;
       tells = inl refl;
-      short = few_held state writer desks cuts undo room held;
+      short = few_held held;
     }
     tells_by false is =
-        let rows : HasSome held.chains state = some_rows_by held.chains state told writer desks (read_into undo) room held.rows in
+        let rows : HasSome held.chains state = some_rows_by held.chains told writer desks (read_into undo) room held.rows in
         record {
           there = there;
-          columns = columns_held state writer desks cuts undo room table schema held told there;
+          columns = columns_held table held told there;
           which = omega arith;
           said = rows.0;
           coded = rows.1;
           tells = inr refl;
-          short = few_held state writer desks cuts undo room held;
+          short = few_held held;
         }
 
     pub tells_held : TellsTable held.chains table (plan_read (is_quiet writer desks) plan) schema state
     tells_held = tells_by (is_quiet writer desks) refl
-
-  -- ---- what was read
 
   module _ (rows : List FoundRow) where
     abbrev only_rows : List (List Value)
@@ -65,9 +61,8 @@ module _ (state : WorldState) (writer : Option ℕ) (desks : List Desk) (cuts : 
     seen_by : (by : Plan) → AreRead held.chains table by schema state rows → (w : ℕ) → ((u : ℕ) → u ≢ w → own u state.past ≡ [])
         → AreRowsSeen table by state.past w (commits state.past) only_rows
     seen_by by are w alone other is =
-        found_newest held.chains writer state table schema state.versions.kept_at (pairs_of state _) held.agrees
-        (are.readable.coded.clustered.tables table schema are.readable.there) w alone by.which
-        (λ row. is_within by.range (index_key schema by.which row)) rows are.found are.rise
+        found_newest held.chains writer state table schema state.versions.kept_at (pairs_of state _) held.agrees (are.readable.coded.clustered.tables table
+        schema are.readable.there) w alone by.which (λ row. is_within by.range (index_key schema by.which row)) rows are.found are.rise
         ∙ ap (λ (t : Schema). rows_in_range by t (rows_of table (changed (with_all_tables state.past) (seen state.past w (commits state.past)))))
         (some_same schema other (sym are.readable.there ∙ (ap (λ (tables : List Schema). slice_get tables table) held.agrees.lists.tables ∙ is)))
 
@@ -80,20 +75,18 @@ module _ (state : WorldState) (writer : Option ℕ) (desks : List Desk) (cuts : 
         → ((u : ℕ) → u ≢ w → own u state.past ≡ []) → AreNewestRows table plan state.past w only_rows
     are_newest = newest_by (is_quiet writer desks)
 
--- ---- the search
-
 module _ (chains : Chains) (s table : ℕ) (plan : Plan) (schema : Schema) where
-  pub reading_begins : (state : WorldState) (search : RowSearch) → TellsTable chains table plan schema state → IsNewSearch table plan Newest search
+  pub reading_begins : {state : WorldState} {search : RowSearch} → TellsTable chains table plan schema state → IsNewSearch table plan Newest search
       → IsReadingNewest chains s table plan schema state state search
-  reading_begins state search tells new = record {
+  reading_begins {state} {search} tells new = record {
     readable = tells;
-    moves = none_moves s state;
+    moves = none_moves;
     scan = new.scan;
-    finds = new_finding s table plan Newest schema state chains search new tells.there tells.columns tells.which;
+    finds = new_finding new tells.there tells.columns tells.which;
   }
 
-  scan_on : (scan next : Scan) → IsSameScan scan next → IsScanOf table plan Newest scan → IsScanOf table plan Newest next
-  scan_on scan next same is = record {
+  scan_on : {scan next : Scan} → IsSameScan scan next → IsScanOf table plan Newest scan → IsScanOf table plan Newest next
+  scan_on same is = record {
     table_is = same.table ∙ is.table_is;
     which_is = same.which ∙ is.which_is;
     range_is = same.range ∙ is.range_is;
@@ -106,24 +99,20 @@ module _ (chains : Chains) (s table : ℕ) (plan : Plan) (schema : Schema) where
       → AreFound schema plan.which (rows_seen Newest (in_table table chains)) (λ row. is_within plan.range (index_key schema plan.which row)) rows
   in_plan scan rows is are =
       subst (λ (which : ℕ). AreFound schema which (rows_seen Newest (in_table table chains)) (λ row. is_within plan.range (index_key schema which row)) rows)
-      is.which_is
-      (subst (λ (range : Range). AreFound schema scan.which (rows_seen Newest (in_table table chains))
-      (λ row. is_within range (index_key schema scan.which row)) rows) is.range_is
-      (subst (λ (sight : Sight). AreFound schema scan.which (rows_seen sight (in_table table chains)) (lies_in schema scan) rows) is.sight_is
-      (subst (λ (n : ℕ). AreFound schema scan.which (rows_seen scan.sight (in_table n chains)) (lies_in schema scan) rows) is.table_is are)))
+      is.which_is (subst (λ (range : Range). AreFound schema scan.which (rows_seen Newest (in_table table chains)) (λ row. is_within range (index_key schema
+      scan.which row)) rows) is.range_is (subst (λ (sight : Sight). AreFound schema scan.which (rows_seen sight (in_table table chains)) (lies_in schema scan)
+      rows) is.sight_is (subst (λ (n : ℕ). AreFound schema scan.which (rows_seen scan.sight (in_table n chains)) (lies_in schema scan) rows) is.table_is are)))
 
   module _ (first : WorldState) where
-    pub reading_steps : (state : WorldState) (search : RowSearch) → IsReadingNewest chains s table plan schema first state search → IsTold state
+    pub reading_steps : {state : WorldState} {search : RowSearch} → IsReadingNewest chains s table plan schema first state search → IsTold state
         → MayStep s schema state search
-    reading_steps state search is told =
-        may_step s schema state chains search told (rows_on s first state chains is.moves told (is.readable.said, is.readable.coded)) is.readable.short
-        is.finds.searching
+    reading_steps is told = may_step chains told (rows_on chains is.moves told (is.readable.said, is.readable.coded)) is.readable.short is.finds.searching
 
-    shows : (state : WorldState) (search : RowSearch) → IsReadingNewest chains s table plan schema first state search → IsTold state
+    shows : {state : WorldState} {search : RowSearch} → IsReadingNewest chains s table plan schema first state search → IsTold state
         → ShowsRows schema search.scan state (in_table search.scan.table chains)
-    shows state search is told = by is.readable.tells where
+    shows {state} {search} is told = by is.readable.tells where
       coded : AreRowsAs chains is.readable.said state
-      coded = rows_left first state (moves_leave s first state is.moves) chains is.readable.said told is.readable.coded
+      coded = rows_left first state (moves_leave is.moves) chains is.readable.said told is.readable.coded
 
       by : (is.readable.said ≡ what_is_there chains) ⊎ (plan.which ≡ 0) → ShowsRows schema search.scan state (in_table search.scan.table chains)
       by (inl there) =
@@ -133,37 +122,34 @@ module _ (chains : Chains) (s table : ℕ) (plan : Plan) (schema : Schema) where
           shows_clustered state chains is.readable.said told coded schema search.scan is.finds.searching.there is.readable.columns
           (is.scan.which_is ∙ clustered)
 
-    pub reading_goes_on : (old new : WorldState) (search next : RowSearch) → IsReadingNewest chains s table plan schema first old search
+    pub reading_goes_on : {old new : WorldState} {search next : RowSearch} → IsReadingNewest chains s table plan schema first old search
         → GoesOn s schema old new search next → IsTold new → IsReadingNewest chains s table plan schema first new next
-    reading_goes_on old new search next is goes told =
-        let moves : MovesPlaces s old new = moves_in_one s _ old new goes.moves in
-        let on = goes_on s schema old new chains search next is.finds (shows old search is (moves_told s old new moves told)) goes told in
-        record { readable = is.readable; moves = moves_then s first old new is.moves moves; scan = scan_on search.scan next.scan on.1 is.scan; finds = on.0 }
+    reading_goes_on {old} {new} {search} {next} is goes told =
+        let moves : MovesPlaces s old new = moves_in_one goes.moves in
+        let on = goes_on s schema old new chains search next is.finds (shows is (moves_told moves told)) goes told in
+        record { readable = is.readable; moves = moves_then is.moves moves; scan = scan_on on.1 is.scan; finds = on.0 }
 
-    pub reading_nears : (old new : WorldState) (search next : RowSearch) → IsReadingNewest chains s table plan schema first old search
+    pub reading_nears : {old new : WorldState} {search next : RowSearch} → IsReadingNewest chains s table plan schema first old search
         → GoesOn s schema old new search next → IsTold new → left_in s new next < left_in s old search
-    reading_nears old new search next is goes told =
-        let was : IsTold old = moves_told s old new (moves_in_one s _ old new goes.moves) told in
-        nearer_in s old new search next
-        (steps_nearer s schema old new search next (in_table search.scan.table chains) (shows old search is was) is.finds.searching is.finds.finds goes was
-        told)
+    reading_nears {old} {new} {search} {next} is goes told =
+        let was : IsTold old = moves_told (moves_in_one goes.moves) told in
+        nearer_in s old new search next (steps_nearer (shows is was) is.finds.searching is.finds.finds goes was told)
 
-    pub reading_waits : (old new : WorldState) (search same : RowSearch) (why : Move) → IsReadingNewest chains s table plan schema first old search
+    pub reading_waits : {old new : WorldState} {search same : RowSearch} {why : Move} → IsReadingNewest chains s table plan schema first old search
         → Waits s schema old new search same why → IsTold new → IsReadingNewest chains s table plan schema first new same
-    reading_waits old new search same why is waits told =
-        let moves : MovesPlaces s old new = moves_nothing s old new waits.unchanged in
+    reading_waits {old} {new} {search} {same} {why} is waits told =
+        let moves : MovesPlaces s old new = moves_nothing waits.unchanged in
         let on = waits_on s schema old new chains search same why is.finds waits told in
-        record { readable = is.readable; moves = moves_then s first old new is.moves moves; scan = scan_on search.scan same.scan on.1 is.scan; finds = on.0 }
+        record { readable = is.readable; moves = moves_then is.moves moves; scan = scan_on on.1 is.scan; finds = on.0 }
 
-    pub reading_ends : (old new : WorldState) (search : RowSearch) (rows : List FoundRow) → IsReadingNewest chains s table plan schema first old search
-        → Ends s schema old new search rows
-        → AreRead chains table plan schema first rows × MovesPlaces s first new
-    reading_ends old new search rows is ends =
+    pub reading_ends : {old new : WorldState} {search : RowSearch} {rows : List FoundRow} → IsReadingNewest chains s table plan schema first old search → Ends s
+        schema old new search rows → AreRead chains table plan schema first rows × MovesPlaces s first new
+    reading_ends {old} {new} {search} {rows} is ends =
         let found = ends.found (in_table search.scan.table chains) is.finds.finds in (
           record { readable = is.readable; found = in_plan search.scan rows is.scan found.0; rise = found.1 },
-          moves_then s first old new is.moves (leaving_moves s _ old new ends.leaves),
+          moves_then is.moves (leaving_moves s _ old new ends.leaves),
         )
 
-    pub reading_stops : (index : ℕ) (state later : WorldState) (search : RowSearch) → IsReadingNewest chains s table plan schema first state search
+    pub reading_stops : {index : ℕ} {state later : WorldState} {search : RowSearch} → IsReadingNewest chains s table plan schema first state search
         → Calls index (Leaves s) state later → MovesPlaces s first later
-    reading_stops index state later search is leaves = moves_then s first state later is.moves (leaving_moves s index state later leaves)
+    reading_stops {index} {state} {later} is leaves = moves_then is.moves (leaving_moves s index state later leaves)

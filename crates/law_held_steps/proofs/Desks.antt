@@ -39,8 +39,7 @@ doing_twice zero first second (desk ∷ desks) = refl
 doing_twice (suc s) first second (desk ∷ desks) = ap (λ ds. desk ∷ ds) (doing_twice s first second desks)
 
 pub doing_stays : (s : ℕ) (desks : List Desk) → doing_at s desks ≡ Nothing → with_doing s Nothing desks ≡ desks
-doing_stays s desks is =
-    ap (λ (doing : Doing). set desks s (record (desk_at s desks) { doing = doing })) (sym is) ∙ set-get_or desks s fresh_desk
+doing_stays s desks is = ap (λ (doing : Doing). set desks s (record (desk_at s desks) { doing = doing })) (sym is) ∙ set-get_or desks s fresh_desk
 
 -- who has something under way has a desk
 pub busy_at_a_desk : (s : ℕ) (desks : List Desk) → (doing_at s desks ≢ Nothing) → s < length desks
@@ -48,8 +47,8 @@ busy_at_a_desk s [] busy = absurd (busy refl)
 busy_at_a_desk zero (desk ∷ desks) busy = omega arith
 busy_at_a_desk (suc s) (desk ∷ desks) busy = let below = busy_at_a_desk s desks busy in omega arith
 
-pub changes_at_a_desk : (s : ℕ) (change : RowChange) (desks : List Desk) → doing_at s desks ≡ Changing change → s < length desks
-changes_at_a_desk s change desks is = busy_at_a_desk s desks (λ none. let e : Changing change ≡ Nothing = sym is ∙ none in cc)
+pub changes_at_a_desk : (s : ℕ) {change : RowChange} (desks : List Desk) → doing_at s desks ≡ Changing change → s < length desks
+changes_at_a_desk s {change} desks is = busy_at_a_desk s desks (λ none. let e : Changing change ≡ Nothing = sym is ∙ none in cc)
 
 -- The session has this to do now; the others' desks, and how many items it has started, are as they were.
 pub record GivesDoing (s : ℕ) (doing : Doing) (old new : List Desk) : Type 0 where

@@ -26,8 +26,6 @@ use Rattle.desks.specs.Holding.{AreFew, IsHeld, IsLast, IsLastOf, RowsHeld, Sear
 use Rattle.law_held_steps.specs.{Making.LeavesLists, Leaving.is_searching}
 use Rattle.law_held_steps.proofs.{AnyStep.each, AnyStep.waits_not, AnyStep.past_grows, AnyStep.held_after, Desks.given, Left.no_search}
 
--- ---- what the past says after a step of a change: it is the same, or has the entry of the change
-
 -- it has started or ended no item, and no commit of its own waits for its acknowledgement that didn't
 pub record GoesOnBy (s : ℕ) (old new : List Event) : Type 0 where
   pub adds : AddsAtMostOne s old new
@@ -35,19 +33,16 @@ pub record GoesOnBy (s : ℕ) (old new : List Event) : Type 0 where
   pub under_way_is : under_way s new ≡ under_way s old
   pub awaits : awaits_ack (of_item s new) ≡ true → awaits_ack (of_item s old) ≡ true
 
-pub goes_same : (s : ℕ) (old new : List Event) → new ≡ old → GoesOnBy s old new
-goes_same s old new same =
-    subst (GoesOnBy s old) (sym same) (record { adds = inl refl; started_is = refl; under_way_is = refl; awaits = λ is. is })
+pub goes_same : {s : ℕ} {old new : List Event} → new ≡ old → GoesOnBy s old new
+goes_same {s} {old} same = subst (GoesOnBy s old) (sym same) (record { adds = inl refl; started_is = refl; under_way_is = refl; awaits = λ is. is })
 
-pub goes_changed : (s : ℕ) (change : Change) (old new : List Event) → new ≡ Changed s change ∷ old → GoesOnBy s old new
-goes_changed s change old new is = subst (GoesOnBy s old) (sym is) (record {
+pub goes_changed : {s : ℕ} {change : Change} {old new : List Event} → new ≡ Changed s change ∷ old → GoesOnBy s old new
+goes_changed {s} {change} {old} is = subst (GoesOnBy s old) (sym is) (record {
   adds = inr (Changed s change, eq-eqb s s refl, refl);
   started_is = refl;
   under_way_is = refl;
   awaits = λ waits. absurd (waits_not s (Changed s change ∷ of_item s old) old waits refl);
 })
-
--- ---- the open transaction of who may write, and what others keep of a session's
 
 -- the session has an open transaction
 abbrev pub HasOpen : ℕ → WorldState → Type 0
@@ -56,7 +51,7 @@ HasOpen s state = (session : Session) × (work : Work) × HasWork s session work
 open_or_not : (found : Option Level) → is_some found ≡ true → found ≡ None → ⊥
 open_or_not found is none = cc
 
-module _ (chains : Chains) (writer : Option ℕ) (state : WorldState) (agrees : Agrees chains writer state) (s : ℕ) where
+module _ {chains : Chains} {writer : Option ℕ} {state : WorldState} (agrees : Agrees chains writer state) (s : ℕ) where
   work_there : IsOpen s state.past → (session : Session) → IsSession s session state → (work : Option Work) → session.work ≡ work → HasOpen s state
   work_there is_open session there None none =
       let idle = idle_of chains writer state s session agrees there none in absurd (open_or_not (level s state.past) is_open idle.level_is)
@@ -78,9 +73,8 @@ module _ (chains : Chains) (writer : Option ℕ) (state : WorldState) (agrees : 
   open_joined is_open = let has = open_work is_open in omega (arith, slice_get_within state.sessions s has.0 has.2.session_is, agrees.count)
 
 -- two lists of sessions with the same settings
-pub same_settings : (xs ys : List Session) → length xs ≡ length ys
-    → ((t : ℕ) (x y : Session) → slice_get xs t ≡ Some x → slice_get ys t ≡ Some y → x.setting ≡ y.setting)
-    → map (λ (session : Session). session.setting) xs ≡ map (λ (session : Session). session.setting) ys
+pub same_settings : (xs ys : List Session) → length xs ≡ length ys → ((t : ℕ) (x y : Session) → slice_get xs t ≡ Some x → slice_get ys t ≡ Some y
+    → x.setting ≡ y.setting) → map (λ (session : Session). session.setting) xs ≡ map (λ (session : Session). session.setting) ys
 same_settings [] [] count each = refl
 same_settings [] (y ∷ ys) count each = absurd (omega (arith, count))
 same_settings (x ∷ xs) [] count each = absurd (omega (arith, count))
@@ -88,13 +82,11 @@ same_settings (x ∷ xs) (y ∷ ys) count each =
     ap (λ s. s ∷ map (λ (session : Session). session.setting) xs) (each 0 x y refl refl)
     ∙ ap (λ rest. y.setting ∷ rest) (same_settings xs ys (omega (arith, count)) (λ t a b first second. each (suc t) a b first second))
 
--- ---- what holds of the lists after a step of a change, once its rows, logs and fitting changes are known
-
-module _ (s : ℕ) (desks : List Desk) (cuts : ℕ) (undo : UndoRoom) (room : WorkRoom) (old new : WorldState)
+module _ {s : ℕ} {desks : List Desk} {cuts : ℕ} {undo : UndoRoom} {room : WorkRoom} {old new : WorldState}
     (held : IsHeld old (Some s) desks cuts undo room) (beside : KeepsBeside s old new) where
   -- who may write has a transaction, and has it still
   pub was_open : HasOpen s old
-  was_open = open_work held.chains (Some s) old held.agrees s held.agrees.lists.writes.0
+  was_open = open_work held.agrees s held.agrees.lists.writes.0
 
   pub stays_open : StaysOpen s was_open.0 was_open.1 old new
   stays_open = beside.own was_open.0 was_open.1 was_open.2
@@ -113,10 +105,8 @@ module _ (s : ℕ) (desks : List Desk) (cuts : ℕ) (undo : UndoRoom) (room : Wo
           ap (λ (z : Session). z.setting) (one_session old s was_open.0 y was_open.2.session_is second))
           (λ u differs first second. ap (λ (z : Session). z.setting) (one_session old u x y (sym (beside.others u differs) ∙ first) second)) t
 
-  -- ---- what its newest change is, while no entry comes
-
-  last_kept : (logged : Logged) (place : Place) → new.past ≡ old.past → IsLast old s logged place → IsLast new s logged place
-  last_kept logged place same is =
+  last_kept : {logged : Logged} {place : Place} → new.past ≡ old.past → IsLast old s logged place → IsLast new s logged place
+  last_kept {place} same is =
       let open_now = beside.own is.session is.work is.has_work in
       record {
         session = open_now.session_now;
@@ -130,19 +120,17 @@ module _ (s : ℕ) (desks : List Desk) (cuts : ℕ) (undo : UndoRoom) (room : Wo
         place_is = subst (λ (schemas : List Schema). place_in schemas is.change ≡ Some place) (sym beside.schemas) is.place_is;
       }
 
-  pub last_of_kept : (change next : KeysChange) → new.past ≡ old.past → next.table ≡ change.table → next.key ≡ change.key → IsLastOf old s change
+  pub last_of_kept : {change : KeysChange} (next : KeysChange) → new.past ≡ old.past → next.table ≡ change.table → next.key ≡ change.key → IsLastOf old s change
       → IsLastOf new s next
-  last_of_kept change next same table key is = record {
+  last_of_kept next same table key is = record {
     logged = is.logged;
     place = is.place;
-    last = last_kept is.logged is.place same is.last;
+    last = last_kept same is.last;
     table_is = is.table_is ∙ sym table;
     key_is = is.key_is ∙ sym key;
   }
 
-  -- ---- all of it
-
-  module _ (goes : GoesOnBy s old.past new.past) (after : Chains) (agrees : Agrees after (Some s) new) (told : IsTold old) where
+  module _ (goes : GoesOnBy s old.past new.past) {after : Chains} (agrees : Agrees after (Some s) new) (told : IsTold old) where
     leaves_others : LeavesOthers s held.chains after (Some s) (Some s) cuts cuts old new
     leaves_others = record {
       agreed = held.agrees;
@@ -157,26 +145,20 @@ module _ (s : ℕ) (desks : List Desk) (cuts : ℕ) (undo : UndoRoom) (room : Wo
       kept = inl (refl, beside.kept);
     }
 
-    pub keeps : (doing : Doing) → s < length desks → is_searching doing ≡ false → FitsThen new.past → LogsAgree new
-        → RowsHeld after new s (read_into undo) room doing
-        → AreFew after new.past → IsHeld new (Some s) (with_doing s doing desks) cuts undo room
+    pub keeps : (doing : Doing) → s < length desks → is_searching doing ≡ false → FitsThen new.past → LogsAgree new → RowsHeld after new s (read_into undo) room
+        doing → AreFew after new.past → IsHeld new (Some s) (with_doing s doing desks) cuts undo room
     keeps doing within searches_not fits logs rows short =
         let gives = given s doing desks within in
-        held_after held leaves_others gives.others
-        (record {
-          replies = λ session there busy.
-              sym (ap (λ (z : Session). z.can_reply) (is_now session there)) ∙ stays_open.can_reply ∙ held.has_room.replies s was_open.0 was_open.2.session_is
-              (sym (ap is_some (goes.under_way_is)) ∙ busy);
-          acks = λ session there waits.
-              sym (ap (λ (z : Session). z.can_ack) (is_now session there)) ∙ stays_open.can_ack ∙ held.has_room.acks s was_open.0 was_open.2.session_is
-              (goes.awaits waits);
-          ends = λ session work has.
-              sym (ap (λ (w : Work). w.can_end) (one_work s stays_open.session_now session stays_open.work_now work new stays_open.has has)) ∙
-              stays_open.can_end ∙ held.has_room.ends s was_open.0 was_open.1 was_open.2;
+        held_after held leaves_others gives.others (record {
+          replies = λ session there busy. sym (ap (λ (z : Session). z.can_reply) (is_now session there)) ∙ stays_open.can_reply ∙ held.has_room.replies s
+              was_open.0 was_open.2.session_is (sym (ap is_some (goes.under_way_is)) ∙ busy);
+          acks = λ session there waits. sym (ap (λ (z : Session). z.can_ack) (is_now session there)) ∙ stays_open.can_ack ∙ held.has_room.acks s was_open.0
+              was_open.2.session_is (goes.awaits waits);
+          ends = λ session work has. sym (ap (λ (w : Work). w.can_end) (one_work s stays_open.session_now session stays_open.work_now work new stays_open.has
+              has)) ∙ stays_open.can_end ∙ held.has_room.ends s was_open.0 was_open.1 was_open.2;
           started = goes.started_is ∙ held.started s ∙ sym gives.started;
           quiet = λ other. absurd (other refl);
           search = subst (SearchHeld after new (Some s) cuts s) (sym gives.here) (no_search after new (Some s) cuts s doing searches_not);
-        })
-        fits (subst (RowsHeld after new s (read_into undo) room) (sym gives.here) rows) logs (gives.count ∙ held.count ∙ ap length (sym beside.names))
+        }) fits (subst (RowsHeld after new s (read_into undo) room) (sym gives.here) rows) logs (gives.count ∙ held.count ∙ ap length (sym beside.names))
         (subst (λ (names : List (List ℕ)). length names ≤ 68) (sym beside.names) held.few)
         (omega (arith, held.cut, past_grows s old.past new.past goes.adds)) short held.whole

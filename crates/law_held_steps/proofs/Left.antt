@@ -12,29 +12,15 @@ use Rattle.undo_apply.specs.declared.work_room.WorkRoom.{WorkRoom}
 use Rattle.desks.specs.{declared.desk.Desk.Desk, declared.desk.Doing.Doing, declared.desk.Doing.TheVariants.Searching, Desks.doing_at, Holding.IsHeld}
 use Rattle.desks.specs.{Holding.RowsHeldBy, Holding.SearchHeld}
 use Rattle.row_changes.specs.Awaited.{IsOfTable}
-use Rattle.law_held_steps.specs.{Leaving.LeavesIndexes, Leaving.LeavesTable, Leaving.is_searching, Moving.MovesPlaces}
+use Rattle.law_held_steps.specs.{Leaving.LeavesIndexes, Leaving.LeavesTable, Leaving.is_searching}
 use Rattle.law_held_steps.proofs.Places.{left_over, none_moves, moves_then, leaving_moves, moves_leave, moves_told}
 use Rattle.law_held_steps.proofs.AnyStep.{rows_left, held_beside}
 
--- ---- one index after the other
-
--- who leaves indexes moves its places, and those only
-moves_of : {s : ℕ} {old new : WorldState} → LeavesIndexes s old new → MovesPlaces s old new
-moves_of is = record { pairs = is.pairs; places = is.others; fewer = is.fewer; versions = is.versions; rest = is.rest; later = is.later }
-
-leaves_of : {s : ℕ} {old new : WorldState} → MovesPlaces s old new → LeavesIndexes s old new
-leaves_of is = record { pairs = is.pairs; others = is.places; fewer = is.fewer; versions = is.versions; rest = is.rest; later = is.later }
-
 pub one_left : (s index : ℕ) (old new : WorldState) → Calls index (λ before after. Leaves s before after) old new → LeavesIndexes s old new
-one_left s index old new c = leaves_of (leaving_moves s index old new c)
+one_left = leaving_moves
 
 pub none_left : (s : ℕ) (state : WorldState) → LeavesIndexes s state state
-none_left s state = leaves_of (none_moves s state)
-
-pub left_then : (s : ℕ) (old mid new : WorldState) → LeavesIndexes s old mid → LeavesIndexes s mid new → LeavesIndexes s old new
-left_then s old mid new first second = leaves_of (moves_then s old mid new (moves_of first) (moves_of second))
-
--- ---- the indexes of a table, one after the other
+none_left s state = none_moves
 
 -- so many of them are left
 pub record LeftBelow (s table count : ℕ) (old new : WorldState) : Type 0 where
@@ -47,14 +33,11 @@ none_below s table state = record { leaves = none_left s state; gone = λ index 
 pub one_more_below : (s table count index : ℕ) (old mid new : WorldState) → LeftBelow s table count old mid → index ≡ index_of table count
     → Calls index (λ before after. Leaves s before after) mid new → LeftBelow s table (count + 1) old new
 one_more_below s table count index old mid new below is call = record {
-  leaves = left_then s old mid new below.leaves (one_left s index mid new call);
-  gone = λ at by which less number awaited.
-      ⊎_elim
-      (λ here. (left_over s (mid.indexes index).awaited by
-      (sym call.index_is.here.awaited ∙ subst (λ n. (new.indexes n).awaited ≡ Some by) here awaited)).1)
-      (λ apart. below.gone at by which (let not_it : which ≢ count = λ same. apart (number ∙ (ap (index_of table) same ∙ sym is)) in
-      omega (arith, less, not_it)) number (sym (call.index_is.elsewhere at apart).awaited ∙ awaited))
-      (cases_eq at index);
+  leaves = moves_then below.leaves (one_left s index mid new call);
+  gone = λ at by which less number awaited. ⊎_elim (λ here. (left_over s (mid.indexes index).awaited by (sym call.index_is.here.awaited
+      ∙ subst (λ n. (new.indexes n).awaited ≡ Some by) here awaited)).1) (λ apart. below.gone at by which (let not_it : which ≢ count = λ same. apart
+      (number ∙ (ap (index_of table) same ∙ sym is)) in
+      omega (arith, less, not_it)) number (sym (call.index_is.elsewhere at apart).awaited ∙ awaited)) (cases_eq at index);
 }
 
 pub all_gone : (s table count : ℕ) (schema : Schema) (old new : WorldState) → slice_get old.schemas table ≡ Some schema → length schema.keys + 1 ≤ count
@@ -67,25 +50,23 @@ all_gone s table count schema old new there all below = record { gone = go }
         let within : of_table.which ≤ length schema.keys = subst (λ (x : Schema). of_table.which ≤ length x.keys) same of_table.within in
         below.gone index by of_table.which (omega (arith, within, all)) of_table.number is
 
--- ---- what holds
-
 -- a session that searches for nothing
 pub no_search : (chains : Chains) (state : WorldState) (writer : Option ℕ) (cuts s : ℕ) (doing : Doing) → is_searching doing ≡ false
     → SearchHeld chains state writer cuts s doing
 no_search chains state writer cuts s (Searching on) none = absurd (cc)
 no_search chains state writer cuts s other none = record {}
 
-module _ (s : ℕ) (writer : Option ℕ) (old new : WorldState) (leaves : LeavesIndexes s old new) where
-  pub held_left : (desks : List Desk) (cuts : ℕ) (undo : UndoRoom) (room : WorkRoom) → IsHeld old writer desks cuts undo room
+module _ {s : ℕ} {writer : Option ℕ} {old new : WorldState} (leaves : LeavesIndexes s old new) where
+  pub held_left : {desks : List Desk} {cuts : ℕ} {undo : UndoRoom} {room : WorkRoom} → IsHeld old writer desks cuts undo room
       → is_searching (doing_at s desks) ≡ false → IsTold new → IsHeld new writer desks cuts undo room
-  held_left desks cuts undo room held none told =
-      let rows = moves_leave s old new (moves_of leaves) in
-      held_beside s held leaves.rest leaves.versions (moves_told s old new (moves_of leaves) told) told leaves.others desks (λ u differs. refl) refl refl
+  held_left {desks} {cuts} {undo} {room} held none told =
+      let rows = moves_leave leaves in
+      held_beside s held leaves.rest leaves.versions (moves_told leaves told) told leaves.places desks (λ u differs. refl) refl refl
       (held.quiet s) (no_search held.chains new writer cuts s (doing_at s desks) none) (rows_by writer held.rows)
       (all_left old new (rows_leave old new rows) (logs_beside old new leaves.rest) held.logs) held.whole
     where
       rows_by : (by : Option ℕ) → RowsHeldBy by held.chains old desks (read_into undo) room → RowsHeldBy by held.chains new desks (read_into undo) room
-      rows_by None is = (has_rows_left old new (moves_leave s old new (moves_of leaves)) held.chains is.0, is.1)
+      rows_by None is = (has_rows_left old new (moves_leave leaves) held.chains is.0, is.1)
       rows_by (Some w) is =
-          rows_left w (moves_leave s old new (moves_of leaves)) (agrees_beside leaves.rest held.agrees)
+          rows_left w (moves_leave leaves) (agrees_beside leaves.rest held.agrees)
           (ap (λ (state : WorldState). slice_get state.sessions w) leaves.rest) (own_beside w old new leaves.rest) (read_into undo) room (doing_at w desks) is

@@ -1,36 +1,135 @@
--- Each step of a change keeps the lists.
-use Rattle.std.proofs.Common.{◌≡◌, ℕ, ◌+◌, ◌<◌, ◌≤◌, ◌^◌, Bool, true, false, cond, List, ◌∷◌, length, Option, Some, refl, sym, ap, subst, ◌∙◌, arith}
-use Rattle.std.specs.Prelude.{slice_get}
-use Rattle.inno_types.specs.{declared.value.Value.Value, declared.value.Schema.Schema}
-use Rattle.inno_model.specs.{declared.event.Event.TheVariants.Changed, Past.own}
+-- A change begins: its edit fits the tables of the history. Each step of it keeps the lists.
+use Rattle.std.proofs.Common.{◌≡◌, ◌≢◌, ℕ, List, Option, Some, None, refl, subst, ◌<◌, true, length, sym, ap, ◌∙◌, arith, ◌+◌, ◌≤◌, ◌^◌, Bool, false, cond}
+use Rattle.std.proofs.Common.{◌∷◌}
+use Rattle.std.proofs.lemmas.Option.{slice_get_within}
+use Rattle.std.specs.Prelude.{slice_get, IsSomeAnd}
+use Rattle.inno_types.specs.{declared.value.Schema.Schema, declared.value.Value.Value}
+use Rattle.law_stored_rows.specs.Fitting.{IsKeyFor, FitsTable}
+use Rattle.world.specs.{State.WorldState, Undoing.read_into, declared.undo_room.UndoRoom.UndoRoom, Told.IsTold}
+use Rattle.row_changes.specs.{declared.row_edit.RowEdit.RowEdit, declared.row_edit.RowEdit.TheVariants.Put, declared.row_edit.RowEdit.TheVariants.Remove}
+use Rattle.row_changes.specs.{Edits.change_of, Edits.FitsEdit, Edits.rows_put, declared.record_change.RecordChange.RecordChange}
+use Rattle.row_changes.specs.{declared.keys_change.KeysChange.KeysChange, declared.row_change.RowChange.RowChange}
+use Rattle.row_changes.specs.{declared.row_change.RowChange.TheVariants.Record, declared.row_change.RowChange.TheVariants.Keys}
+use Rattle.row_changes.specs.{declared.reached.Reached.Reached, declared.reached.Reached.TheVariants.Went, declared.reached.Reached.TheVariants.Done}
+use Rattle.row_changes.specs.{declared.reached.Reached.TheVariants.Hindered}
+use Rattle.row_changes.specs.Rows.{primary_of, table_of, place_of, row_steps, IsChangingRow, ChangesRow}
+use Rattle.shared_lists.specs.{Fitting.FitsWell, Fitting.FitsThen, Steps.rows_of_change}
+use Rattle.law_held_steps.specs.{Beginning.IsEditable, Beginning.IsKeyOfEdit, Beginning.begun, Leaving.is_searching, Making.doing_after, Making.Comes}
+use Rattle.law_held_steps.specs.{Making.MakesChange}
+use Rattle.inno_model.specs.{Past.IsOpen, Past.own, declared.event.Event.TheVariants.Changed}
+use Rattle.law_past_agreement.specs.Order.{created}
+use Rattle.undo_apply.specs.declared.work_room.WorkRoom.{WorkRoom}
+use Rattle.desks.specs.{declared.desk.Desk.Desk, declared.desk.Doing.Doing, declared.desk.Doing.TheVariants.Nothing, declared.desk.Doing.TheVariants.Changing}
+use Rattle.desks.specs.{Desks.doing_at, Desks.with_doing, Desks.is_quiet_doing, Undoing.keys_if}
+use Rattle.desks.specs.Holding.{IsHeld, RowsHeld, SearchHeld, AreFew, IsLastOf}
+use Rattle.law_held_steps.proofs.{Desks.given, Desks.started_still, Desks.changes_at_a_desk, AnyStep.each, Putting.rows_mine}
+use Rattle.law_held_steps.proofs.Keeping.{open_work, open_joined, goes_same, goes_changed, leaves_lists, last_of_kept, keeps}
+use Rattle.law_found_rows.proofs.FittingChanges.{tables_storable}
 use Rattle.row_versions.specs.{declared.place.Place.Place, declared.version.Version.Version, Chains.Chains, Chains.versions_at, Chains.is_same_place}
 use Rattle.row_versions.specs.{Chains.Pushes}
-use Rattle.law_past_agreement.specs.Order.{created}
-use Rattle.world.specs.{State.WorldState, Told.IsTold, Undoing.read_into, declared.undo_room.UndoRoom.UndoRoom}
-use Rattle.row_changes.specs.{declared.row_edit.RowEdit.RowEdit, declared.row_edit.RowEdit.TheVariants.Put, declared.row_edit.RowEdit.TheVariants.Remove}
-use Rattle.row_changes.specs.{declared.record_change.RecordChange.RecordChange, declared.keys_change.KeysChange.KeysChange}
-use Rattle.row_changes.specs.{declared.row_change.RowChange.RowChange, declared.row_change.RowChange.TheVariants.Record}
-use Rattle.row_changes.specs.{declared.row_change.RowChange.TheVariants.Keys, declared.reached.Reached.Reached, declared.reached.Reached.TheVariants.Went}
-use Rattle.row_changes.specs.{declared.reached.Reached.TheVariants.Done, declared.reached.Reached.TheVariants.Hindered, Edits.change_of, Edits.rows_put}
-use Rattle.row_changes.specs.Rows.{table_of, place_of, row_steps, IsChangingRow, ChangesRow}
 use Rattle.law_logged_changes.specs.{GoingOn.KeepsBeside, GoingOn.StaysAgreed, GoingOn.EntersAgreed, GoingOn.EndsAgreed, Logs.LogsAgree}
 use Rattle.law_logged_changes.proofs.{Entering.goes_on, Entering.place_there, Logging.change_logged, Crossing.row_all}
-use Rattle.undo_apply.specs.declared.work_room.WorkRoom.{WorkRoom}
-use Rattle.shared_lists.specs.{Fitting.FitsThen, Steps.rows_of_change}
-use Rattle.desks.specs.{declared.desk.Desk.Desk, declared.desk.Doing.TheVariants.Changing, Desks.doing_at, Undoing.keys_if, Holding.AreFew, Holding.IsHeld}
-use Rattle.desks.specs.{Holding.IsLastOf, Holding.RowsHeld}
 use Rattle.law_world_agreement.specs.Agreement.{Agrees}
-use Rattle.law_held_steps.specs.{Leaving.is_searching, Making.doing_after, Making.Comes, Making.MakesChange}
-use Rattle.law_held_steps.proofs.{Desks.changes_at_a_desk, Begun.edit_fits}
-use Rattle.law_held_steps.proofs.Keeping.{goes_same, goes_changed, leaves_lists, last_of_kept, keeps}
+use Rattle.law_logged_changes.proofs.Listed.{begun as begun_row}
 
--- ---- the entry
+some_there : (found : Option Schema) (P : Schema → Type 0) → IsSomeAnd found P → (schema : Schema) × (found ≡ Some schema) × P schema
+some_there None P fits = absurd fits
+some_there (Some schema) P fits = (schema, refl, fits)
+
+-- its primary column, and the key of the row there
+pub key_for : (schemas : List Schema) (table : ℕ) (edit : RowEdit) → FitsWell schemas (change_of table edit)
+    → (schema : Schema) × (slice_get schemas table ≡ Some schema) × IsKeyFor schema (primary_of schema edit)
+key_for schemas table (Put row) fits =
+    let found = some_there (slice_get schemas table) (λ schema. FitsTable schema row) fits.0 in (found.0, found.1, found.2.key)
+key_for schemas table (Remove value) fits = some_there (slice_get schemas table) (λ schema. IsKeyFor schema value) fits.0
+
+-- what fits the tables fits the table, with these bytes as its key
+pub fits_edit : (schemas : List Schema) (table : ℕ) (schema : Schema) (edit : RowEdit) (key : List ℕ) → slice_get schemas table ≡ Some schema
+    → FitsWell schemas (change_of table edit) → IsKeyOfEdit schema edit key → FitsEdit schema edit key
+fits_edit schemas table schema (Put row) key there fits spelled =
+    let fits_row = rw there at fits.0 in
+    record {
+      fits = fits_row;
+      numbers = fits.1;
+      key_is = record {
+        column = fits_row.key.column;
+        primary = fits_row.key.primary;
+        present = fits_row.key.of_kind;
+        spelled = spelled fits_row.key.column fits_row.key.primary;
+      };
+    }
+fits_edit schemas table schema (Remove value) key there fits spelled =
+    let for = rw there at fits.0 in
+    record { column = for.column; primary = for.primary; has_key = (for.of_kind, fits.1); spelled = spelled for.column for.primary }
+
+-- and back
+pub edit_fits : (schemas : List Schema) (table : ℕ) (schema : Schema) (edit : RowEdit) (key : List ℕ) → slice_get schemas table ≡ Some schema
+    → FitsEdit schema edit key → FitsWell schemas (change_of table edit)
+edit_fits schemas table schema (Put row) key there fits = (rw there fits.fits, fits.numbers)
+edit_fits schemas table schema (Remove value) key there fits =
+    (rw there (record { column = fits.column; primary = fits.primary; of_kind = fits.has_key.0 }), fits.has_key.1)
+
+-- ---- a change begins
+
+module _ {state : WorldState} {s : ℕ} {desks : List Desk} {cuts : ℕ} {undo : UndoRoom} {room : WorkRoom}
+    (held : IsHeld state (Some s) desks cuts undo room) where
+  fits_here : (table : ℕ) (edit : RowEdit) → FitsWell (created state.past) (change_of table edit) → FitsWell state.schemas (change_of table edit)
+  fits_here table edit fits = subst (λ (tables : List Schema). FitsWell tables (change_of table edit)) (sym held.agrees.lists.tables) fits
+
+  pub can_be_keyed : (table : ℕ) (edit : RowEdit) → FitsWell (created state.past) (change_of table edit) → IsEditable state table edit
+  can_be_keyed table edit fits =
+      let found = key_for state.schemas table edit (fits_here table edit fits) in
+      record {
+        within = slice_get_within state.schemas table found.0 found.1;
+        schema = found.0;
+        there = found.1;
+        column = found.2.column;
+        primary = found.2.primary;
+        of_kind = found.2.of_kind;
+      }
+
+  -- who may write has something else under way, while the world is what it was
+  pub turned : (doing : Doing) → s < length desks → RowsHeld held.chains state s (read_into undo) room doing
+      → SearchHeld held.chains state (Some s) cuts s doing → IsHeld state (Some s) (with_doing s doing desks) cuts undo room
+  turned doing within rows search =
+      let gives = given s doing desks within in
+      record {
+        chains = held.chains;
+        agrees = held.agrees;
+        fits = held.fits;
+        rows = subst (RowsHeld held.chains state s (read_into undo) room) (sym gives.here) rows;
+        quiet = each s (λ u. Some s ≢ Some u → is_quiet_doing (doing_at u (with_doing s doing desks)) ≡ true) (λ other. absurd (other refl))
+            (λ u differs other. ap (λ (desk : Desk). is_quiet_doing desk.doing) (gives.others u differs) ∙ held.quiet u other);
+        searches = each s (λ u. SearchHeld held.chains state (Some s) cuts u (doing_at u (with_doing s doing desks)))
+            (subst (SearchHeld held.chains state (Some s) cuts s) (sym gives.here) search) (λ u differs.
+            subst (λ (desk : Desk). SearchHeld held.chains state (Some s) cuts u desk.doing) (sym (gives.others u differs)) (held.searches u));
+        logs = held.logs;
+        has_room = held.has_room;
+        started = λ u. held.started u ∙ sym (started_still s u doing desks);
+        count = gives.count ∙ held.count;
+        few = held.few;
+        cut = held.cut;
+        short = held.short;
+        whole = held.whole;
+      }
+
+  pub begins : (table : ℕ) (schema : Schema) (edit : RowEdit) (key : List ℕ) → doing_at s desks ≡ Nothing → IsOpen s state.past
+      → FitsWell (created state.past) (change_of table edit) → slice_get state.schemas table ≡ Some schema → IsKeyOfEdit schema edit key
+      → IsHeld state (Some s) (with_doing s (Changing (begun table edit key)) desks) cuts undo room
+  begins table schema edit key nothing is_open fits there spelled =
+      let rows = rows_mine s held refl nothing in
+      let has = open_work held.agrees s is_open in
+      let storable =
+      tables_storable state.past held.fits table schema (ap (λ (tables : List Schema). slice_get tables table) (sym held.agrees.lists.tables) ∙ there) in
+      let within : s < length desks = omega (arith, open_joined held.agrees s is_open, held.count) in
+      let changing =
+      begun_row held.chains (Some s) state s table has.0 has.1 schema edit key held.agrees rows.0 has.2 (record { there = there; storable = storable })
+      (fits_edit state.schemas table schema edit key there (fits_here table edit fits) spelled) in
+      turned (Changing (begun table edit key)) within (changing, rows.1, record {}) (record {})
 
 rows_more : (table : ℕ) (edit : RowEdit) → rows_put edit ≡ rows_of_change (Some (change_of table edit))
 rows_more table (Put row) = refl
 rows_more table (Remove value) = refl
-
--- ---- a version more
 
 one_more : (b : Bool) (version : Version) (versions : List Version) (most : ℕ) → length versions ≤ most
     → length (cond b (version ∷ versions) versions) ≤ 1 + most
@@ -43,8 +142,6 @@ pushed_short before after place version most pushes few other =
     subst (λ (versions : List Version). length versions ≤ 1 + most) (sym (pushes other))
     (one_more (is_same_place place other) version (versions_at other before) most (few other))
 
--- ---- how many steps are left
-
 nears_by : (old new : WorldState) (change next : RowChange) (schema : Schema) → new.schemas ≡ old.schemas → table_of next ≡ table_of change
     → slice_get old.schemas (table_of change) ≡ Some schema → row_steps (length schema.keys) next < row_steps (length schema.keys) change
     → row_steps (keys_if (slice_get new.schemas (table_of next))) next < row_steps (keys_if (slice_get old.schemas (table_of change))) change
@@ -54,12 +151,7 @@ nears_by old new change next schema same table there less =
     (sym (ap (λ (s : List Schema). keys_if (slice_get s (table_of next))) same ∙ (ap (λ n. keys_if (slice_get old.schemas n)) table ∙ was)))
     (subst (λ k. row_steps (length schema.keys) next < row_steps k change) (sym was) less)
 
-module _ (s : ℕ) (desks : List Desk) (cuts : ℕ) (undo : UndoRoom) (room : WorkRoom) (old : WorldState)
-    (held : IsHeld old (Some s) desks cuts undo room) (change : RowChange) (at : doing_at s desks ≡ Changing change) where
-  pub may : (chains : Chains) × IsChangingRow s chains old change
-  may = (held.chains, (subst (RowsHeld held.chains old s (read_into undo) room) at held.rows).0)
-
-module _ (s : ℕ) (desks : List Desk) (cuts : ℕ) (undo : UndoRoom) (room : WorkRoom) (old new : WorldState)
+module _ {s : ℕ} {desks : List Desk} {cuts : ℕ} {undo : UndoRoom} {room : WorkRoom} {old new : WorldState}
     (held : IsHeld old (Some s) desks cuts undo room) (was : IsTold old) (told : IsTold new) (few : length new.past < 2 ^ 63)
     (within : s < length desks) where
   logs_now : (change : RowChange) (reached : Reached RowChange) → IsChangingRow s held.chains old change → ChangesRow s held.chains old new change reached
@@ -73,21 +165,19 @@ module _ (s : ℕ) (desks : List Desk) (cuts : ℕ) (undo : UndoRoom) (room : Wo
       → Comes s old new change reached → MakesChange s desks cuts undo room old new change reached
   still change reached beside p c past agrees quiet rows comes = record {
     held =
-        keeps s desks cuts undo room old new held beside (goes_same s old.past new.past past) held.chains agrees was (doing_after change reached) within quiet
+        keeps held beside (goes_same past) agrees was (doing_after change reached) within quiet
         (subst FitsThen (sym past) held.fits) (logs_now change reached p c) rows (subst (AreFew held.chains) (sym past) held.short);
-    leaves = leaves_lists s desks cuts undo room old new held beside;
+    leaves = leaves_lists held beside;
     comes = comes;
   }
 
   -- the history tells the change now
-  last_logged : (change : RecordChange) (key : List ℕ) (after : Option (List Value)) (next : KeysChange)
-      → IsChangingRow s held.chains old (Record change key after)
-      → ChangesRow s held.chains old new (Record change key after) (Went (Keys next)) → new.schemas ≡ old.schemas → IsLastOf new s next
+  last_logged : (change : RecordChange) (key : List ℕ) (after : Option (List Value)) (next : KeysChange) → IsChangingRow s held.chains old (Record change key
+      after) → ChangesRow s held.chains old new (Record change key after) (Went (Keys next)) → new.schemas ≡ old.schemas → IsLastOf new s next
   last_logged change key after next row c same =
       let p = row.0 in
       let logged =
-      change_logged s held.chains old new change key next.before after p.session p.work row c.0.0 p.has_work
-      (held.logs.each s p.session p.work p.has_work) in
+      change_logged s held.chains old new change key next.before after p.session p.work row c.0.0 p.has_work (held.logs.each s p.session p.work p.has_work) in
       record {
         logged = logged.logged;
         place = place_of p.schema change;
@@ -133,13 +223,11 @@ module _ (s : ℕ) (desks : List Desk) (cuts : ℕ) (undo : UndoRoom) (room : Wo
       let longer : length new.past ≡ 1 + length old.past = omega (arith, ap length a.past) in
       record {
         held =
-            keeps s desks cuts undo room old new held a.beside (goes_changed s entry old.past new.past a.past)
-            a.after a.agrees was (Changing (Keys next)) within refl (subst FitsThen (sym a.past) fits)
-            (logs_now (Record change key after) (Went (Keys next)) rows.0 c)
-            (a.changing, rows.1, last_logged change key after next rows.0 c a.beside.schemas)
-            (λ place. let pushed = pushed_short held.chains a.after _ _ (length old.past + 2 ^ 62) a.pushes.pushes held.short place in omega
-            (arith, longer, pushed));
-        leaves = leaves_lists s desks cuts undo room old new held a.beside;
+            keeps held a.beside (goes_changed a.past) a.agrees was (Changing (Keys next)) within refl (subst FitsThen (sym a.past) fits)
+            (logs_now (Record change key after) (Went (Keys next)) rows.0 c) (a.changing, rows.1, last_logged change key after next rows.0 c a.beside.schemas)
+            (λ place. let pushed = pushed_short held.chains a.after _ _ (length old.past + 2 ^ 62) a.pushes.pushes held.short
+            place in omega (arith, longer, pushed));
+        leaves = leaves_lists held a.beside;
         comes = record { entry = entry; was = refl; is = refl; past = a.past; rows = a.rows ∙ ap (λ n. old.rows + n) (rows_more change.table change.edit) };
       }
   makes (Record change key after) Done rows c = absurd c
@@ -147,14 +235,13 @@ module _ (s : ℕ) (desks : List Desk) (cuts : ℕ) (undo : UndoRoom) (room : Wo
       let given = goes_on s held.chains old new (Record change key after) (Hindered same why) held.agrees rows.0 c told few in
       let a : StaysAgreed s held.chains old new same = given.1 in
       let p : IsChangingRow s held.chains new (Record change key after) = subst (IsChangingRow s held.chains new) c.0 a.changing in
-      still (Record change key after) (Hindered same why) a.beside rows.0 c a.past a.agrees refl (p.1, rows.1)
-      (record { past = a.past; rows = a.rows }, c.0)
+      still (Record change key after) (Hindered same why) a.beside rows.0 c a.past a.agrees refl (p.1, rows.1) (record { past = a.past; rows = a.rows }, c.0)
   makes (Keys change) (Went (Record next key after)) rows c = absurd c.0
   makes (Keys change) (Went (Keys next)) rows c =
       let a : StaysAgreed s held.chains old new (Keys next) = goes_on s held.chains old new (Keys change) (Went (Keys next)) held.agrees rows.0 c told few in
       let p = rows.0 in
       still (Keys change) (Went (Keys next)) a.beside rows.0 c a.past a.agrees refl
-      (a.changing, rows.1, last_of_kept s desks cuts undo room old new held a.beside change next a.past c.0.table_is c.0.key_is rows.2) (record {
+      (a.changing, rows.1, last_of_kept held a.beside next a.past c.0.table_is c.0.key_is rows.2) (record {
         adds = record { past = a.past; rows = a.rows };
         change_is = refl;
         nears = nears_by old new (Keys change) (Keys next) p.schema a.beside.schemas c.0.table_is p.table.there (c.1 p.schema p.table.there);
@@ -166,7 +253,7 @@ module _ (s : ℕ) (desks : List Desk) (cuts : ℕ) (undo : UndoRoom) (room : Wo
       let given = goes_on s held.chains old new (Keys change) (Hindered same why) held.agrees rows.0 c told few in
       let a : StaysAgreed s held.chains old new same = given.1 in
       let p : IsChangingRow s held.chains new (Keys change) = subst (IsChangingRow s held.chains new) c.0 a.changing in
-      let last = last_of_kept s desks cuts undo room old new held a.beside change change a.past refl refl rows.2 in
+      let last = last_of_kept held a.beside change a.past refl refl rows.2 in
       still (Keys change) (Hindered same why) a.beside rows.0 c a.past a.agrees refl (
         record {
           change = change;
@@ -180,10 +267,10 @@ module _ (s : ℕ) (desks : List Desk) (cuts : ℕ) (undo : UndoRoom) (room : Wo
         rows.1,
       ) (record { past = a.past; rows = a.rows }, c.0)
 
-pub change_made : (s : ℕ) (desks : List Desk) (cuts : ℕ) (undo : UndoRoom) (room : WorkRoom) (old new : WorldState) (change : RowChange)
-    (reached : Reached RowChange) → IsHeld old (Some s) desks cuts undo room → doing_at s desks ≡ Changing change
+pub change_made : {s : ℕ} {desks : List Desk} {cuts : ℕ} {undo : UndoRoom} {room : WorkRoom} {old new : WorldState} {change : RowChange}
+    {reached : Reached RowChange} → IsHeld old (Some s) desks cuts undo room → doing_at s desks ≡ Changing change
     → ((chains : Chains) → IsChangingRow s chains old change → ChangesRow s chains old new change reached) → IsTold old → IsTold new → length new.past < 2 ^
     63 → MakesChange s desks cuts undo room old new change reached
-change_made s desks cuts undo room old new change reached held at changes was told few =
-    let rows : RowsHeld held.chains old s (read_into undo) room (Changing change) = subst (RowsHeld held.chains old s (read_into undo) room) at held.rows in
-    makes s desks cuts undo room old new held was told few (changes_at_a_desk s change desks at) change reached rows (changes held.chains rows.0)
+change_made {s} {desks} {change = change} {reached = reached} held at changes was told few =
+    let rows = rows_mine s held refl at in
+    makes held was told few (changes_at_a_desk s desks at) change reached rows (changes held.chains rows.0)

@@ -1,5 +1,5 @@
 -- A step of a search that goes on leaves less before it.
-use Rattle.std.proofs.Common.{◌≡◌, ◌⊎◌, inl, inr, ℕ, ◌+◌, ◌*◌, ◌^◌, ◌<◌, ◌≤◌, List, [], ◌∷◌, length, Option, refl, sym, ap, subst, ◌∙◌, arith}
+use Rattle.std.proofs.Common.{⊎_elim, ◌≡◌, ◌⊎◌, inl, inr, ℕ, ◌+◌, ◌*◌, ◌^◌, ◌<◌, ◌≤◌, List, [], ◌∷◌, length, Option, refl, ap, subst, ◌∙◌, arith}
 use Rattle.std.specs.Prelude.{IsTrue}
 use Rattle.inno_types.specs.{declared.value.Value.Value, declared.value.Schema.Schema, Order.IsBelow}
 use Rattle.entries.specs.Pairs.{Pair}
@@ -10,11 +10,9 @@ use Rattle.row_search.specs.{declared.scan.Scan.Scan, declared.phase.Phase.Phase
 use Rattle.row_search.specs.{Tables.most_versions, Tables.ShowsRows, Visits.phase_anew}
 use Rattle.row_search.specs.declared.phase.Phase.TheVariants.{Seek, Follow, Fetch, Look, Walk, Keep, Sort, Leave}
 use Rattle.row_search.specs.Searches.{place_in, pairs_behind, PhaseHolds, IsSearching, Finds, HasToGo}
-use Rattle.desks.specs.{Searching.keys_left, Searching.visit_left, Undoing.versions_from}
+use Rattle.desks.specs.{Searching.keys_left, Searching.visit_left}
 use Rattle.desks.proofs.{Counting.versions_most, Counting.versions_are, Counting.as_many, Showing.same_pairs}
 use Rattle.law_held_steps.specs.Newest.{left_in}
-
--- ---- four numbers, and the two that they say
 
 -- at a key
 record IsAtKey (n : List ℕ) (keys visit : ℕ) : Type 0 where
@@ -40,42 +38,37 @@ Says n keys visit = IsAtKey n keys visit ⊎ IsAtEnd n keys visit
 abbrev pub IsLess : ℕ → ℕ → ℕ → ℕ → Type 0
 IsLess later left keys visit = (later < keys) ⊎ ((later ≡ keys) × (left < visit))
 
-key_to_key : (behind stage versions other rank others later left keys visit : ℕ) → later ≡ 1 + behind → left ≡ stage * 2 ^ 64 + versions
-    → versions < 2 ^ 64 → keys ≡ 1 + other → visit ≡ rank * 2 ^ 64 + others
-    → IsBelow (1 ∷ behind ∷ stage ∷ versions ∷ []) (1 ∷ other ∷ rank ∷ others ∷ []) → IsLess later left keys visit
-key_to_key behind stage versions other rank others later left keys visit a b few c d (inl one) = absurd (omega (arith, one))
-key_to_key behind stage versions other rank others later left keys visit a b few c d (inr (one, inl fewer)) = inl (omega (arith, a, c, fewer))
-key_to_key behind stage versions other rank others later left keys visit a b few c d (inr (one, inr (same, inl lower))) =
-    inr (omega (arith, a, c, same), omega (arith, b, d, lower, few))
-key_to_key behind stage versions other rank others later left keys visit a b few c d (inr (one, inr (same, inr (so, inl shorter)))) =
-    inr (omega (arith, a, c, same), omega (arith, b, d, so, shorter))
-key_to_key behind stage versions other rank others later left keys visit a b few c d (inr (one, inr (same, inr (so, inr (long, nothing))))) = absurd nothing
+module _ {m n : List ℕ} {later left keys visit : ℕ} where
+  key_to_key : (a : IsAtKey m later left) (b : IsAtKey n keys visit)
+      → IsBelow (1 ∷ a.behind ∷ a.stage ∷ a.versions ∷ []) (1 ∷ b.behind ∷ b.stage ∷ b.versions ∷ []) → IsLess later left keys visit
+  key_to_key a b (inl one) = absurd (omega (arith, one))
+  key_to_key a b (inr (one, inl fewer)) = inl (omega (arith, a.keys_is, b.keys_is, fewer))
+  key_to_key a b (inr (one, inr (same, inl lower))) = inr (omega (arith, a.keys_is, b.keys_is, same), omega (arith, a.visit_is, b.visit_is, lower, a.few))
+  key_to_key a b (inr (one, inr (same, inr (so, inl shorter)))) =
+      inr (omega (arith, a.keys_is, b.keys_is, same), omega (arith, a.visit_is, b.visit_is, so, shorter))
+  key_to_key a b (inr (one, inr (same, inr (so, inr (long, nothing))))) = absurd nothing
 
-end_to_end : (stage rank later left keys visit : ℕ) → later ≡ 0 → left ≡ stage * 2 ^ 64 → keys ≡ 0 → visit ≡ rank * 2 ^ 64
-    → IsBelow (0 ∷ stage ∷ 0 ∷ 0 ∷ []) (0 ∷ rank ∷ 0 ∷ 0 ∷ []) → IsLess later left keys visit
-end_to_end stage rank later left keys visit a b c d (inl none) = absurd (omega (arith, none))
-end_to_end stage rank later left keys visit a b c d (inr (none, inl lower)) = inr (omega (arith, a, c), omega (arith, b, d, lower))
-end_to_end stage rank later left keys visit a b c d (inr (none, inr (same, inl zero))) = absurd (omega (arith, zero))
-end_to_end stage rank later left keys visit a b c d (inr (none, inr (same, inr (so, inl zero)))) = absurd (omega (arith, zero))
-end_to_end stage rank later left keys visit a b c d (inr (none, inr (same, inr (so, inr (zeros, nothing))))) = absurd nothing
+  end_to_end : (a : IsAtEnd m later left) (b : IsAtEnd n keys visit) → IsBelow (0 ∷ a.stage ∷ 0 ∷ 0 ∷ []) (0 ∷ b.stage ∷ 0 ∷ 0 ∷ [])
+      → IsLess later left keys visit
+  end_to_end a b (inl none) = absurd (omega (arith, none))
+  end_to_end a b (inr (none, inl lower)) = inr (omega (arith, a.keys_is, b.keys_is), omega (arith, a.visit_is, b.visit_is, lower))
+  end_to_end a b (inr (none, inr (same, inl zero))) = absurd (omega (arith, zero))
+  end_to_end a b (inr (none, inr (same, inr (so, inl zero)))) = absurd (omega (arith, zero))
+  end_to_end a b (inr (none, inr (same, inr (so, inr (zeros, nothing))))) = absurd nothing
 
-end_to_key : (rank behind stage versions : ℕ) → IsBelow (1 ∷ behind ∷ stage ∷ versions ∷ []) (0 ∷ rank ∷ 0 ∷ 0 ∷ []) → ⊥
-end_to_key rank behind stage versions (inl less) = omega (arith, less)
-end_to_key rank behind stage versions (inr (same, later)) = omega (arith, same)
+  less : Says m later left → Says n keys visit → IsBelow m n → IsLess later left keys visit
+  less (inl a) (inl b) below =
+      key_to_key a b (subst (IsBelow (1 ∷ a.behind ∷ a.stage ∷ a.versions ∷ [])) b.n_is (subst (λ (l : List ℕ). IsBelow l n) a.n_is below))
+  less (inr a) (inl b) below = inl (omega (arith, a.keys_is, b.keys_is))
+  less (inl a) (inr b) below =
+      ⊎_elim (λ fewer. absurd (omega (arith, fewer))) (λ same. absurd (let one = same.0 in omega (arith, one)))
+      (subst (IsBelow (1 ∷ a.behind ∷ a.stage ∷ a.versions ∷ [])) b.n_is (subst (λ (l : List ℕ). IsBelow l n) a.n_is below))
+  less (inr a) (inr b) below = end_to_end a b (subst (IsBelow (0 ∷ a.stage ∷ 0 ∷ 0 ∷ [])) b.n_is (subst (λ (l : List ℕ). IsBelow l n) a.n_is below))
 
-less : (m n : List ℕ) (later left keys visit : ℕ) → Says m later left → Says n keys visit → IsBelow m n → IsLess later left keys visit
-less m n later left keys visit (inl a) (inl b) below =
-    key_to_key a.behind a.stage a.versions b.behind b.stage b.versions later left keys visit a.keys_is a.visit_is a.few b.keys_is b.visit_is
-    (subst (IsBelow (1 ∷ a.behind ∷ a.stage ∷ a.versions ∷ [])) b.n_is (subst (λ (l : List ℕ). IsBelow l n) a.n_is below))
-less m n later left keys visit (inr a) (inl b) below = inl (omega (arith, a.keys_is, b.keys_is))
-less m n later left keys visit (inl a) (inr b) below =
-    absurd (end_to_key b.stage a.behind a.stage a.versions
-    (subst (IsBelow (1 ∷ a.behind ∷ a.stage ∷ a.versions ∷ [])) b.n_is (subst (λ (l : List ℕ). IsBelow l n) a.n_is below)))
-less m n later left keys visit (inr a) (inr b) below =
-    end_to_end a.stage b.stage later left keys visit a.keys_is a.visit_is b.keys_is b.visit_is
-    (subst (IsBelow (0 ∷ a.stage ∷ 0 ∷ 0 ∷ [])) b.n_is (subst (λ (l : List ℕ). IsBelow l n) a.n_is below))
-
--- ---- each phase
+-- the same numbers in other words
+less_as : {later left keys visit a b c d : ℕ} → later ≡ a → left ≡ b → keys ≡ c → visit ≡ d → IsLess a b c d → IsLess later left keys visit
+less_as p q r s (inl fewer) = inl (omega (arith, p, r, fewer))
+less_as p q r s (inr both) = let one = both.0 in let two = both.1 in inr (omega (arith, p, r, one), omega (arith, q, s, two))
 
 -- within a walk few versions are left
 abbrev IsFew : Schema → (ℕ → Option Kept) → Phase → Type 0
@@ -88,11 +81,11 @@ few_of : (actor : ℕ) (schema : Schema) (scan : Scan) (state : WorldState) (pha
 few_of actor schema scan state (Walk entry pointer) holds told = holds.1 told
 few_of actor schema scan state phase holds told = tt
 
-no_more : (a b : ℕ) → a ≡ b → b ≤ most_versions → a ≤ most_versions
-no_more a b same few = omega (arith, same, few)
+no_more : {a b : ℕ} → a ≡ b → b ≤ most_versions → a ≤ most_versions
+no_more same few = omega (arith, same, few)
 
-below_most : (a b : ℕ) → a ≡ b → b ≤ most_versions → a < 2 ^ 64
-below_most a b same few = omega (arith, same, few)
+below_most : {a b : ℕ} → a ≡ b → b ≤ most_versions → a < 2 ^ 64
+below_most same few = omega (arith, same, few)
 
 module _ (schema : Schema) (kept : ℕ → Option Kept) (place : Option Pair) (pairs : List Pair) where
   has_some : (phase : Phase) → IsFew schema kept phase → (n : List ℕ) × HasToGo schema kept place pairs phase n
@@ -120,15 +113,14 @@ module _ (schema : Schema) (kept : ℕ → Option Kept) (place : Option Pair) (p
 
   says : (phase : Phase) (n : List ℕ) → IsFew schema kept phase → HasToGo schema kept place pairs phase n
       → Says n (keys_left place pairs phase) (visit_left kept phase)
-  says Seek n few is =
-      inl (record { behind = length pairs; stage = 0; versions = 0; n_is = is; keys_is = refl; visit_is = omega arith; few = omega arith })
+  says Seek n few is = inl (record { behind = length pairs; stage = 0; versions = 0; n_is = is; keys_is = refl; visit_is = omega arith; few = omega arith })
   says Follow n few is = at_stage n 0 _ _ is refl (omega arith)
   says (Fetch entry) n few is = at_stage n 4 _ _ is refl (omega arith)
   says (Look entry bytes) n few is = at_stage n 3 _ _ is refl (omega arith)
   says (Walk entry pointer) n few (versions, leads, is) =
       let key = primary_part schema entry in
       let many : length versions ≡ length few.0 = as_many schema key kept pointer versions few.0 leads few.1 in
-      let counted = versions_are schema key kept most_versions pointer versions leads (no_more (length versions) (length few.0) many few.2) in
+      let counted = versions_are schema key kept most_versions pointer versions leads (no_more many few.2) in
       inl (record {
         behind = pairs_behind place pairs;
         stage = 2;
@@ -136,7 +128,7 @@ module _ (schema : Schema) (kept : ℕ → Option Kept) (place : Option Pair) (p
         n_is = is;
         keys_is = refl;
         visit_is = ap (λ (n : ℕ). 2 * 2 ^ 64 + n) counted;
-        few = below_most (length versions) (length few.0) many few.2;
+        few = below_most many few.2;
       })
   says (Keep entry row) n few is = at_stage n 1 _ _ is refl (omega arith)
   says Sort n few is = inr (record { stage = 1; n_is = is; keys_is = refl; visit_is = omega arith })
@@ -147,20 +139,17 @@ pub keys_anew : (place : Option Pair) (pairs : List Pair) (phase : Phase) → ke
 keys_anew place pairs Seek = refl
 keys_anew place pairs phase = refl
 
--- ---- a step
-
 abbrev pub keys_before : ℕ → WorldState → RowSearch → ℕ
 keys_before s state search = keys_left (place_in s search.scan state) (pairs_of state (index_of search.scan.table search.scan.which)) search.phase
 
 abbrev pub visit_before : WorldState → RowSearch → ℕ
 visit_before state search = visit_left state.versions.kept_at search.phase
 
-pub steps_nearer : (s : ℕ) (schema : Schema) (old new : WorldState) (search next : RowSearch) (versions_at : Value → List Version)
-    → ShowsRows schema search.scan old versions_at → IsSearching s schema old search
-    → Finds schema old.versions.kept_at (place_in s search.scan old) versions_at search
-    → GoesOn s schema old new search next → IsTold old → IsTold new
-    → IsLess (keys_before s new next) (visit_before new next) (keys_before s old search) (visit_before old search)
-steps_nearer s schema old new search next versions_at shows searching finds goes was told =
+pub steps_nearer : {s : ℕ} {schema : Schema} {old new : WorldState} {search next : RowSearch} {versions_at : Value → List Version} → ShowsRows schema
+    search.scan old versions_at → IsSearching s schema old search → Finds schema old.versions.kept_at (place_in s search.scan old) versions_at search → GoesOn s
+    schema old new search next → IsTold old → IsTold new → IsLess (keys_before s new next) (visit_before new next) (keys_before s old search) (visit_before old
+    search)
+steps_nearer {s} {schema} {old} {new} {search} {next} {versions_at} shows searching finds goes was told =
     let kept = old.versions.kept_at in
     let few : IsFew schema kept search.phase = few_of s schema search.scan old search.phase searching.phase was.versions in
     let some = has_some schema kept (place_in s search.scan old) shows.searched search.phase few in
@@ -168,26 +157,17 @@ steps_nearer s schema old new search next versions_at shows searching finds goes
     let kept_is : new.versions.kept_at ≡ kept = goes.moves.versions.kept told.versions in
     let few_now : IsFew schema kept next.phase
     = subst (λ (k : ℕ → Option Kept). IsFew schema k next.phase) kept_is (few_of s schema next.scan new next.phase goes.holds.phase told.versions) in
-    let known : IsLess (keys_left (place_in s next.scan new) shows.searched next.phase) (visit_left kept next.phase)
-    (keys_left (place_in s search.scan old) shows.searched search.phase) (visit_left kept search.phase)
-    = less step.0 some.0 _ _ _ _ (says schema kept (place_in s next.scan new) shows.searched next.phase step.0 few_now step.1)
-    (says schema kept (place_in s search.scan old) shows.searched search.phase some.0 few some.1) step.2 in
     let index = index_of search.scan.table search.scan.which in
     let was_searched : pairs_of old index ≡ shows.searched = ap pairs_in shows.searched_are in
     let same_table = goes.same.table in
     let same_which = goes.same.which in
     let same_index : index_of next.scan.table next.scan.which ≡ index = λ i. index_of (same_table i) (same_which i) in
-    let searched : pairs_of new (index_of next.scan.table next.scan.which) ≡ shows.searched
-    = ap (pairs_of new) same_index
+    let searched : pairs_of new (index_of next.scan.table next.scan.which) ≡ shows.searched = ap (pairs_of new) same_index
     ∙ (same_pairs (old.indexes index).pairs (new.indexes index).pairs (goes.moves.pairs index) (told.pairs index) ∙ was_searched) in
-    subst (λ (pairs : List Pair). IsLess (keys_left (place_in s next.scan new) pairs next.phase) (visit_before new next) (keys_before s old search)
-    (visit_before old search)) (sym searched)
-    (subst (λ (pairs : List Pair). IsLess (keys_left (place_in s next.scan new) shows.searched next.phase) (visit_before new next)
-    (keys_left (place_in s search.scan old) pairs search.phase) (visit_before old search)) (sym was_searched)
-    (subst (λ (k : ℕ → Option Kept). IsLess (keys_left (place_in s next.scan new) shows.searched next.phase) (visit_left k next.phase)
-    (keys_left (place_in s search.scan old) shows.searched search.phase) (visit_left kept search.phase)) (sym kept_is) known))
-
--- ---- with what it takes to come to its pair anew
+    less_as (ap (λ (pairs : List Pair). keys_left (place_in s next.scan new) pairs next.phase) searched) (ap (λ (k : ℕ → Option Kept). visit_left k next.phase)
+    kept_is) (ap (λ (pairs : List Pair). keys_left (place_in s search.scan old) pairs search.phase) was_searched) refl
+    (less (says schema kept (place_in s next.scan new) shows.searched next.phase step.0 few_now step.1) (says schema kept (place_in s search.scan old)
+    shows.searched search.phase some.0 few some.1) step.2)
 
 pub still_nearer : (later left keys visit anew behind : ℕ) → IsLess later left keys visit → anew ≡ behind
     → IsBelow (later ∷ anew ∷ left ∷ []) (keys ∷ behind ∷ visit ∷ [])
@@ -196,17 +176,15 @@ still_nearer later left keys visit anew behind (inr both) same = inr (both.0, in
 
 pub anew_nearer : (later left keys visit other anew behind : ℕ) → IsLess later left keys visit → anew < behind
     → IsBelow (later ∷ anew ∷ left ∷ []) (keys ∷ behind ∷ other ∷ [])
-anew_nearer later left keys visit other anew behind (inl fewer) less = inl fewer
-anew_nearer later left keys visit other anew behind (inr both) less = inr (both.0, inl less)
+anew_nearer later left keys visit other anew behind (inl fewer) lower = inl fewer
+anew_nearer later left keys visit other anew behind (inr both) lower = inr (both.0, inl lower)
 
--- ---- as one number
-
-walk_few : (versions : ℕ) → versions ≤ most_versions → 2 * 2 ^ 64 + versions < 2 ^ 67
-walk_few versions few = omega (arith, few)
+walk_few : {versions : ℕ} → versions ≤ most_versions → 2 * 2 ^ 64 + versions < 2 ^ 67
+walk_few few = omega (arith, few)
 
 -- a visit is less than a key
 visit_few : (kept : ℕ → Option Kept) (phase : Phase) → visit_left kept phase < 2 ^ 67
-visit_few kept (Walk entry pointer) = walk_few (versions_from most_versions kept pointer) (versions_most most_versions kept pointer)
+visit_few kept (Walk entry pointer) = walk_few (versions_most most_versions kept pointer)
 visit_few kept phase = omega arith
 
 smaller : (later left keys visit : ℕ) → IsLess later left keys visit → left < 2 ^ 67 → later * 2 ^ 67 + left < keys * 2 ^ 67 + visit

@@ -1,21 +1,23 @@
--- Steps that move a session's places leave all rows, and may follow one another.
+-- Steps that move a session's places leave all rows, and may follow one another; a world that is held stays so.
 use Rattle.std.proofs.Common.{◌≡◌, ◌≢◌, ◌⊎◌, ⊎_elim, ℕ, Bool, true, false, List, Option, Some, None, refl, sym, ap, subst, ◌∙◌}
 use Rattle.std.specs.Prelude.{◌==◌, if◌then◌else◌}
 use Rattle.std.proofs.lemmas.Bool.Decides.{eqb_tells}
 use Rattle.entries.specs.{Pairs.Pair, Index.AreKept, Calls.Leaves, Calls.released}
 use Rattle.row_versions.specs.Versions.{Versions, Stays}
 use Rattle.row_changes.proofs.Sessions.{same_pairs, same_versions}
-use Rattle.world.specs.{State.WorldState, Told.IsTold, Told.LeavesRows, Indexes.Calls, Undoing.IsUnchanged}
+use Rattle.world.specs.{State.WorldState, Told.IsTold, Told.LeavesRows, Indexes.Calls, Undoing.IsUnchanged, declared.undo_room.UndoRoom.UndoRoom}
 use Rattle.world.proofs.Stores.{store_stays, store_goes_on}
 use Rattle.row_search.specs.Steps.{OnlyMoves}
-use Rattle.law_logged_changes.proofs.ReadersLeft.{left_told}
-use Rattle.law_held_steps.specs.Moving.{MovesPlaces}
-use Rattle.law_held_steps.proofs.AnyStep.{each}
+use Rattle.law_logged_changes.proofs.{ReadersLeft.left_told, Leaving.rows_leave, Leaving.all_left, GoingOn.logs_beside, GoingOn.work_beside}
+use Rattle.law_held_steps.specs.{Moving.MovesPlaces, Begun.ViewsHaveNext}
+use Rattle.law_held_steps.proofs.AnyStep.{each, quiet_step, others_beside, held_beside}
+use Rattle.undo_apply.specs.declared.work_room.WorkRoom.{WorkRoom}
+use Rattle.desks.specs.{declared.desk.Desk.Desk, declared.desk.Doing.Doing, declared.desk.Doing.TheVariants.Nothing, Desks.doing_at, Desks.with_doing}
+use Rattle.desks.specs.{Desks.is_quiet_doing, Holding.SearchHeld, Holding.IsHeld}
+use Rattle.law_held_steps.proofs.Desks.{desk_elsewhere, started_still, doing_mine, as_many, doing_stays}
 
--- ---- pairs and versions
-
-kept_same : (old new : Option (List Pair)) → new ≡ old → AreKept old new
-kept_same old new same = subst (AreKept old) (sym same) (same_pairs old)
+kept_same : {old new : Option (List Pair)} → new ≡ old → AreKept old new
+kept_same {old} same = subst (AreKept old) (sym same) (same_pairs old)
 
 kept_then : (old between new : Option (List Pair)) → AreKept old between → AreKept between new → AreKept old new
 kept_then old between None first second = record {}
@@ -37,11 +39,9 @@ left_over s (Some holder) by is = kept (holder == s) (eqb_tells holder s) is
     kept true tells none = absurd (cc)
     kept false tells same = (same, ⊎_elim (λ t. let no : false ≡ true = t.0 in absurd (cc)) (λ f at. f.1 (let one : holder ≡ by = cc in one ∙ at)) tells)
 
--- ---- which steps are such
-
-pub none_moves : (s : ℕ) (state : WorldState) → MovesPlaces s state state
-none_moves s state = record {
-  pairs = λ index. kept_same _ _ refl;
+pub none_moves : {s : ℕ} {state : WorldState} → MovesPlaces s state state
+none_moves {state} = record {
+  pairs = λ index. kept_same refl;
   places = λ other index differs. refl;
   fewer = λ index by is. is;
   versions = same_versions state.versions;
@@ -49,8 +49,8 @@ none_moves s state = record {
   later = store_stays state.paged;
 }
 
-pub moves_then : (s : ℕ) (old between new : WorldState) → MovesPlaces s old between → MovesPlaces s between new → MovesPlaces s old new
-moves_then s old between new first second = record {
+pub moves_then : {s : ℕ} {old between new : WorldState} → MovesPlaces s old between → MovesPlaces s between new → MovesPlaces s old new
+moves_then {old} {between} {new} first second = record {
   pairs = λ index. kept_then (old.indexes index).pairs (between.indexes index).pairs (new.indexes index).pairs (first.pairs index) (second.pairs index);
   places = λ other index differs. second.places other index differs ∙ first.places other index differs;
   fewer = λ index by is. first.fewer index by (second.fewer index by is);
@@ -59,8 +59,8 @@ moves_then s old between new first second = record {
   later = store_goes_on old.paged between.paged new.paged first.later second.later;
 }
 
-pub moves_in_one : (s index : ℕ) (old new : WorldState) → OnlyMoves s index old new → MovesPlaces s old new
-moves_in_one s index old new moves = record {
+pub moves_in_one : {s index : ℕ} {old new : WorldState} → OnlyMoves s index old new → MovesPlaces s old new
+moves_in_one {index} {old} {new} moves = record {
   pairs = moves.pairs;
   places = λ other at differs. each index (λ i. (new.indexes i).place other ≡ (old.indexes i).place other) (moves.others other differs)
       (λ i elsewhere. ap (λ place. place other) (moves.places i elsewhere)) at;
@@ -70,8 +70,8 @@ moves_in_one s index old new moves = record {
   later = moves.later;
 }
 
-pub moves_nothing : (s : ℕ) (old new : WorldState) → IsUnchanged old new → MovesPlaces s old new
-moves_nothing s old new same = record {
+pub moves_nothing : {s : ℕ} {old new : WorldState} → IsUnchanged old new → MovesPlaces s old new
+moves_nothing same = record {
   pairs = λ index. (same.indexes index).pairs;
   places = λ other index differs. ap (λ place. place other) (same.indexes index).place;
   fewer = λ index by is. sym (same.indexes index).awaited ∙ is;
@@ -83,21 +83,42 @@ moves_nothing s old new same = record {
 pub leaving_moves : (s index : ℕ) (old new : WorldState) → Calls index (Leaves s) old new → MovesPlaces s old new
 leaving_moves s index old new calls = record {
   pairs = each index (λ i. AreKept (old.indexes i).pairs (new.indexes i).pairs)
-      (kept_same (old.indexes index).pairs (new.indexes index).pairs calls.index_is.here.pairs) (λ i elsewhere. (calls.index_is.elsewhere i elsewhere).pairs);
+      (kept_same calls.index_is.here.pairs) (λ i elsewhere. (calls.index_is.elsewhere i elsewhere).pairs);
   places = λ other at differs. each index (λ i. (new.indexes i).place other ≡ (old.indexes i).place other) (calls.index_is.here.others other differs)
       (λ i elsewhere. ap (λ place. place other) (calls.index_is.elsewhere i elsewhere).place) at;
-  fewer = λ at by. each index (λ i. (new.indexes i).awaited ≡ Some by → (old.indexes i).awaited ≡ Some by)
-      (λ is. (left_over s (old.indexes index).awaited by (sym calls.index_is.here.awaited ∙ is)).0)
-      (λ i elsewhere is. sym (calls.index_is.elsewhere i elsewhere).awaited ∙ is) at;
+  fewer = λ at by. each index (λ i. (new.indexes i).awaited ≡ Some by → (old.indexes i).awaited ≡ Some by) (λ is. (left_over s (old.indexes index).awaited by
+      (sym calls.index_is.here.awaited ∙ is)).0) (λ i elsewhere is. sym (calls.index_is.elsewhere i elsewhere).awaited ∙ is) at;
   versions = calls.beside.versions;
   rest = calls.beside.rest;
   later = calls.beside.later;
 }
 
--- ---- what they leave
+pub moves_leave : {s : ℕ} {old new : WorldState} → MovesPlaces s old new → LeavesRows old new
+moves_leave moves = record { schemas = ap (λ (state : WorldState). state.schemas) moves.rest; pairs = moves.pairs; versions = moves.versions }
 
-pub moves_leave : (s : ℕ) (old new : WorldState) → MovesPlaces s old new → LeavesRows old new
-moves_leave s old new moves = record { schemas = ap (λ (state : WorldState). state.schemas) moves.rest; pairs = moves.pairs; versions = moves.versions }
+pub moves_told : {s : ℕ} {old new : WorldState} → MovesPlaces s old new → IsTold new → IsTold old
+moves_told {old} {new} moves = left_told old new (moves_leave moves)
 
-pub moves_told : (s : ℕ) (old new : WorldState) → MovesPlaces s old new → IsTold new → IsTold old
-moves_told s old new moves = left_told old new (moves_leave s old new moves)
+module _ {s : ℕ} {old new : WorldState} (moves : MovesPlaces s old new) where
+  pub held_stays : {writer : Option ℕ} {desks : List Desk} {cuts : ℕ} {undo : UndoRoom} {room : WorkRoom} (held : IsHeld old writer desks cuts undo room)
+      (doing : Doing) → is_quiet_doing (doing_at s desks) ≡ true → is_quiet_doing doing ≡ true → IsTold new → SearchHeld held.chains new writer cuts s doing
+      → IsHeld new writer (with_doing s doing desks) cuts undo room
+  held_stays {writer} {desks} {cuts} held doing was is told search =
+      let rows = moves_leave moves in
+      let others = others_beside s held moves.rest moves.versions (moves_told moves told) told moves.places in
+      let quiet : is_quiet_doing (doing_at s (with_doing s doing desks)) ≡ true =
+      ⊎_elim (λ here. ap is_quiet_doing here ∙ is) (λ none. ap is_quiet_doing none) (doing_mine s doing desks) in
+      held_beside s held moves.rest moves.versions (moves_told moves told) told moves.places (with_doing s doing desks) (λ u. desk_elsewhere s u doing desks)
+      (started_still s s doing desks) (as_many s doing desks) (λ other. quiet) (⊎_elim (λ here. subst (SearchHeld held.chains new writer cuts s) (sym here)
+      search) (λ none. subst (SearchHeld held.chains new writer cuts s) (sym none) (record {})) (doing_mine s doing desks)) (quiet_step (with_doing s doing
+      desks) held others rows (λ u. desk_elsewhere s u doing desks) (λ u differs might. might) was quiet) (all_left old new (rows_leave old new rows)
+      (logs_beside old new moves.rest) held.logs) held.whole
+
+  pub views_stay : ViewsHaveNext old → ViewsHaveNext new
+  views_stay views u session work seen has = views u session work seen (work_beside u session work old new moves.rest has)
+
+pub held_idle : {s : ℕ} {old new : WorldState} {writer : Option ℕ} {desks : List Desk} {cuts : ℕ} {undo : UndoRoom} {room : WorkRoom} → IsHeld old writer desks
+    cuts undo room → doing_at s desks ≡ Nothing → MovesPlaces s old new → IsTold new → IsHeld new writer desks cuts undo room
+held_idle {s} {new} {writer} {desks} {cuts} {undo} {room} held idle moves told =
+    subst (λ (at : List Desk). IsHeld new writer at cuts undo room) (doing_stays s desks idle)
+    (held_stays moves held Nothing (ap is_quiet_doing idle) refl told (record {}))

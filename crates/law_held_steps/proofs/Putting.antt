@@ -1,141 +1,385 @@
--- A change that is being taken back goes on, and less of it is left with each step.
-use Rattle.std.proofs.Common.{◌≡◌, ◌≢◌, ◌⊎◌, ⊎_elim, ℕ, ◌<◌, ◌≤◌, List, length, Option, Some, refl, sym, ap, subst, ◌∙◌, arith, slice_get}
+-- A change is taken back: its undo record is read, and with each step of putting back less of it is left. Until it is done, pairs of keys and kept
+-- versions alone change.
+use Rattle.std.proofs.Common.{[], ◌≡◌, ◌≤◌, true, false, List, ◌∷◌, length, Some, refl, sym, ap, subst, arith, ℕ, Option, None, ◌≢◌, ⊎_elim, ◌∙◌, slice_get}
+use Rattle.std.proofs.Common.{Bool, ◌+◌, ◌*◌, ◌^◌, ◌<◌, inl, inr, ◌⊎◌}
+use Rattle.std.proofs.lemmas.Bool.{cases_eq}
+use Rattle.row_versions.specs.{declared.place.Place.Place, declared.version.Version.Version, declared.kept.Kept.Kept, Versions.Stays, Chains.Chains}
+use Rattle.row_versions.specs.{Chains.older, Chains.versions_at}
 use Rattle.inno_types.specs.declared.value.Schema.{Schema}
-use Rattle.store_api.specs.{declared.moves.Move.Move, declared.moves.Move.TheVariants.Done, declared.moves.Move.TheVariants.Step, declared.answers.Undo.Undo}
-use Rattle.row_versions.specs.{declared.kept.Kept.Kept, declared.place.Place.Place, Chains.Chains, Chains.versions_at}
+use Rattle.law_past_agreement.specs.{Agreement.WriterAgrees, Order.IsOfRow, Order.IsUndoable, Order.MayCome}
+use Rattle.world.specs.State.{WorldState, Logged, Session, Work, HasWork}
+use Rattle.world.specs.Undoing.{read_into, ReadsLast, CutsBack, newest, IsRead}
+use Rattle.world.specs.{Told.IsTold, Told.TellsTogether, Told.LeavesRows, declared.undo_room.UndoRoom.UndoRoom, Memory.IsInMemory}
+use Rattle.law_world_agreement.specs.Agreement.{Agrees}
+use Rattle.law_logged_changes.specs.{Logs.IsAlone, Logs.LogsAgree, Logs.IsLogOf, Steps.ChangesPairsAlone}
+use Rattle.store_api.specs.{declared.answers.Undo.Undo, declared.moves.Move.Move, declared.moves.Move.TheVariants.Done, declared.moves.Move.TheVariants.Step}
+use Rattle.undo_apply.specs.{declared.work_room.Stage.Stage, Rooms.IsWhole, Rooms.steps_left, declared.work_room.WorkRoom.WorkRoom}
+use Rattle.undo_apply.specs.{declared.work_room.Stage.TheVariants.Walk, declared.work_room.Stage.TheVariants.Find, Told.rows_of, Standing.versions_before}
+use Rattle.undo_apply.specs.{Standing.HasWalked}
+use Rattle.desks.specs.{Undoing.left_at, Undoing.keys_if, Undoing.undo_left_in, Undoing.most_versions, declared.desk.Desk.Desk, declared.desk.Doing.Doing}
+use Rattle.desks.specs.{Desks.doing_at, Desks.is_quiet_doing, Desks.with_doing, declared.desk.Doing.TheVariants.Undoing}
+use Rattle.desks.specs.{declared.desk.Doing.TheVariants.Nothing, declared.desk.Doing.TheVariants.Lagging}
+use Rattle.desks.specs.Holding.{RowsHeld, RowsHeldBy, IsLast, SearchHeld, IsHeld, IsGoingBack}
+use Rattle.law_logged_changes.proofs.GoingOn.{own_beside, agrees_beside, step_all, step_beside, logs_beside}
+use Rattle.law_held_steps.proofs.AnyStep.{some_same, last_left, held_beside, rows_left, last_log}
+use Rattle.law_held_steps.proofs.{Desks.GivesDoing, Desks.kept_on, Desks.given, Keeping.open_work}
+use Rattle.law_logged_changes.proofs.{Leaving.rows_leave, Leaving.all_left, Beginning.tells_of_it, Beginning.begins_settled, Beginning.begins_lagging}
+use Rattle.inno_db.specs.{declared.change.Change.Change, declared.change.Change.TheVariants.Create}
+use Rattle.undo_apply.specs.Stages.{Stops, StopsAt, IsPuttingBack, GoesOn, IsHindered, IsDone, PutsBack, StageHolds, WalksOn}
+use Rattle.world.proofs.Memory.{no_pages, not_delayed}
 use Rattle.law_stored_rows.specs.Records.{LeadTo}
-use Rattle.world.specs.{State.WorldState, Told.IsTold, Told.TellsTogether, declared.undo_room.UndoRoom.UndoRoom, Undoing.read_into, Memory.IsInMemory}
-use Rattle.undo_apply.specs.{declared.work_room.WorkRoom.WorkRoom, declared.work_room.Stage.Stage, declared.work_room.Stage.TheVariants.Walk, Told.Rows}
-use Rattle.undo_apply.specs.{Told.rows_of, Standing.versions_before, Standing.HasWalked}
-use Rattle.undo_apply.specs.Stages.{StageHolds, IsPuttingBack, WalksOn, GoesOn, PutsBack}
-use Rattle.law_logged_changes.specs.Steps.{ChangesPairsAlone}
-use Rattle.law_logged_changes.proofs.GoingOn.{step_all, step_beside}
-use Rattle.desks.specs.{declared.desk.Desk.Desk, declared.desk.Doing.TheVariants.Undoing, Desks.doing_at, Undoing.left_at, Undoing.keys_if}
-use Rattle.desks.specs.{Undoing.undo_left_in, Undoing.most_versions, Holding.IsGoingBack, Holding.IsHeld}
-use Rattle.law_held_steps.specs.Undoing.{HasPutBack}
-use Rattle.law_held_steps.proofs.Desks.{kept_on}
-use Rattle.law_held_steps.proofs.Beside.{left_nears, left_walks, not_stopped, older_fewer, LeavesAll, StaysPutting, stays_putting, hindered_by}
-use Rattle.law_held_steps.proofs.Beside.{nothing_under_way, rows_of_writer, last_beside, held_given}
+use Rattle.desks.proofs.Counting.{versions_most, versions_are}
+use Rattle.law_held_steps.specs.Undoing.{HasPutBack, HasLast, IsReady}
 use Rattle.row_changes.specs.Awaited.{IsAwaitedAlone}
-use Rattle.undo_apply.proofs.Hindrances.{never_hindered}
+use Rattle.undo_apply.proofs.{Hindrances.never_hindered, Telling.leaves_told, Columns.few_keys}
+use Rattle.std.specs.Prelude.{is_some}
+use Rattle.inno_model.specs.{declared.event.Event.Event, declared.event.Event.TheVariants.Undone, Past.own}
 
--- ---- fewer versions before a walk
+-- nobody else has changes
+pub alone_if : {s : ℕ} {chains : Chains} {writer : Option ℕ} {state : WorldState} → writer ≡ Some s → Agrees chains writer state → IsAlone s state
+alone_if {state = state} mine agrees = (subst (WriterAgrees state.past) mine agrees.lists.writes).1
 
-module _ (chains : Chains) (place : Place) (undo : Undo) (schema : Schema) (state : WorldState) (rows later : Rows) (bytes read : List ℕ) (keys most : ℕ)
-    (few : length (versions_before chains place) ≤ most) (tells : IsTold state) (same : rows.kept ≡ state.versions.kept_at)
-    (also : later.kept ≡ state.versions.kept_at) where
-  walks_near : (stage next : Stage) → WalksOn schema undo state stage next → StageHolds chains place undo schema rows bytes stage
-      → StageHolds chains place undo schema later read next
-      → left_at keys most state.versions.kept_at next < left_at keys most state.versions.kept_at stage
-  walks_near (Walk which pointer) (Walk other behind) walks was now =
-      let walked : HasWalked schema undo.key rows.kept which pointer was.0 (versions_before chains place) = was.3 in
-      let walking : HasWalked schema undo.key later.kept other behind now.0 (versions_before chains place) = now.3 in
-      let leads : LeadTo schema undo.key state.versions.kept_at pointer walked.left =
-      subst (λ (kept : ℕ → Option Kept). LeadTo schema undo.key kept pointer walked.left) same walked.leads in
-      let on : LeadTo schema undo.key state.versions.kept_at behind walking.left =
-      subst (λ (kept : ℕ → Option Kept). LeadTo schema undo.key kept behind walking.left) also walking.leads in
-      let less =
-      left_walks schema undo.key state.versions.kept_at keys most which pointer behind walked.left walking.left leads on
-      (omega (arith, walked.fewer, few)) (walks.1 tells walked.left walking.left leads on) in
-      subst (λ (w : ℕ). left_at keys most state.versions.kept_at (Walk w behind) < left_at keys most state.versions.kept_at (Walk which pointer))
-      (sym walks.0) less
-  walks_near stage next walks was now = absurd walks
+pub older_fewer : (versions : List Version) → length (older versions) ≤ length versions
+older_fewer [] = omega arith
+older_fewer (version ∷ versions) = omega arith
 
--- ---- how much is left
-
-left_same : (table : ℕ) (stage : Stage) (old new : WorldState) → new.schemas ≡ old.schemas → new.versions.kept_at ≡ old.versions.kept_at
+-- how much is left of a change that is taken back, while tables and kept versions are the same
+pub left_same : (table : ℕ) (stage : Stage) (old new : WorldState) → new.schemas ≡ old.schemas → new.versions.kept_at ≡ old.versions.kept_at
     → undo_left_in table stage new ≡ undo_left_in table stage old
 left_same table stage old new schemas kept =
     ap (λ (s : List Schema). left_at (keys_if (slice_get s table)) most_versions new.versions.kept_at stage) schemas
     ∙ ap (λ (k : ℕ → Option Kept). left_at (keys_if (slice_get old.schemas table)) most_versions k stage) kept
 
-module _ (s : ℕ) (old new : WorldState) (writer : Option ℕ) (desks : List Desk) (cuts : ℕ) (undo : UndoRoom) (room next : WorkRoom)
-    (held : IsHeld old writer desks cuts undo room) (busy : doing_at s desks ≡ Undoing) where
-  pub mine : writer ≡ Some s
-  mine = nothing_under_way s writer desks Undoing held.quiet busy refl
+pub last_beside : (s : ℕ) {old new : WorldState} {logged : Logged} {place : Place} → ChangesPairsAlone old new → IsLast old s logged place
+    → IsLast new s logged place
+last_beside s {old} {new} rest last =
+    last_left s (ap (λ (x : WorldState). x.schemas) rest) (ap (λ (x : WorldState). slice_get x.sessions s) rest) (own_beside s old new rest) last
 
-  pub going : IsGoingBack held.chains old s (read_into undo) room
-  going = rows_of_writer s writer held.chains old desks (read_into undo) room Undoing mine busy held.rows
+-- rows as who may write holds them
+pub rows_by_writer : (s : ℕ) {writer : Option ℕ} (chains : Chains) (state : WorldState) (desks : List Desk) (undo : Undo) (room : WorkRoom) {doing : Doing}
+    → writer ≡ Some s → doing_at s desks ≡ doing → RowsHeld chains state s undo room doing → RowsHeldBy writer chains state desks undo room
+rows_by_writer s chains state desks undo room mine is rows =
+    subst (λ (w : Option ℕ). RowsHeldBy w chains state desks undo room) (sym mine) (subst (RowsHeld chains state s undo room) (sym is) rows)
 
-  pub asks_for : IsInMemory old → ((chains : Chains) × (place : Place) × IsPuttingBack chains place (read_into undo) room old) × TellsTogether old
-  asks_for memory = ((held.chains, going.place, going.putting), λ told index. memory.told.pairs index)
+-- sessions, the history and all actors' places are as they were
+pub record LeavesAll (old new : WorldState) : Type 0 where
+  pub places : (index : ℕ) → (new.indexes index).place ≡ (old.indexes index).place
+  pub versions : Stays old.versions new.versions
+  pub rest : ChangesPairsAlone old new
 
-  pub answers : (answer : Move) → HasPutBack s (read_into undo) room next old new answer
-      → PutsBack held.chains going.place s (read_into undo) room next old new answer
-  answers answer put = put held.chains going.place going.putting
+module _ (s : ℕ) {old : WorldState} {writer : Option ℕ} {desks : List Desk} {cuts : ℕ} {undo : UndoRoom} {room : WorkRoom}
+    (held : IsHeld old writer desks cuts undo room) where
+  pub rows_mine : {doing : Doing} → writer ≡ Some s → doing_at s desks ≡ doing → RowsHeld held.chains old s (read_into undo) room doing
+  rows_mine mine is =
+      subst (RowsHeld held.chains old s (read_into undo) room) is
+      (subst (λ (w : Option ℕ). RowsHeldBy w held.chains old desks (read_into undo) room) mine held.rows)
 
-  -- in memory each step is made, where nobody else is awaited
-  pub goes_or_is_done : (answer : Move) → IsInMemory old → IsAwaitedAlone s old → HasPutBack s (read_into undo) room next old new answer
-      → (answer ≡ Done) ⊎ (answer ≡ Step)
-  goes_or_is_done answer memory alone put =
-      never_hindered s old new memory alone held.chains going.place (read_into undo) room next answer (answers answer put)
+  -- who has more than a search under way may write
+  pub busy_writes : {doing : Doing} → doing_at s desks ≡ doing → is_quiet_doing doing ≡ false → writer ≡ Some s
+  busy_writes is busy = go writer refl where
+    no : writer ≢ Some s → ⊥
+    no other = let still = sym (ap is_quiet_doing is) ∙ held.quiet s other in let e : true ≡ false = sym still ∙ busy in cc
 
-  pub rest_beside : (answer : Move) → HasPutBack s (read_into undo) room next old new answer → ChangesPairsAlone old new
-  rest_beside answer put = step_beside held.chains going.place s (read_into undo) room next old new answer (answers answer put)
+    go : (found : Option ℕ) → writer ≡ found → writer ≡ Some s
+    go None is_none = absurd (no (λ mine. let e : None ≡ Some s = sym is_none ∙ mine in cc))
+    go (Some w) is_some = ⊎_elim (λ same. is_some ∙ ap Some same) (λ differs. absurd (no (λ mine. differs (some_same w s (sym is_some ∙ mine))))) (cases_eq w s)
 
-  pub still_putting : (answer : Move) → HasPutBack s (read_into undo) room next old new answer → answer ≢ Done
-      → StaysPutting held.chains going.place s (read_into undo) room next old new
-  still_putting answer put not_done = stays_putting held.chains going.place s (read_into undo) room next old new answer not_done (answers answer put)
+  pub held_given : {new : WorldState} {now : List Desk} {other : UndoRoom} {next : WorkRoom} {doing : Doing} → writer ≡ Some s → LeavesAll old new → IsTold old
+      → IsTold new → GivesDoing s doing desks now → RowsHeld held.chains new s (read_into other) next doing → LogsAgree new
+      → SearchHeld held.chains new writer cuts s doing → IsWhole next → IsHeld new writer now cuts other next
+  held_given {new} {now} {other} {next} mine leaves told tells gives rows logs search whole =
+      held_beside s held leaves.rest leaves.versions told tells (λ t index differs. ap (λ (place : ℕ → Option _). place t) (leaves.places index)) now
+      gives.others gives.started gives.count (λ other. absurd (other mine)) (subst (SearchHeld held.chains new writer cuts s) (sym gives.here) search)
+      (rows_by_writer s held.chains new now (read_into other) next mine gives.here rows) logs whole
 
-  pub held_on : (answer : Move) → IsInMemory old → IsInMemory new → HasPutBack s (read_into undo) room next old new answer → answer ≢ Done
-      → IsHeld new writer desks cuts undo next
-  held_on answer memory later put not_done =
-      let stays = still_putting answer put not_done in
-      held_given held mine stays.leaves memory.told later.told (kept_on s Undoing desks busy)
-      (record {
-        logged = going.logged;
-        place = going.place;
-        last = last_beside s stays.leaves.rest going.last;
-        undo_is = going.undo_is;
-        putting = stays.putting;
-      })
-      (step_all held.chains going.place s (read_into undo) room next old new answer (answers answer put) not_done held.logs) (record {})
-      stays.putting.whole
+-- the newest record of a log is read at once
+pub read_at_once : (actor slot : ℕ) (read : Undo) (there : Bool) (old new : WorldState) (answer : Move) → IsInMemory old
+    → ReadsLast actor slot read there old new answer → answer ≡ Done
+read_at_once actor slot read there old new Done memory reads = refl
+read_at_once actor slot read there old new answer memory reads = absurd (not_delayed actor old new answer memory reads)
 
-  -- ---- less is left
+-- and taken away at once
+pub cut_at_once : (actor slot : ℕ) (old new : WorldState) (answer : Move) → IsInMemory old → CutsBack actor slot old new answer → answer ≡ Done
+cut_at_once actor slot old new Done memory cuts = refl
+cut_at_once actor slot old new answer memory cuts = absurd (not_delayed actor old new answer memory cuts)
 
-  schemas_same : ChangesPairsAlone old new → new.schemas ≡ old.schemas
-  schemas_same rest = ap (λ (x : WorldState). x.schemas) rest
+-- a step that was hindered doesn't answer that it went on
+module _ (actor : ℕ) (old new : WorldState) (memory : IsInMemory old) where
+  no_step : (index : ℕ) → Stops actor index old new Step → ⊥
+  no_step index stops = no_pages _ (old.indexes index).paged (new.indexes index).paged (memory.no_page_of_index index) stops.cause
 
-  before_few : length (versions_before held.chains going.place) ≤ most_versions
-  before_few = omega (arith, older_fewer (versions_at going.place held.chains), held.short going.place, held.agrees.lists.small)
+  not_stopped : (undo : Undo) (stage : Stage) → StopsAt actor undo stage old new Step → ⊥
+  not_stopped undo (Walk which pointer) stops = stops memory.told
+  not_stopped undo stage stops = no_step _ stops
 
-  pub same_left : (answer : Move) → IsInMemory new → HasPutBack s (read_into undo) room next old new answer → answer ≢ Done → answer ≢ Step
-      → undo_left_in undo.table next.stage new ≡ undo_left_in undo.table room.stage old
-  same_left answer later put not_done not_step =
-      let is = hindered_by held.chains going.place s (read_into undo) room next old new answer not_done not_step (answers answer put) in
-      ap (λ (stage : Stage). undo_left_in undo.table stage new) is.stage_is
-      ∙ left_same undo.table room.stage old new (schemas_same is.stays.rest) (is.stays.versions.kept later.told.versions)
+-- ---- how much is left of a change that is being taken back: steps first, and within a walk the versions
 
-  goes_nearer : IsInMemory old → IsInMemory new → LeavesAll old new → GoesOn held.chains going.place (read_into undo) room next old new
-      → undo_left_in undo.table next.stage new < undo_left_in undo.table room.stage old
-  goes_nearer memory later leaves goes =
-      let kept : new.versions.kept_at ≡ old.versions.kept_at = leaves.versions.kept later.told.versions in
-      let now = goes.holds in
-      let was = going.putting in
-      let found : slice_get old.schemas undo.table ≡ Some now.schema =
-      ap (λ (x : List Schema). slice_get x undo.table) (sym (schemas_same leaves.rest)) ∙ now.tells.there in
-      let one : was.schema ≡ now.schema = let there = was.tells.there in cc in
-      let keys_are : keys_if (slice_get new.schemas undo.table) ≡ length now.schema.keys = ap keys_if now.tells.there in
-      let holds =
-      subst (λ (x : Schema). StageHolds held.chains going.place (read_into undo) x (rows_of old) room.newest.items room.stage) one
-      (was.holds memory.told) in
-      let less : left_at (length now.schema.keys) most_versions new.versions.kept_at next.stage < left_at (length now.schema.keys) most_versions
-      new.versions.kept_at room.stage
-      = ⊎_elim
-      (λ fewer. left_nears (length now.schema.keys) most_versions new.versions.kept_at room.stage next.stage (omega arith) fewer)
-      (λ walks. walks_near held.chains going.place (read_into undo) now.schema new (rows_of old) (rows_of new) room.newest.items next.newest.items
-      (length now.schema.keys) most_versions before_few later.told (sym kept) refl room.stage next.stage walks holds (now.holds later.told))
-      (goes.nears now.schema now.tells.there) in
-      let less_now : undo_left_in undo.table next.stage new < undo_left_in undo.table room.stage new =
-      subst (λ (k : ℕ). left_at k most_versions new.versions.kept_at next.stage < left_at k most_versions new.versions.kept_at room.stage) (sym keys_are)
-      less in
-      subst (λ (n : ℕ). undo_left_in undo.table next.stage new < n) (left_same undo.table room.stage old new (schemas_same leaves.rest) kept) less_now
+left_least : (keys most : ℕ) (kept : ℕ → Option Kept) (stage : Stage) → steps_left keys stage * 2 ^ 64 ≤ left_at keys most kept stage
+left_least keys most kept Find = omega arith
+left_least keys most kept stage = omega arith
 
-  pub nearer : IsInMemory old → IsInMemory new → HasPutBack s (read_into undo) room next old new Step
-      → undo_left_in undo.table next.stage new < undo_left_in undo.table room.stage old
-  nearer memory later put =
-      ⊎_elim
-      (λ goes. goes_nearer memory later (still_putting Step put (λ e. cc)).leaves goes)
-      (λ is. absurd (not_stopped s old new memory (read_into undo) room.stage is.cause))
-      (answers Step put)
+left_most : (keys most : ℕ) (kept : ℕ → Option Kept) (stage : Stage) → most < 2 ^ 64 → left_at keys most kept stage < (steps_left keys stage + 1) * 2 ^ 64
+left_most keys most kept (Walk which pointer) few = let under = versions_most most kept pointer in omega (arith, under, few)
+left_most keys most kept stage few = omega arith
+
+left_nears : (keys most : ℕ) (kept : ℕ → Option Kept) (stage next : Stage) → most < 2 ^ 64 → steps_left keys next < steps_left keys stage
+    → left_at keys most kept next < left_at keys most kept stage
+left_nears keys most kept stage next few less = omega (arith, left_least keys most kept stage, left_most keys most kept next few, less)
+
+-- a walk with fewer versions before it
+left_walks : (schema : Schema) (key : List ℕ) (kept : ℕ → Option Kept) (keys most which pointer behind : ℕ) (versions others : List Version)
+    → LeadTo schema key kept pointer versions → LeadTo schema key kept behind others
+    → length versions ≤ most → length others < length versions → left_at keys most kept (Walk which behind) < left_at keys most kept (Walk which pointer)
+left_walks schema key kept keys most which pointer behind versions others leads behind_leads few fewer =
+    let first = versions_are schema key kept most pointer versions leads few in
+    let second = versions_are schema key kept most behind others behind_leads (omega (arith, few, fewer)) in
+    omega (arith, first, second, fewer)
+
+module _ (chains : Chains) (place : Place) (undo : Undo) (schema : Schema) (old new : WorldState) (bytes read : List ℕ) (keys most : ℕ)
+    (few : length (versions_before chains place) ≤ most) (tells : IsTold new) (same : new.versions.kept_at ≡ old.versions.kept_at) where
+  walks_near : (stage next : Stage) → WalksOn schema undo new stage next → StageHolds chains place undo schema (rows_of old) bytes stage → StageHolds chains
+      place undo schema (rows_of new) read next → left_at keys most new.versions.kept_at next < left_at keys most new.versions.kept_at stage
+  walks_near (Walk which pointer) (Walk other behind) walks was now =
+      let walked : HasWalked schema undo.key old.versions.kept_at which pointer was.0 (versions_before chains place) = was.3 in
+      let walking : HasWalked schema undo.key new.versions.kept_at other behind now.0 (versions_before chains place) = now.3 in
+      let leads : LeadTo schema undo.key new.versions.kept_at pointer walked.left =
+      subst (λ (kept : ℕ → Option Kept). LeadTo schema undo.key kept pointer walked.left) (sym same) walked.leads in
+      let less = left_walks schema undo.key new.versions.kept_at keys most which pointer behind walked.left walking.left leads walking.leads
+      (omega (arith, walked.fewer, few)) (walks.1 tells walked.left walking.left leads walking.leads) in
+      subst (λ (w : ℕ). left_at keys most new.versions.kept_at (Walk w behind) < left_at keys most new.versions.kept_at (Walk which pointer)) (sym walks.0) less
+  walks_near stage next walks was now = absurd walks
+
+-- the change is being taken back still
+record StaysPutting (chains : Chains) (place : Place) (undo : Undo) (next : WorkRoom) (old new : WorldState) : Type 0 where
+  pub leaves : LeavesAll old new
+  pub putting : IsPuttingBack chains place undo next new
+
+module _ (chains : Chains) (place : Place) (actor : ℕ) (undo : Undo) (room next : WorkRoom) (old new : WorldState) where
+  pub done_leaves : IsDone chains place undo room next old new → LeavesAll old new
+  done_leaves done =
+      ⊎_elim (λ stays. record { places = stays.places; versions = stays.versions; rest = stays.rest })
+      (λ puts. record { places = puts.places; versions = puts.versions; rest = puts.rest }) done.changes
+
+  -- a step that was hindered leaves its stage
+  hindered_by : (answer : Move) → answer ≢ Done → answer ≢ Step → PutsBack chains place actor undo room next old new answer
+      → IsHindered chains place actor undo room next old new answer
+  hindered_by Done not_done not_step is = absurd (not_done refl)
+  hindered_by Step not_done not_step is = absurd (not_step refl)
+  hindered_by why not_done not_step is = is
+
+  of_hindered : (why : Move) → IsHindered chains place actor undo room next old new why → StaysPutting chains place undo next old new
+  of_hindered why is = record { leaves = record { places = is.stays.places; versions = is.stays.versions; rest = is.stays.rest }; putting = is.holds }
+
+  stays_putting : (answer : Move) → answer ≢ Done → PutsBack chains place actor undo room next old new answer → StaysPutting chains place undo next old new
+  stays_putting Step not_done (inl goes) = record {
+    leaves =
+        ⊎_elim (λ stays. record { places = stays.places; versions = stays.versions; rest = stays.rest })
+        (λ one. record { places = one.4.places; versions = one.4.versions; rest = one.4.rest }) (goes.changes goes.holds.schema goes.holds.tells.there);
+    putting = goes.holds;
+  }
+  stays_putting Step not_done (inr is) = of_hindered Step is
+  stays_putting Done not_done is = absurd (not_done refl)
+  stays_putting why not_done is = of_hindered why is
+
+-- ---- the newest undo record of who may write
+
+writes_if : (s keep : ℕ) (past : List Event) (writer : Option ℕ) → WriterAgrees past writer → IsUndoable keep (own s past) → writer ≡ Some s
+writes_if s keep past None agrees may = absurd (subst (IsUndoable keep) (agrees s) may)
+writes_if s keep past (Some w) agrees may =
+    ⊎_elim (λ same. ap Some same) (λ differs. absurd (subst (IsUndoable keep) (agrees.1 s (λ same. differs (sym same))) may)) (cases_eq w s)
+
+last_of : (s : ℕ) (state : WorldState) (session : Session) (work : Work) (log : List Logged) (change : Change) (before : List Change) → HasWork s session work
+    state → work.log ≡ log → own s state.past ≡ change ∷ before → IsOfRow change → IsLogOf state log (change ∷ before) → HasLast s state
+last_of s state session work log (Create schema) before has log_is own_is of_row stands = absurd of_row
+last_of s state session work [] change before has log_is own_is of_row stands = absurd stands
+last_of s state session work (logged ∷ log) change before has log_is own_is of_row stands = (
+  logged,
+  stands.0.place,
+  record {
+    session = session;
+    work = work;
+    has_work = has;
+    log = log;
+    log_is = log_is;
+    change = change;
+    before = before;
+    own_is = own_is;
+    place_is = stands.0.place_is;
+  },
+)
+
+last_if : (s keep : ℕ) (state : WorldState) (session : Session) (work : Work) (changes : List Change) → HasWork s session work state
+    → own s state.past ≡ changes → IsUndoable keep changes → IsLogOf state work.log changes → HasLast s state
+last_if s keep state session work [] has own_is may stands = absurd may
+last_if s keep state session work (change ∷ before) has own_is may stands = last_of s state session work work.log change before has refl own_is may.0 stands
+
+-- the record that was read is that one
+read_there : (log : List Logged) (logged : Logged) (older : List Logged) (read : Undo) (there : Bool) → log ≡ logged ∷ older
+    → IsRead (newest log) read there → (there ≡ true) × (read ≡ logged.undo)
+read_there log logged older read there is reads =
+    let found : newest log ≡ Some logged.undo = ap newest is in
+    let some : there ≡ true = reads.0 ∙ ap is_some found in
+    let same : Some logged.undo ≡ Some read = sym found ∙ reads.1 some in
+    (some, cc)
+
+-- its change may be taken back then, whether the row's keys are as the change left them or lag
+module _ (chains : Chains) (state : WorldState) (s : ℕ) (room : WorkRoom) (read : Undo) (agree : LogsAgree state) (whole : IsWhole room)
+    (is_read : (logged : Logged) (place : Place) → IsLast state s logged place → read ≡ logged.undo) where
+  going_if : (logged : Logged) (place : Place) → IsLast state s logged place → IsPuttingBack chains place logged.undo room state
+      → IsGoingBack chains state s read room
+  going_if logged place last putting =
+      let is = is_read logged place last in
+      record {
+        logged = logged;
+        place = place;
+        last = last;
+        undo_is = is;
+        putting = subst (λ (u : Undo). IsPuttingBack chains place u room state) (sym is) putting;
+      }
+
+  begin_from : (undo : Undo) (doing : Doing) → IsReady doing → RowsHeld chains state s undo room doing → HasLast s state
+      → IsGoingBack chains state s read room × (room.stage ≡ Find)
+  begin_from undo Nothing is rows (logged, place, last) =
+      let log = last_log agree last in
+      let putting = begins_settled chains state logged last.log last.change last.before place room log last.place_is rows.0 whole rows.1 in
+      (going_if logged place last putting, rows.1)
+  begin_from undo Lagging is rows has =
+      let lag = rows.0 in
+      let last = lag.last in
+      let log = last_log agree last in
+      let tells = tells_of_it chains state lag.logged last.log last.change last.before lag.place room log last.place_is in
+      let putting = begins_lagging chains state lag.logged last.log last.change last.before lag.place room log last.place_is lag.change lag.changing
+      (sym lag.table_is ∙ tells.table_is) (sym lag.key_is) whole rows.1 in
+      (going_if lag.logged lag.place last putting, rows.1)
+  begin_from undo other is rows last = absurd is
+
+-- all of it is left, which is no more than this where there are four keys at most
+few_left : (keys most : ℕ) (kept : ℕ → Option Kept) (stage : Stage) → keys ≤ 4 → stage ≡ Find → left_at keys most kept stage < 2 ^ 70
+few_left keys most kept stage few anew = subst (λ (at : Stage). left_at keys most kept at < 2 ^ 70) (sym anew) (omega (arith, few))
+
+module _ (s : ℕ) {old : WorldState} {writer : Option ℕ} {desks : List Desk} {cuts : ℕ} {undo : UndoRoom} {room : WorkRoom}
+    (held : IsHeld old writer desks cuts undo room) where
+  -- ---- the record is read
+
+  pub has_joined : s < length desks → (s < length old.sessions) × (s < 68)
+  has_joined joined = (omega (arith, joined, held.count, held.agrees.count), omega (arith, joined, held.count, held.few))
+
+  module _ (keep : ℕ) (may : MayCome old.past (Undone s keep)) where
+    pub may_write : writer ≡ Some s
+    may_write = writes_if s keep old.past writer held.agrees.lists.writes may.1
+
+    pub has_last : HasLast s old
+    has_last =
+        let is = open_work held.agrees s may.0 in
+        last_if s keep old is.0 is.1 (own s old.past) is.2 refl may.1 (held.logs.each s is.0 is.1 is.2)
+
+    module _ (new : WorldState) (read : UndoRoom) (there : Bool) (reads : ReadsLast s s (read_into read) there old new Done) where
+      is_read : (logged : Logged) (place : Place) → IsLast old s logged place → (there ≡ true) × (read_into read ≡ logged.undo)
+      is_read logged place last = read_there last.work.log logged last.log (read_into read) there last.log_is (reads.0 last.session last.work last.has_work)
+
+      pub is_there : there ≡ true
+      is_there = (is_read has_last.0 has_last.1 has_last.2).0
+
+      module _ (joined : s < length desks) (ready : IsReady (doing_at s desks)) (memory : IsInMemory new) where
+        begin : IsGoingBack held.chains old s (read_into read) room × (room.stage ≡ Find)
+        begin =
+            begin_from held.chains old s room (read_into read) held.logs held.whole (λ logged place last. (is_read logged place last).1) (read_into undo)
+            (doing_at s desks) ready (rows_mine s held {doing = doing_at s desks} may_write refl) has_last
+
+        left_rows : LeavesRows old new
+        left_rows = record {
+          schemas = ap (λ (state : WorldState). state.schemas) reads.1.rest;
+          pairs = λ index. (reads.1.indexes index).pairs;
+          versions = reads.1.versions;
+        }
+
+        going_back : IsGoingBack held.chains new s (read_into read) room
+        going_back =
+            rows_left s left_rows (agrees_beside reads.1.rest held.agrees) (ap (λ (state : WorldState). slice_get state.sessions s) reads.1.rest)
+            (own_beside s old new reads.1.rest) (read_into read) room Undoing begin.0
+
+        pub held_begun : IsHeld new writer (with_doing s Undoing desks) cuts read room
+        held_begun =
+            held_given s held may_write (record { places = λ index. (reads.1.indexes index).place; versions = reads.1.versions; rest = reads.1.rest })
+            (leaves_told left_rows memory.told) memory.told (given s Undoing desks joined) going_back
+            (all_left old new (rows_leave old new left_rows) (logs_beside old new reads.1.rest) held.logs) (record {}) held.whole
+
+        pub few_begun : undo_left_in read.table room.stage new < 2 ^ 70
+        few_begun =
+            let tells = going_back.putting.tells in
+            let keys : keys_if (slice_get new.schemas read.table) ≤ 4 =
+            subst (λ (n : ℕ). n ≤ 4) (sym (ap keys_if tells.there)) (few_keys going_back.putting.schema tells.storable) in
+            few_left (keys_if (slice_get new.schemas read.table)) most_versions new.versions.kept_at room.stage keys begin.1
+
+  -- ---- it is being taken back
+
+  module _ (busy : doing_at s desks ≡ Undoing) where
+    pub mine : writer ≡ Some s
+    mine = busy_writes s held busy refl
+
+    pub going : IsGoingBack held.chains old s (read_into undo) room
+    going = rows_mine s held mine busy
+
+    pub asks_for : IsInMemory old → ((chains : Chains) × (place : Place) × IsPuttingBack chains place (read_into undo) room old) × TellsTogether old
+    asks_for memory = ((held.chains, going.place, going.putting), λ told index. memory.told.pairs index)
+
+    module _ (new : WorldState) (next : WorkRoom) (answer : Move) (put : HasPutBack s (read_into undo) room next old new answer) where
+      answers : PutsBack held.chains going.place s (read_into undo) room next old new answer
+      answers = put held.chains going.place going.putting
+
+      -- in memory each step is made, where nobody else is awaited
+      pub goes_or_is_done : IsInMemory old → IsAwaitedAlone s old → (answer ≡ Done) ⊎ (answer ≡ Step)
+      goes_or_is_done memory alone = never_hindered s old new memory alone held.chains going.place (read_into undo) room next answer answers
+
+      pub rest_beside : ChangesPairsAlone old new
+      rest_beside = step_beside held.chains going.place s (read_into undo) room next old new answer answers
+
+      module _ (not_done : answer ≢ Done) where
+        still_putting : StaysPutting held.chains going.place (read_into undo) next old new
+        still_putting = stays_putting held.chains going.place s (read_into undo) room next old new answer not_done answers
+
+        pub held_on : IsInMemory old → IsInMemory new → IsHeld new writer desks cuts undo next
+        held_on memory later =
+            let stays = still_putting in
+            held_given s held mine stays.leaves memory.told later.told (kept_on s Undoing desks busy) (record {
+              logged = going.logged;
+              place = going.place;
+              last = last_beside s stays.leaves.rest going.last;
+              undo_is = going.undo_is;
+              putting = stays.putting;
+            }) (step_all held.chains going.place s (read_into undo) room next old new answer answers not_done held.logs) (record {}) stays.putting.whole
+
+        pub same_left : answer ≢ Step → IsInMemory new → undo_left_in undo.table next.stage new ≡ undo_left_in undo.table room.stage old
+        same_left not_step later =
+            let is = hindered_by held.chains going.place s (read_into undo) room next old new answer not_done not_step answers in
+            ap (λ (stage : Stage). undo_left_in undo.table stage new) is.stage_is
+            ∙ left_same undo.table room.stage old new (ap (λ (x : WorldState). x.schemas) is.stays.rest) (is.stays.versions.kept later.told.versions)
+
+    module _ (new : WorldState) (next : WorkRoom) (put : HasPutBack s (read_into undo) room next old new Step) (memory : IsInMemory old)
+        (later : IsInMemory new) where
+      goes_nearer : GoesOn held.chains going.place (read_into undo) room next old new
+          → undo_left_in undo.table next.stage new < undo_left_in undo.table room.stage old
+      goes_nearer goes =
+          let leaves = (still_putting new next Step put (λ e. cc)).leaves in
+          let kept : new.versions.kept_at ≡ old.versions.kept_at = leaves.versions.kept later.told.versions in
+          let schemas : new.schemas ≡ old.schemas = ap (λ (x : WorldState). x.schemas) leaves.rest in
+          let now = goes.holds in
+          let was = going.putting in
+          let found : slice_get old.schemas undo.table ≡ Some now.schema = ap (λ (x : List Schema). slice_get x undo.table) (sym schemas) ∙ now.tells.there in
+          let one : was.schema ≡ now.schema = let there = was.tells.there in cc in
+          let few : length (versions_before held.chains going.place) ≤ most_versions
+          = omega (arith, older_fewer (versions_at going.place held.chains), held.short going.place, held.agrees.lists.small) in
+          let holds = subst (λ (x : Schema). StageHolds held.chains going.place (read_into undo) x (rows_of old) room.newest.items room.stage) one
+          (was.holds memory.told) in
+          let less : left_at (length now.schema.keys) most_versions new.versions.kept_at next.stage < left_at (length now.schema.keys) most_versions
+          new.versions.kept_at room.stage = ⊎_elim (λ fewer. left_nears (length now.schema.keys) most_versions new.versions.kept_at room.stage next.stage
+          (omega arith) fewer) (λ walks. walks_near held.chains going.place (read_into undo) now.schema old new room.newest.items next.newest.items
+          (length now.schema.keys) most_versions few later.told kept room.stage next.stage walks holds (now.holds later.told)) (goes.nears now.schema
+          now.tells.there) in
+          let less_now : undo_left_in undo.table next.stage new < undo_left_in undo.table room.stage new =
+          subst (λ (k : ℕ). left_at k most_versions new.versions.kept_at next.stage < left_at k most_versions new.versions.kept_at room.stage)
+          (sym (ap keys_if now.tells.there)) less in
+          subst (λ (n : ℕ). undo_left_in undo.table next.stage new < n) (left_same undo.table room.stage old new schemas kept) less_now
+
+      pub nearer : undo_left_in undo.table next.stage new < undo_left_in undo.table room.stage old
+      nearer = ⊎_elim goes_nearer (λ is. absurd (not_stopped s old new memory (read_into undo) room.stage is.cause)) (answers new next Step put)

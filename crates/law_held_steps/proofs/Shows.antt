@@ -1,14 +1,14 @@
 -- A held world shows its rows to each search that is under way. Where keys lag behind the newest change of a session, other
 -- readers by a view don't see that change, and are told of what they see.
-use Rattle.std.proofs.Common.{◌≡◌, ◌≢◌, inl, inr, ℕ, ◌<◌, Bool, true, false, cond, List, [], ◌∷◌, ◌++◌, Option, Some, refl, sym, ap, subst, ◌∙◌, arith, length}
-use Rattle.std.proofs.Common.{slice_get, ◌⊎◌, ⊎_elim, None}
-use Rattle.std.specs.Prelude.{is_some, option_map, ◌||◌, ◌≤◌}
-use Rattle.std.specs.List.{list_any}
+use Rattle.std.proofs.Common.{◌≡◌, ◌≢◌, inl, inr, ℕ, ◌<◌, Bool, true, false, cond, List, [], ◌∷◌, ◌++◌, Option, Some, refl, sym, ap, subst, ◌∙◌, arith}
+use Rattle.std.proofs.Common.{length, slice_get, ◌⊎◌, ⊎_elim, None}
 use Rattle.std.proofs.lemmas.Bool.{cases_lt, false≢true, cases_eq}
 use Rattle.std.proofs.lemmas.Bool.Decides.{nat_tests, eqb_tells}
+use Rattle.std.specs.Prelude.{is_some, option_map, ◌||◌, ◌≤◌}
+use Rattle.std.specs.List.{list_any}
 use Rattle.inno_db.specs.declared.change.Change.{Change}
 use Rattle.inno_model.specs.Past.{own, IsOpen}
-use Rattle.read_view.specs.Sight.{Sight as ReadSight, is_seen}
+use Rattle.read_view.specs.Sight.{is_seen}
 use Rattle.row_versions.specs.{declared.place.Place.Place, declared.version.Version.Version, Chains.Chains, Chains.versions_at, Chains.sees}
 use Rattle.row_versions.specs.{Chains.is_same_place}
 use Rattle.law_stored_rows.proofs.Values.{place_itself, same_place, one_key}
@@ -19,24 +19,23 @@ use Rattle.world.specs.{State.WorldState, State.Logged, Told.IsTold, Told.pairs_
 use Rattle.law_world_agreement.specs.Agreement.{sight_of, Agrees}
 use Rattle.law_world_agreement.proofs.Ending.{work_of}
 use Rattle.desks.specs.Holding.{IsLast, IsOwnView, IsLastOf, RowsHeld, RowsHeldBy, SightHolds}
+use Rattle.desks.specs.{declared.desk.Desk.Desk, declared.desk.Doing.Doing, Desks.doing_at, Desks.is_quiet_doing, Desks.is_quiet}
+use Rattle.desks.specs.declared.desk.Doing.TheVariants.{Nothing, Searching, Changing, Lagging, Undoing}
 use Rattle.inno_types.specs.{declared.value.Value.Value, declared.value.Column.Column, declared.value.Schema.Schema}
 use Rattle.key_codec.specs.Keys.{HasKey, key_code}
 use Rattle.law_stored_rows.specs.Tables.{Said, HasItsColumns, AreCodedAs, LagAt, in_table, what_is_there, AreCoded}
 use Rattle.row_changes.specs.{declared.keys_change.KeysChange.KeysChange, Keys.IsChangingKeys, declared.row_change.RowChange.TheVariants.Record}
 use Rattle.row_changes.specs.{declared.row_change.RowChange.TheVariants.Keys, Told.AreRowsAs}
-use Rattle.law_logged_changes.proofs.Readable.{lags}
+use Rattle.law_logged_changes.proofs.{Readable.lags, Lags.lags_while, Logs.newest_stands}
 use Rattle.undo_apply.specs.{Standing.TellsOf, declared.work_room.WorkRoom.WorkRoom}
-use Rattle.law_logged_changes.specs.Logs.{records_of, Stands, LogsAgree}
-use Rattle.row_search.specs.{declared.scan.Scan.Scan, Sights.sees_by, Tables.ShowsRows}
+use Rattle.law_logged_changes.specs.{Logs.records_of, Logs.Stands, Logs.LogsAgree, Lagging.LagsAt}
+use Rattle.row_search.specs.{declared.scan.Scan.Scan, Sights.sees_by, Tables.ShowsRows, declared.sight.Sight.Sight, declared.sight.Sight.TheVariants.View}
+use Rattle.row_search.specs.{declared.sight.Sight.TheVariants.Newest}
 use Rattle.law_held_steps.proofs.AnyStep.{some_same, last_log, quiet_rows}
 use Rattle.law_found_rows.proofs.Showing.{shows_coded, shows_lagging}
 use Rattle.store_api.specs.declared.answers.Undo.{Undo}
+use Rattle.read_view.specs.Sight.{Sight as ReadSight}
 use Rattle.law_logged_changes.specs.EntriesLag.{LagsAt as EntriesLagAt}
-use Rattle.law_logged_changes.specs.Lagging.{LagsAt}
-use Rattle.law_logged_changes.proofs.{Lags.lags_while, Logs.newest_stands}
-use Rattle.row_search.specs.{declared.sight.Sight.Sight, declared.sight.Sight.TheVariants.View, declared.sight.Sight.TheVariants.Newest}
-use Rattle.desks.specs.{declared.desk.Desk.Desk, declared.desk.Doing.Doing, Desks.doing_at, Desks.is_quiet_doing, Desks.is_quiet}
-use Rattle.desks.specs.declared.desk.Doing.TheVariants.{Nothing, Searching, Changing, Lagging, Undoing}
 use Rattle.inno_db.specs.declared.change.Change.TheVariants as changes
 
 -- ---- the newest version of a place that an open transaction has changed is its own, and no other reader sees it by a view
@@ -48,7 +47,7 @@ pub record IsWrittenBy (chains : Chains) (place : Place) (id : ℕ) : Type 0 whe
   pub versions : versions_at place chains ≡ version ∷ others
   pub writer_is : version.writer ≡ id
 
-module _ (chains : Chains) (writer : Option ℕ) (state : WorldState) (agrees : Agrees chains writer state) (w : ℕ) (logged : Logged) (place : Place)
+module _ {chains : Chains} {writer : Option ℕ} {state : WorldState} (agrees : Agrees chains writer state) {w : ℕ} {logged : Logged} {place : Place}
     (last : IsLast state w logged place) where
   abbrev at : Change → Bool
   at = is_at state.schemas place
@@ -71,10 +70,9 @@ module _ (chains : Chains) (writer : Option ℕ) (state : WorldState) (agrees : 
         version = record { writer = id_of state.past w; row = row_of last.change };
         others = versions_of (id_of state.past w) at last.before ++ parts.0;
         versions =
-            parts.1
-            ∙ (ap (λ changes. versions_of (id_of state.past w) at changes ++ parts.0) last.own_is
-            ∙ ap (λ b. cond b (record { writer = id_of state.past w; row = row_of last.change } ∷ versions_of (id_of state.past w) at last.before)
-            (versions_of (id_of state.past w) at last.before) ++ parts.0) change_at);
+            parts.1 ∙ (ap (λ changes. versions_of (id_of state.past w) at changes ++ parts.0) last.own_is ∙ ap (λ b. cond b
+            (record { writer = id_of state.past w; row = row_of last.change } ∷ versions_of (id_of state.past w) at last.before) (versions_of (id_of state.past
+            w) at last.before) ++ parts.0) change_at);
         writer_is = refl;
       }
 
@@ -91,15 +89,14 @@ module _ (chains : Chains) (writer : Option ℕ) (state : WorldState) (agrees : 
   is_open = ap is_some (work_of chains writer state w last.session last.work agrees last.has_work).level_is
 
   -- by a view of another session
-  pub unseen_by : (s : ℕ) (view : ReadSight) (reader : ℕ) → s ≢ w → IsOwnView state s view reader → sees reader view (id_of state.past w) ≡ false
-  unseen_by s view reader differs is =
+  pub unseen_by : {s : ℕ} {view : ReadSight} {reader : ℕ} → s ≢ w → IsOwnView state s view reader → sees reader view (id_of state.past w) ≡ false
+  unseen_by {s} {view} {reader} differs is =
       let mine = work_of chains writer state s is.session is.work agrees is.has_work in
       let open_s : IsOpen s state.past = ap is_some mine.level_is in
       let reader_is : id_of state.past s ≡ reader = mine.id_is ∙ sym is.reader_is in
       let apart : id_of state.past w ≢ id_of state.past s = λ same. differs (sym (ids.distinct w s is_open open_s has_id same)) in
       let agreed : ViewAgrees state.past s (Some (sight_of is.seen)) = subst (λ o. ViewAgrees state.past s (option_map sight_of o)) is.view_is mine.view_is in
-      let unseen : is_seen view (id_of state.past w) ≡ false
-      = ap (λ (v : ReadSight). is_seen v (id_of state.past w)) is.same
+      let unseen : is_seen view (id_of state.past w) ≡ false = ap (λ (v : ReadSight). is_seen v (id_of state.past w)) is.same
       ∙ (agreed.1.alike (id_of state.past w) (inr (w, is_open, refl, has_id)) apart ∙ ids.open_not_among w agreed.0 is_open) in
       tells reader_is apart unseen
     where
@@ -107,9 +104,7 @@ module _ (chains : Chains) (writer : Option ℕ) (state : WorldState) (agrees : 
           → sees reader view (id_of state.past w) ≡ false
       tells reader_is apart unseen = grind (arith, nat_tests, reader_is, apart, unseen)
 
--- ---- the place of a change that is logged
-
-module _ (state : WorldState) (logs : LogsAgree state) (w : ℕ) (logged : Logged) (place : Place) (last : IsLast state w logged place) where
+module _ {state : WorldState} (logs : LogsAgree state) {w : ℕ} {logged : Logged} {place : Place} (last : IsLast state w logged place) where
   last_stands : Stands (IsTold state) state.schemas (records_of state) state.versions.kept_at logged last.log last.change
   last_stands =
       (newest_stands (IsTold state) state.schemas (records_of state) state.versions.kept_at logged last.log last.change last.before place last.place_is
@@ -121,17 +116,16 @@ module _ (state : WorldState) (logs : LogsAgree state) (w : ℕ) (logged : Logge
       last_stands.tells
 
   -- the place at which keys are changed
-  pub keys_place : (chains : Chains) (change : KeysChange) (p : IsChangingKeys chains state change) → place.table ≡ change.table
+  pub keys_place : {chains : Chains} {change : KeysChange} (p : IsChangingKeys chains state change) → place.table ≡ change.table
       → logged.undo.key ≡ change.key → place ≡ record { table = change.table; key = p.value }
-  keys_place chains change p table_is key_is =
+  keys_place {change} p table_is key_is =
       let tells = last_tells in
       let one_table : logged.undo.table ≡ change.table = sym tells.table_is ∙ table_is in
       let same_schema : last_stands.schema ≡ p.schema =
       some_same last_stands.schema p.schema (sym tells.there ∙ (ap (slice_get state.schemas) one_table ∙ p.table.there)) in
       let same_column : tells.primary ≡ p.at.column
-      =
-      some_same tells.primary p.at.column (sym tells.primary_is ∙
-      (ap (λ (schema : Schema). slice_get schema.columns schema.primary) same_schema ∙ p.at.primary)) in
+      = some_same tells.primary p.at.column (sym tells.primary_is ∙ (ap (λ (schema : Schema). slice_get schema.columns schema.primary) same_schema
+      ∙ p.at.primary)) in
       let spelled : key_code p.at.column.kind place.key ≡ key_code p.at.column.kind p.value
       = ap (λ (column : Column). key_code column.kind place.key) (sym same_column) ∙ (sym tells.key_is ∙ (key_is ∙ p.at.spelled)) in
       let key : place.key ≡ p.value
@@ -140,7 +134,7 @@ module _ (state : WorldState) (logs : LogsAgree state) (w : ℕ) (logged : Logge
 
 -- ---- what is shown while keys lag
 
-module _ (schema : Schema) (scan : Scan) (state : WorldState) (chains : Chains) (said : Said) (told : IsTold state)
+module _ {schema : Schema} (scan : Scan) {state : WorldState} {chains : Chains} {said : Said} (told : IsTold state)
     (there : slice_get state.schemas scan.table ≡ Some schema) (columns : HasItsColumns schema) (le : scan.which ≤ length schema.keys)
     (coded : AreCodedAs state.schemas (pairs_of state) state.versions.kept_at chains said) where
   -- at two places at most, and not at the same: then nowhere
@@ -152,10 +146,9 @@ module _ (schema : Schema) (scan : Scan) (state : WorldState) (chains : Chains) 
       go false differs = elsewhere table which value differs
       go true same = here table which value (ap (is_same_place place) (sym (same_place other (record { table = table; key = value }) same)) ∙ apart)
 
-  shows_at : (place : Place) (version : Version) (others : List Version) → LagAt place chains said → versions_at place chains ≡ version ∷ others
-      → sees_by scan.sight version.writer ≡ false → EntriesLagAt chains said
-      → ShowsRows schema scan state (in_table scan.table chains)
-  shows_at place version others lag versions unseen known = go (is_same_place place known.place) refl where
+  shows_at : (place : Place) {version : Version} {others : List Version} → LagAt place chains said → versions_at place chains ≡ version ∷ others → sees_by
+      scan.sight version.writer ≡ false → EntriesLagAt chains said → ShowsRows schema scan state (in_table scan.table chains)
+  shows_at place {version} {others} lag versions unseen known = go (is_same_place place known.place) refl where
     go : (b : Bool) → is_same_place place known.place ≡ b → ShowsRows schema scan state (in_table scan.table chains)
     go true same =
         let at : place ≡ known.place = same_place place known.place same in
@@ -165,22 +158,19 @@ module _ (schema : Schema) (scan : Scan) (state : WorldState) (chains : Chains) 
         shows_coded schema scan state chains told there columns le
         (subst (AreCodedAs state.schemas (pairs_of state) state.versions.kept_at chains) (nowhere place known.place lag known.lag apart) coded)
 
-pub shows_changing : (schema : Schema) (scan : Scan) (state : WorldState) (chains : Chains) (change : KeysChange) (p : IsChangingKeys chains state change)
+pub shows_changing : {schema : Schema} (scan : Scan) {state : WorldState} {chains : Chains} {change : KeysChange} (p : IsChangingKeys chains state change)
     → IsTold state → slice_get state.schemas scan.table ≡ Some schema → HasItsColumns schema → scan.which ≤ length schema.keys
     → sees_by scan.sight p.pushed.version.writer ≡ false → ShowsRows schema scan state (in_table scan.table chains)
-shows_changing schema scan state chains change p told there columns le unseen =
+shows_changing scan {chains} {change} p told there columns le unseen =
     let rows = p.rows told in
-    shows_at schema scan state chains rows.0 told there columns le rows.1 (record { table = change.table; key = p.value }) p.pushed.version p.older
-    rows.2.lag p.pushed.versions unseen
+    shows_at scan told there columns le rows.1 (record { table = change.table; key = p.value }) rows.2.lag p.pushed.versions unseen
     (lags chains (record { table = change.table; key = p.value }) change.which change.put change.before p.older rows.0 p.pushed.version p.pushed.versions
     rows.2)
-
--- ---- the rows are there throughout
 
 abbrev pub HasSome : Chains → WorldState → Type 0
 HasSome chains state = (said : Said) × AreRowsAs chains said state
 
-module _ (chains : Chains) (state : WorldState) (told : IsTold state) where
+module _ (chains : Chains) {state : WorldState} (told : IsTold state) where
   going_rows : (place : Place) → LagsAt place chains state ⊎ AreCoded state.schemas (pairs_of state) state.versions.kept_at chains → HasSome chains state
   going_rows place (inl lags) = (lags.said, lags.coded)
   going_rows place (inr coded) = (what_is_there chains, coded)
@@ -204,9 +194,9 @@ module _ (chains : Chains) (state : WorldState) (told : IsTold state) where
   coded_while_quiet (Some w) desks undo room is rows = (quiet_rows chains state w undo room (doing_at w desks) is rows).0 told
 
 -- a table whose rows are coded has its columns
-pub columns_of : (chains : Chains) (said : Said) (state : WorldState) (table : ℕ) (schema : Schema) → AreRowsAs chains said state
+pub columns_of : (chains : Chains) (said : Said) (state : WorldState) (table : ℕ) {schema : Schema} → AreRowsAs chains said state
     → slice_get state.schemas table ≡ Some schema → HasItsColumns schema
-columns_of chains said state table schema coded there =
+columns_of chains said state table {schema} coded there =
     let clustered = coded.clustered.tables table schema there in
     record {
       primary = clustered.primary;
@@ -217,34 +207,30 @@ columns_of chains said state table schema coded there =
 
 -- ---- a search of another session
 
-module _ (chains : Chains) (writer : Option ℕ) (state : WorldState) (agrees : Agrees chains writer state) (logs : LogsAgree state) (told : IsTold state)
-    (w s : ℕ) (writes : writer ≡ Some w) (differs : s ≢ w) (schema : Schema) (scan : Scan) (there : slice_get state.schemas scan.table ≡ Some schema)
+module _ {chains : Chains} {writer : Option ℕ} {state : WorldState} (agrees : Agrees chains writer state) (logs : LogsAgree state) (told : IsTold state)
+    {w : ℕ} (s : ℕ) (writes : writer ≡ Some w) (differs : s ≢ w) {schema : Schema} (scan : Scan) (there : slice_get state.schemas scan.table ≡ Some schema)
     (columns : HasItsColumns schema) (le : scan.which ≤ length schema.keys) where
   -- who reads the newest rows may write, and so is no other
   unseen : (sight : Sight) → SightHolds state writer s sight → (logged : Logged) (place : Place) → IsLast state w logged place
       → sees_by sight (id_of state.past w) ≡ false
-  unseen (View view reader) holds logged place last = unseen_by chains writer state agrees w logged place last s view reader differs holds
+  unseen (View view reader) holds logged place last = unseen_by agrees last differs holds
   unseen Newest holds logged place last = absurd (differs (some_same s w (sym holds ∙ writes)))
 
-  shows_keys : (change : KeysChange) (p : IsChangingKeys chains state change) → SightHolds state writer s scan.sight → IsLastOf state w change
+  shows_keys : {change : KeysChange} (p : IsChangingKeys chains state change) → SightHolds state writer s scan.sight → IsLastOf state w change
       → ShowsRows schema scan state (in_table scan.table chains)
-  shows_keys change p holds own =
-      let by : IsWrittenBy chains own.place (id_of state.past w) = written chains writer state agrees w own.logged own.place own.last in
-      let at : own.place ≡ record { table = change.table; key = p.value } = keys_place state logs w own.logged own.place own.last chains change p
-      own.table_is own.key_is in
-      let one : p.pushed.version ≡ by.version =
-      (let same : p.pushed.version ∷ p.older ≡ by.version ∷ by.others =
+  shows_keys {change} p holds own =
+      let by : IsWrittenBy chains own.place (id_of state.past w) = written agrees own.last in
+      let at : own.place ≡ record { table = change.table; key = p.value } = keys_place logs own.last p own.table_is own.key_is in
+      let one : p.pushed.version ≡ by.version = (let same : p.pushed.version ∷ p.older ≡ by.version ∷ by.others =
       sym p.pushed.versions ∙ (ap (λ (place : Place). versions_at place chains) (sym at) ∙ by.versions) in cc) in
-      shows_changing schema scan state chains change p told there columns le
-      (ap (λ (version : Version). sees_by scan.sight version.writer) one ∙
-      (ap (sees_by scan.sight) by.writer_is ∙ unseen scan.sight holds own.logged own.place own.last))
+      shows_changing scan p told there columns le (ap (λ (version : Version). sees_by scan.sight version.writer) one ∙ (ap (sees_by scan.sight) by.writer_is
+      ∙ unseen scan.sight holds own.logged own.place own.last))
 
-  shows_back : (logged : Logged) (place : Place) → IsLast state w logged place → SightHolds state writer s scan.sight
-      → LagsAt place chains state ⊎ AreCoded state.schemas (pairs_of state) state.versions.kept_at chains
-      → ShowsRows schema scan state (in_table scan.table chains)
-  shows_back logged place last holds (inr coded) = shows_coded schema scan state chains told there columns le coded
-  shows_back logged place last holds (inl lags) =
-      let by : IsWrittenBy chains place (id_of state.past w) = written chains writer state agrees w logged place last in
+  shows_back : {logged : Logged} {place : Place} → IsLast state w logged place → SightHolds state writer s scan.sight → LagsAt place chains state ⊎ AreCoded
+      state.schemas (pairs_of state) state.versions.kept_at chains → ShowsRows schema scan state (in_table scan.table chains)
+  shows_back {logged} {place} last holds (inr coded) = shows_coded schema scan state chains told there columns le coded
+  shows_back {logged} {place} last holds (inl lags) =
+      let by : IsWrittenBy chains place (id_of state.past w) = written agrees last in
       shows_lagging state chains lags.said told lags.coded schema scan there columns le place by.version by.others lags.lag lags.older by.versions
       (ap (sees_by scan.sight) by.writer_is ∙ unseen scan.sight holds logged place last)
 
@@ -253,27 +239,22 @@ module _ (chains : Chains) (writer : Option ℕ) (state : WorldState) (agrees : 
   shows_other undo room Nothing holds rows = shows_coded schema scan state chains told there columns le (rows.0 told)
   shows_other undo room (Searching on) holds rows = shows_coded schema scan state chains told there columns le (rows.0 told)
   shows_other undo room (Changing (Record change key after)) holds rows = shows_coded schema scan state chains told there columns le (rows.0.1 told)
-  shows_other undo room (Changing (Keys change)) holds rows = shows_keys change rows.0 holds rows.2
+  shows_other undo room (Changing (Keys change)) holds rows = shows_keys rows.0 holds rows.2
   shows_other undo room Lagging holds rows =
-      shows_keys rows.0.change rows.0.changing holds
+      shows_keys rows.0.changing holds
       (record { logged = rows.0.logged; place = rows.0.place; last = rows.0.last; table_is = rows.0.table_is; key_is = rows.0.key_is })
-  shows_other undo room Undoing holds rows = shows_back rows.logged rows.place rows.last holds (lags_while chains rows.place undo room state rows.putting told)
+  shows_other undo room Undoing holds rows = shows_back rows.last holds (lags_while chains rows.place undo room state rows.putting told)
 
--- ---- whoever searches
-
-module _ (chains : Chains) (state : WorldState) (logs : LogsAgree state) (told : IsTold state) (s : ℕ) (desks : List Desk)
-    (searching : is_quiet_doing (doing_at s desks) ≡ true) (schema : Schema) (scan : Scan) (there : slice_get state.schemas scan.table ≡ Some schema)
+module _ {chains : Chains} {state : WorldState} (logs : LogsAgree state) (told : IsTold state) (s : ℕ) (desks : List Desk)
+    (searching : is_quiet_doing (doing_at s desks) ≡ true) {schema : Schema} (scan : Scan) (there : slice_get state.schemas scan.table ≡ Some schema)
     (le : scan.which ≤ length schema.keys) where
-  pub shows_held : (writer : Option ℕ) (undo : Undo) (room : WorkRoom) → Agrees chains writer state → SightHolds state writer s scan.sight
-      → RowsHeldBy writer chains state desks undo room
-      → ShowsRows schema scan state (in_table scan.table chains)
+  pub shows_held : (writer : Option ℕ) (undo : Undo) (room : WorkRoom) → Agrees chains writer state → SightHolds state writer s scan.sight → RowsHeldBy writer
+      chains state desks undo room → ShowsRows schema scan state (in_table scan.table chains)
   shows_held None undo room agrees holds rows =
-      shows_coded schema scan state chains told there (columns_of chains (what_is_there chains) state scan.table schema (rows.0 told) there) le (rows.0 told)
+      shows_coded schema scan state chains told there (columns_of chains (what_is_there chains) state scan.table (rows.0 told) there) le (rows.0 told)
   shows_held (Some w) undo room agrees holds rows =
-      let some : HasSome chains state = some_rows_by chains state told (Some w) desks undo room rows in
-      let columns = columns_of chains some.0 state scan.table schema some.1 there in
-      ⊎_elim
-      (λ same. shows_coded schema scan state chains told there columns le
-      ((quiet_rows chains state w undo room (doing_at w desks) (ap (λ (n : ℕ). is_quiet_doing (doing_at n desks)) (sym same) ∙ searching) rows).0 told))
-      (λ differs. shows_other chains (Some w) state agrees logs told w s refl differs schema scan there columns le undo room (doing_at w desks) holds rows)
-      (cases_eq s w)
+      let some : HasSome chains state = some_rows_by chains told (Some w) desks undo room rows in
+      let columns = columns_of chains some.0 state scan.table some.1 there in
+      ⊎_elim (λ same. shows_coded schema scan state chains told there columns le ((quiet_rows chains state w undo room (doing_at w desks)
+      (ap (λ (n : ℕ). is_quiet_doing (doing_at n desks)) (sym same) ∙ searching) rows).0 told)) (λ differs. shows_other agrees logs told s refl differs scan
+      there columns le undo room (doing_at w desks) holds rows) (cases_eq s w)

@@ -1,37 +1,142 @@
--- A search that is under way goes on, ends or is given up.
-use Rattle.std.proofs.Common.{◌≡◌, ◌≢◌, inl, inr, ℕ, ◌<◌, ◌≤◌, Bool, true, false, List, length, map, Option, Some, refl, sym, ap, subst, ◌∙◌, slice_get}
-use Rattle.std.proofs.Common.{arith, eq-eqb}
-use Rattle.std.specs.Prelude.{◌==◌, ◌-◌, filter}
+-- A search that begins, with the view by which it reads; one that is under way goes on, ends or is given up.
+use Rattle.std.proofs.Common.{◌≡◌, ◌≢◌, ℕ, ◌<◌, Bool, true, List, Option, Some, None, refl, sym, ap, subst, ◌∙◌, length, slice_get, arith, eq-eqb, inl, inr}
+use Rattle.std.proofs.Common.{◌≤◌, false, map}
+use Rattle.std.specs.Prelude.{is_some, option_map, ◌==◌, ◌-◌, filter}
 use Rattle.inno_types.specs.{declared.value.Schema.Schema, Order.IsBelow}
-use Rattle.inno_db.specs.Database.{rows_of}
-use Rattle.inno_model.specs.Past.{commits, changed}
-use Rattle.store_api.specs.declared.moves.Move.{Move}
-use Rattle.entries.specs.Calls.{Leaves}
-use Rattle.read_view.specs.Sight.{Sight as ReadSight}
-use Rattle.row_versions.specs.{declared.place.Place.Place, Chains.Chains, Chains.versions_at}
-use Rattle.law_stored_rows.specs.Tables.{in_table}
-use Rattle.law_past_agreement.specs.{Rows.seen, DatabaseTables.with_all_tables}
-use Rattle.world.specs.{State.WorldState, State.index_of, Told.IsTold, Told.pairs_of, Indexes.Calls, Undoing.read_into, declared.undo_room.UndoRoom.UndoRoom}
-use Rattle.law_world_agreement.specs.Agreement.{Agrees}
-use Rattle.law_logged_changes.proofs.ReadersLeft.{rows_left}
+use Rattle.inno_model.specs.Past.{view_of, IsOpen, commits, changed}
+use Rattle.sql_plan.specs.declared.choice.Plan.{Plan}
+use Rattle.row_versions.specs.{Chains.Chains, Chains.versions_at, declared.place.Place.Place}
+use Rattle.law_stored_rows.specs.Tables.{HasItsColumns, in_table}
+use Rattle.law_past_agreement.specs.{Agreement.ViewAgrees, Rows.seen, DatabaseTables.with_all_tables}
+use Rattle.world.specs.State.{WorldState, Session, Work, Seen, HasWork, id_of, standing_of, index_of}
+use Rattle.world.specs.{Sessions.IsShown, Told.IsTold, Told.pairs_of, Undoing.read_into, declared.undo_room.UndoRoom.UndoRoom, Indexes.Calls}
+use Rattle.law_world_agreement.specs.Agreement.{sight_of, Agrees}
 use Rattle.undo_apply.specs.declared.work_room.WorkRoom.{WorkRoom}
-use Rattle.row_search.specs.{declared.found.FoundRow.FoundRow, declared.scan.Scan.Scan, declared.search.RowSearch.RowSearch, declared.sight.Sight.Sight}
+use Rattle.row_search.specs.{declared.sight.Sight.Sight, declared.scan.Scan.Scan, declared.search.RowSearch.RowSearch, Searches.BeginsWithNothing}
+use Rattle.row_search.specs.{Searches.MayBegin, Searches.IsSearching, Searches.place_in, declared.found.FoundRow.FoundRow}
 use Rattle.row_search.specs.{declared.sight.Sight.TheVariants.View, declared.sight.Sight.TheVariants.Newest, FoundRows.AreFound, FoundRows.RiseByKey}
-use Rattle.row_search.specs.{Ranges.lies_in, Searches.IsSearching, Searches.place_in, Sights.rows_seen, Steps.IsSameScan, Steps.GoesOn, Steps.Waits}
-use Rattle.row_search.specs.{Steps.Ends, Tables.most_versions, Tables.ShowsRows}
+use Rattle.row_search.specs.{Ranges.lies_in, Sights.rows_seen, Steps.IsSameScan, Steps.GoesOn, Steps.Waits, Steps.Ends, Tables.most_versions}
+use Rattle.row_search.specs.{Tables.ShowsRows}
 use Rattle.law_found_rows.specs.Finding.{IsFinding, IsFindingAnew}
-use Rattle.law_found_rows.proofs.{Finding.may_come_anew, Finding.goes_on, Showing.holds_table, Databases.found_by_view, Databases.found_newest}
-use Rattle.shared_lists.specs.{State.counted, Steps.AreRowsSeen, Steps.AreFoundBy, Steps.rows_in_range}
+use Rattle.law_found_rows.proofs.{Finding.begins, Finding.may_come_anew, Finding.goes_on, Showing.holds_table, Databases.found_by_view}
+use Rattle.law_found_rows.proofs.{Databases.found_newest}
 use Rattle.desks.specs.{declared.desk.Desk.Desk, declared.desk.Doing.TheVariants.Nothing, declared.desk.Doing.TheVariants.Searching}
 use Rattle.desks.specs.{declared.desk.TableSearch.TableSearch, Desks.doing_at, Desks.with_doing, Desks.is_quiet_doing, Searching.keys_left}
 use Rattle.desks.specs.{Searching.places_in, Shown.reading_of}
-use Rattle.desks.specs.Holding.{SightHolds, FindsSince, IsSearchHeld, SearchHeld, IsHeld}
-use Rattle.law_held_steps.specs.{Moving.MovesPlaces, TakenUp.IsTakenUp, TakenUp.MayStep, TakenUp.plan_of}
-use Rattle.law_held_steps.proofs.{AnyStep.some_same, Beside.alone_if, Staying.held_stays, Shows.HasSome, Shows.some_rows_by, Shows.shows_held}
-use Rattle.law_held_steps.proofs.Places.{moves_then, moves_in_one, moves_nothing, leaving_moves, moves_leave, moves_told}
+use Rattle.desks.specs.Holding.{SightHolds, FindsSince, IsSearchHeld, IsOwnView, IsHeld, SearchHeld}
+use Rattle.law_held_steps.specs.{Begun.IsNewSearch, Begun.IsBegun, Begun.HasView, Begun.ViewsHaveNext, Moving.MovesPlaces, TakenUp.IsTakenUp, TakenUp.MayStep}
+use Rattle.law_held_steps.specs.{TakenUp.plan_of}
+use Rattle.law_held_steps.proofs.Places.{none_moves, held_stays, moves_then, moves_in_one, moves_nothing, leaving_moves, moves_leave, moves_told}
+use Rattle.law_held_steps.proofs.{Shows.HasSome, Shows.some_rows_by, Shows.columns_of, Shows.shows_held, Keeping.open_work, AnyStep.some_same}
+use Rattle.law_held_steps.proofs.{Putting.alone_if}
 use Rattle.law_held_steps.proofs.Nearing.{IsLess, keys_before, visit_before, keys_anew, steps_nearer, still_nearer, anew_nearer}
+use Rattle.law_world_agreement.proofs.Ending.{work_of}
+use Rattle.inno_db.specs.Database.{rows_of}
+use Rattle.store_api.specs.declared.moves.Move.{Move}
+use Rattle.entries.specs.Calls.{Leaves}
+use Rattle.law_logged_changes.proofs.ReadersLeft.{rows_left}
+use Rattle.shared_lists.specs.{State.counted, Steps.AreRowsSeen, Steps.AreFoundBy, Steps.rows_in_range}
+use Rattle.read_view.specs.Sight.{Sight as ReadSight}
 
--- ---- the search that is stepped
+pub columns_held : {state : WorldState} {writer : Option ℕ} {desks : List Desk} {cuts : ℕ} {undo : UndoRoom} {room : WorkRoom} (table : ℕ) {schema : Schema}
+    → IsHeld state writer desks cuts undo room → IsTold state → slice_get state.schemas table ≡ Some schema → HasItsColumns schema
+columns_held {state} {writer} {desks} {undo} {room} table held told there =
+    let rows : HasSome held.chains state = some_rows_by held.chains told writer desks (read_into undo) room held.rows in
+    columns_of held.chains rows.0 state table rows.1 there
+
+pub new_search : (table : ℕ) (plan : Plan) (sight : Sight) (search : RowSearch) → search.scan ≡ record {
+  table = table;
+  which = plan.which;
+  range = plan.range;
+  sight = sight;
+  rows = search.scan.rows;
+  pair = search.scan.pair;
+  primary = search.scan.primary;
+}
+    → BeginsWithNothing search
+    → MayBegin search
+    → IsNewSearch table plan sight search
+new_search table plan sight search is nothing may = record {
+  scan = record {
+    table_is = ap (λ (scan : Scan). scan.table) is;
+    which_is = ap (λ (scan : Scan). scan.which) is;
+    range_is = ap (λ (scan : Scan). scan.range) is;
+    sight_is = ap (λ (scan : Scan). scan.sight) is;
+  };
+  nothing = nothing;
+  may = may;
+}
+
+-- the index is one of its table's, wherever the search begins
+pub new_finding : {s table : ℕ} {plan : Plan} {sight : Sight} {schema : Schema} {state : WorldState} {chains : Chains} {search : RowSearch}
+    → IsNewSearch table plan sight search
+    → slice_get state.schemas table ≡ Some schema → HasItsColumns schema → plan.which ≤ length schema.keys → IsFinding s schema state chains search
+new_finding {s} {schema} {state} {chains} {search} new there columns le =
+    begins s schema state chains search new.nothing new.may (ap (slice_get state.schemas) new.scan.table_is ∙ there)
+    (omega (arith, le, new.scan.which_is)) (omega (arith, le, new.scan.which_is, columns.few))
+
+pub begun : (s : ℕ) {table : ℕ} {state : WorldState} {writer : Option ℕ} {desks : List Desk} {cuts : ℕ} {undo : UndoRoom} {room : WorkRoom} {plan : Plan}
+    {sight : Sight} {schema : Schema} {on : TableSearch} → IsHeld state writer desks cuts undo room → IsTold state → doing_at s desks ≡ Nothing → slice_get
+    state.schemas table ≡ Some schema → plan.which ≤ length schema.keys → SightHolds state writer s sight → IsBegun table plan sight schema cuts on → IsHeld
+    state writer (with_doing s (Searching on) desks) cuts undo room
+begun s {table} {state} {writer} {cuts} {sight} {on} held told idle there le sees is =
+    held_stays (none_moves) held (Searching on) (ap is_quiet_doing idle) refl told mine
+  where
+    finding : IsFinding s on.schema state held.chains on.search
+    finding =
+        subst (λ (t : Schema). IsFinding s t state held.chains on.search) (sym is.schema_is) (new_finding is.search there (columns_held table held told there)
+        le)
+
+    mine : IsSearchHeld held.chains state writer cuts s on
+    mine = record {
+      there = finding.searching.there;
+      which = finding.searching.key;
+      since = omega (arith, is.cuts_is);
+      finds = subst (λ (b : Bool). FindsSince b s state held.chains on) (sym (eq-eqb on.cuts cuts is.cuts_is)) finding;
+      sight = subst (SightHolds state writer s) (sym is.search.scan.sight_is) sees;
+    }
+
+-- ---- the view of a transaction
+
+module _ (s : ℕ) {chains : Chains} {writer : Option ℕ} {state : WorldState} (agrees : Agrees chains writer state) (open_s : IsOpen s state.past)
+    (viewed : is_some (view_of s state.past) ≡ true) where
+  of_seen : (session : Session) (work : Work) (seen : Option Seen) → HasWork s session work state → work.view ≡ seen
+      → ViewAgrees state.past s (option_map sight_of seen) → HasView s state
+  of_seen session work None has is agreed = absurd (let none : view_of s state.past ≡ None = agreed in cc)
+  of_seen session work (Some seen) has is agreed = record { session = session; work = work; has_work = has; seen = seen; view_is = is }
+
+  pub has_view : HasView s state
+  has_view =
+      let is = open_work agrees s open_s in
+      of_seen is.0 is.1 is.1.view is.2 refl (work_of chains writer state s is.0 is.1 agrees is.2).view_is
+
+module _ {s : ℕ} {state : WorldState} (active : List ℕ) (next : Option ℕ) (has : HasView s state) (shown : IsShown has.work.view active next) where
+  shown_seen : (active ≡ has.seen.active) × (next ≡ Some has.seen.next)
+  shown_seen = subst (λ view. IsShown view active next) has.view_is shown
+
+  pub next_there : next ≢ None
+  next_there none = let some = shown_seen.1 in cc
+
+  next_is : (n : ℕ) → next ≡ Some n → n ≡ has.seen.next
+  next_is n is = let some = shown_seen.1 in cc
+
+  pub next_some : (n : ℕ) → next ≡ Some n → ViewsHaveNext state → 0 < n
+  next_some n is views = subst (λ (m : ℕ). 0 < m) (sym (next_is n is)) (views s has.session has.work has.seen has.has_work has.view_is)
+
+  pub own_view : (n reader : ℕ) → next ≡ Some n → reader ≡ (standing_of has.session).id
+      → IsOwnView state s (record { active = active; own = 0; next = n }) reader
+  own_view n reader is reader_is =
+      let a = shown_seen.0 in
+      let m = next_is n is in
+      record {
+        session = has.session;
+        work = has.work;
+        has_work = has.has_work;
+        seen = has.seen;
+        view_is = has.view_is;
+        same = λ i. record { active = a i; own = 0; next = m i };
+        reader_is = reader_is ∙ ap id_of has.has_work.work_is;
+      }
 
 comes_anew : (b : Bool) (s : ℕ) (state : WorldState) (chains : Chains) (on : TableSearch) → FindsSince b s state chains on
     → IsFindingAnew s on.schema state chains on.search
@@ -42,35 +147,34 @@ comes_anew false s state chains on finds = finds
 abbrev IsTaken : ℕ → WorldState → Chains → TableSearch → RowSearch → Type 0
 IsTaken s state chains on search = IsFinding s on.schema state chains search × (search.scan ≡ on.search.scan)
 
-takes_up : (chains : Chains) (state : WorldState) (writer : Option ℕ) (cuts s : ℕ) (on : TableSearch) (search : RowSearch)
+takes_up : {chains : Chains} {state : WorldState} {writer : Option ℕ} {cuts s : ℕ} {on : TableSearch} (search : RowSearch)
     → IsSearchHeld chains state writer cuts s on → IsTakenUp cuts on search → IsTaken s state chains on search
-takes_up chains state writer cuts s on search held (inl same) =
-    let finds : IsFinding s on.schema state chains on.search =
-    subst (λ (b : Bool). FindsSince b s state chains on) (eq-eqb on.cuts cuts same.0) held.finds in
+takes_up {chains} {state} {writer} {cuts} {s} {on} search held (inl same) =
+    let finds : IsFinding s on.schema state chains on.search = subst (λ (b : Bool). FindsSince b s state chains on) (eq-eqb on.cuts cuts same.0) held.finds in
     (subst (IsFinding s on.schema state chains) (sym same.1) finds, ap (λ (r : RowSearch). r.scan) same.1)
-takes_up chains state writer cuts s on search held (inr (later, anew)) =
+takes_up {chains} {state} {cuts} {s} {on} search held (inr (later, anew)) =
     (comes_anew (on.cuts == cuts) s state chains on held.finds search anew.scan anew.finds anew.way anew.holds, anew.scan)
 
 -- each place has few versions
-pub few_held : (state : WorldState) (writer : Option ℕ) (desks : List Desk) (cuts : ℕ) (undo : UndoRoom) (room : WorkRoom)
+pub few_held : {state : WorldState} {writer : Option ℕ} {desks : List Desk} {cuts : ℕ} {undo : UndoRoom} {room : WorkRoom}
     (held : IsHeld state writer desks cuts undo room) (place : Place) → length (versions_at place held.chains) ≤ most_versions
-few_held state writer desks cuts undo room held place = omega (arith, held.short place, held.agrees.lists.small)
+few_held held place = omega (arith, held.short place, held.agrees.lists.small)
 
-pub may_step : (s : ℕ) (schema : Schema) (state : WorldState) (chains : Chains) (search : RowSearch) → IsTold state → HasSome chains state
+pub may_step : {s : ℕ} {schema : Schema} {state : WorldState} (chains : Chains) {search : RowSearch} → IsTold state → HasSome chains state
     → ((place : Place) → length (versions_at place chains) ≤ most_versions) → IsSearching s schema state search → MayStep s schema state search
-may_step s schema state chains search told rows few is = record {
+may_step {schema} {state} chains {search} told rows few is = record {
   searching = is;
   table = holds_table state chains rows.0 told rows.1 few search.scan.table schema is.there;
   index = record { table = search.scan.table; which = search.scan.which; number = refl; schema = schema; there = is.there; key = is.key; few = is.few };
 }
 
-pub rows_on : (s : ℕ) (old new : WorldState) (chains : Chains) → MovesPlaces s old new → IsTold new → HasSome chains old → HasSome chains new
-rows_on s old new chains moves told rows = (rows.0, rows_left old new (moves_leave s old new moves) chains rows.0 told rows.1)
+pub rows_on : {s : ℕ} {old new : WorldState} (chains : Chains) → MovesPlaces s old new → IsTold new → HasSome chains old → HasSome chains new
+rows_on {old} {new} chains moves told rows = (rows.0, rows_left old new (moves_leave moves) chains rows.0 told rows.1)
 
 -- the reader's transaction is another session's no more than it was
-sight_on : (s : ℕ) (old new : WorldState) (writer : Option ℕ) (sight : Sight) → MovesPlaces s old new → SightHolds old writer s sight
+sight_on : {s : ℕ} {old new : WorldState} (writer : Option ℕ) (sight : Sight) → MovesPlaces s old new → SightHolds old writer s sight
     → SightHolds new writer s sight
-sight_on s old new writer (View view reader) moves is = record {
+sight_on {s} {old} {new} writer (View view reader) moves is = record {
   session = is.session;
   work = is.work;
   has_work = record { session_is = ap (λ (state : WorldState). slice_get state.sessions s) moves.rest ∙ is.has_work.session_is; work_is = is.has_work.work_is };
@@ -79,11 +183,9 @@ sight_on s old new writer (View view reader) moves is = record {
   same = is.same;
   reader_is = is.reader_is;
 }
-sight_on s old new writer Newest moves is = is
+sight_on writer Newest moves is = is
 
--- ---- what was found
-
-module _ (chains : Chains) (writer : Option ℕ) (state : WorldState) (agrees : Agrees chains writer state) (rows : HasSome chains state) (s : ℕ)
+module _ {chains : Chains} {writer : Option ℕ} {state : WorldState} (agrees : Agrees chains writer state) (rows : HasSome chains state) (s : ℕ)
     (on : TableSearch) (found : List FoundRow) (there : slice_get state.schemas on.search.scan.table ≡ Some on.schema) where
   abbrev scan : Scan
   scan = on.search.scan
@@ -91,39 +193,29 @@ module _ (chains : Chains) (writer : Option ℕ) (state : WorldState) (agrees : 
   abbrev FoundBy : Sight → Type 0
   FoundBy sight = AreFound on.schema scan.which (rows_seen sight (in_table scan.table chains)) (lies_in on.schema scan) found
 
-  seen_then : (n : ℕ)
-      → map (λ (f : FoundRow). f.row) found ≡ filter (lies_in on.schema scan)
-      (rows_of scan.table (changed (with_all_tables state.past) (seen state.past s n))) → AreRowsSeen scan.table (plan_of on) state.past s n
-      (map (λ (f : FoundRow). f.row) found)
+  seen_then : (n : ℕ) → map (λ (f : FoundRow). f.row) found ≡ filter (lies_in on.schema scan) (rows_of scan.table (changed (with_all_tables state.past)
+      (seen state.past s n))) → AreRowsSeen scan.table (plan_of on) state.past s n (map (λ (f : FoundRow). f.row) found)
   seen_then n are schema is =
       are ∙ ap (λ (t : Schema). rows_in_range (plan_of on) t (rows_of scan.table (changed (with_all_tables state.past) (seen state.past s n))))
       (some_same on.schema schema (sym there ∙ (ap (λ (tables : List Schema). slice_get tables scan.table) agrees.lists.tables ∙ is)))
 
   found_in : (sight : Sight) → SightHolds state writer s sight → FoundBy sight → RiseByKey found
       → AreFoundBy (reading_of sight) scan.table (plan_of on) state.past s (map (λ (f : FoundRow). f.row) found)
-  found_in (View view reader) is are rise = λ n at.
-      seen_then n
-      (found_by_view chains writer state scan.table on.schema state.versions.kept_at (pairs_of state _) agrees
-      (rows.1.clustered.tables scan.table on.schema there) s n is.session is.work is.seen is.has_work is.view_is at
-      scan.which (lies_in on.schema scan) found
-      (subst (λ (v : ReadSight). FoundBy (View v is.work.id)) is.same (subst (λ (r : ℕ). FoundBy (View view r)) is.reader_is are)) rise)
+  found_in (View view reader) is are rise = λ n at. seen_then n (found_by_view chains writer state scan.table on.schema state.versions.kept_at (pairs_of state
+      _) agrees (rows.1.clustered.tables scan.table on.schema there) s n is.session is.work is.seen is.has_work is.view_is at scan.which (lies_in on.schema
+      scan) found (subst (λ (v : ReadSight). FoundBy (View v is.work.id)) is.same (subst (λ (r : ℕ). FoundBy (View view r)) is.reader_is are)) rise)
   found_in Newest is are rise =
-      seen_then (commits state.past)
-      (found_newest chains writer state scan.table on.schema state.versions.kept_at (pairs_of state _) agrees
-      (rows.1.clustered.tables scan.table on.schema there) s (alone_if s chains writer state is agrees) scan.which (lies_in on.schema scan) found are rise)
+      seen_then (commits state.past) (found_newest chains writer state scan.table on.schema state.versions.kept_at (pairs_of state _) agrees
+      (rows.1.clustered.tables scan.table on.schema there) s (alone_if is agrees) scan.which (lies_in on.schema scan) found are rise)
 
   pub found_then : SightHolds state writer s scan.sight → FoundBy scan.sight → RiseByKey found
       → AreFoundBy (reading_of scan.sight) scan.table (plan_of on) state.past s (map (λ (f : FoundRow). f.row) found)
   found_then = found_in scan.sight
 
--- ---- how often it may come to its pair anew
-
 fewer : (long was since cuts : ℕ) → long ≡ was → since ≤ cuts → cuts ≤ was → since ≢ cuts → long - cuts < was - since
 fewer long was since cuts same le cut later = omega (arith, same, le, cut, later)
 
--- ---- in a held world
-
-module _ (s : ℕ) (old : WorldState) (writer : Option ℕ) (desks : List Desk) (cuts : ℕ) (undo : UndoRoom) (room : WorkRoom) (on : TableSearch)
+module _ (s : ℕ) {old : WorldState} {writer : Option ℕ} {desks : List Desk} {cuts : ℕ} {undo : UndoRoom} {room : WorkRoom} {on : TableSearch}
     (held : IsHeld old writer desks cuts undo room) (is : doing_at s desks ≡ Searching on) where
   is_searching : is_quiet_doing (doing_at s desks) ≡ true
   is_searching = ap is_quiet_doing is
@@ -132,62 +224,59 @@ module _ (s : ℕ) (old : WorldState) (writer : Option ℕ) (desks : List Desk) 
   search_held = subst (SearchHeld held.chains old writer cuts s) is (held.searches s)
 
   some_rows : IsTold old → HasSome held.chains old
-  some_rows told = some_rows_by held.chains old told writer desks (read_into undo) room held.rows
+  some_rows told = some_rows_by held.chains told writer desks (read_into undo) room held.rows
 
   short : (place : Place) → length (versions_at place held.chains) ≤ most_versions
-  short = few_held old writer desks cuts undo room held
+  short = few_held held
 
   -- it is given up, or over
   pub over : (new : WorldState) → MovesPlaces s old new → IsTold new → IsHeld new writer (with_doing s Nothing desks) cuts undo room
-  over new moves told = held_stays s old new moves writer desks cuts undo room held Nothing is_searching refl told (record {})
+  over new moves told = held_stays moves held Nothing is_searching refl told (record {})
 
   module _ (search : RowSearch) (taken : IsTakenUp cuts on search) where
     taken_up : IsTaken s old held.chains on search
-    taken_up = takes_up held.chains old writer cuts s on search search_held taken
+    taken_up = takes_up search search_held taken
 
     pub steps : IsTold old → MayStep s on.schema old search
-    steps told = may_step s on.schema old held.chains search told (some_rows told) short taken_up.0.searching
+    steps told = may_step held.chains told (some_rows told) short taken_up.0.searching
 
     sight_taken : SightHolds old writer s search.scan.sight
     sight_taken = subst (λ (scan : Scan). SightHolds old writer s scan.sight) (sym taken_up.1) search_held.sight
 
     shows : IsTold old → ShowsRows on.schema search.scan old (in_table search.scan.table held.chains)
     shows told =
-        shows_held held.chains old held.logs told s desks is_searching on.schema search.scan taken_up.0.searching.there taken_up.0.searching.key writer
+        shows_held held.logs told s desks is_searching search.scan taken_up.0.searching.there taken_up.0.searching.key writer
         (read_into undo) room held.agrees sight_taken held.rows
 
-    module _ (new : WorldState) (told : IsTold new) where
-      pub went : (next : RowSearch) → GoesOn s on.schema old new search next
+    module _ {new : WorldState} (told : IsTold new) where
+      pub went : {next : RowSearch} → GoesOn s on.schema old new search next
           → IsHeld new writer (with_doing s (Searching (record on { search = next; cuts = cuts })) desks) cuts undo room × MovesPlaces s old new ×
           IsSameScan on.search.scan next.scan
-      went next goes =
-          let moves : MovesPlaces s old new = moves_in_one s _ old new goes.moves in
+      went {next} goes =
+          let moves : MovesPlaces s old new = moves_in_one goes.moves in
           let on_now : IsFinding s on.schema new held.chains next × IsSameScan search.scan next.scan
-          = goes_on s on.schema old new held.chains search next taken_up.0 (shows (moves_told s old new moves told)) goes told in (
-            held_stays s old new moves writer desks cuts undo room held (Searching (record on { search = next; cuts = cuts })) is_searching refl told
-                (record {
-                  there = on_now.0.searching.there;
-                  which = on_now.0.searching.key;
-                  since = omega arith;
-                  finds =
-                      subst (λ (b : Bool). FindsSince b s new held.chains (record on { search = next; cuts = cuts }))
-                      (sym (eq-eqb cuts cuts refl)) on_now.0;
-                  sight = subst (SightHolds new writer s) (sym on_now.1.sight) (sight_on s old new writer search.scan.sight moves sight_taken);
-                }),
+          = goes_on s on.schema old new held.chains search next taken_up.0 (shows (moves_told moves told)) goes told in (
+            held_stays moves held (Searching (record on { search = next; cuts = cuts })) is_searching refl told (record {
+              there = on_now.0.searching.there;
+              which = on_now.0.searching.key;
+              since = omega arith;
+              finds =
+                  subst (λ (b : Bool). FindsSince b s new held.chains (record on { search = next; cuts = cuts })) (sym (eq-eqb cuts cuts refl)) on_now.0;
+              sight = subst (SightHolds new writer s) (sym on_now.1.sight) (sight_on writer search.scan.sight moves sight_taken);
+            }),
             moves,
             subst (λ (scan : Scan). IsSameScan scan next.scan) taken_up.1 on_now.1,
           )
 
       -- less is left
-      pub nears : (next : RowSearch) → GoesOn s on.schema old new search next → IsBelow
+      pub nears : {next : RowSearch} → GoesOn s on.schema old new search next → IsBelow
           (counted (places_in s new (record on { search = next; cuts = cuts }))) (counted (places_in s old on))
-      nears next goes =
-          let moves : MovesPlaces s old new = moves_in_one s _ old new goes.moves in
-          let was : IsTold old = moves_told s old new moves told in
+      nears {next} goes =
+          let moves : MovesPlaces s old new = moves_in_one goes.moves in
+          let was : IsTold old = moves_told moves told in
           let past : new.past ≡ old.past = ap (λ (state : WorldState). state.past) moves.rest in
           let finds = taken_up.0 in
-          below next past taken
-          (steps_nearer s on.schema old new search next (in_table search.scan.table held.chains) (shows was) finds.searching finds.finds goes was told)
+          below next past taken (steps_nearer (shows was) finds.searching finds.finds goes was told)
         where
           below : (next : RowSearch) → new.past ≡ old.past → IsTakenUp cuts on search
               → IsLess (keys_before s new next) (visit_before new next) (keys_before s old search) (visit_before old search)
@@ -201,36 +290,31 @@ module _ (s : ℕ) (old : WorldState) (writer : Option ℕ) (desks : List Desk) 
               = ap (λ (scan : Scan). keys_left (place_in s scan old) (pairs_of old (index_of scan.table scan.which)) search.phase) anew.scan
               ∙ (ap (keys_left (place_in s on.search.scan old) (pairs_of old (index_of on.search.scan.table on.search.scan.which))) anew.phase
               ∙ keys_anew (place_in s on.search.scan old) (pairs_of old (index_of on.search.scan.table on.search.scan.which)) on.search.phase) in
-              anew_nearer (keys_before s new next) (visit_before new next) (keys_before s old on.search) (visit_before old search)
-              (visit_before old on.search) _ _
-              (subst (λ (k : ℕ). IsLess (keys_before s new next) (visit_before new next) k (visit_before old search)) keys less)
-              (fewer (length new.past) (length old.past) on.cuts cuts (ap length past) search_held.since held.cut later)
+              anew_nearer (keys_before s new next) (visit_before new next) (keys_before s old on.search) (visit_before old search) (visit_before old on.search)
+              _ _ (subst (λ (k : ℕ). IsLess (keys_before s new next) (visit_before new next) k (visit_before old search)) keys less) (fewer (length new.past)
+              (length old.past) on.cuts cuts (ap length past) search_held.since held.cut later)
 
-      pub ended : (found : List FoundRow) → Ends s on.schema old new search found
-          → IsHeld new writer (with_doing s Nothing desks) cuts undo room × MovesPlaces s old new
-          × AreFoundBy (reading_of on.search.scan.sight) on.search.scan.table (plan_of on) old.past s (map (λ (f : FoundRow). f.row) found)
-      ended found ends =
+      pub ended : {found : List FoundRow} → Ends s on.schema old new search found → IsHeld new writer (with_doing s Nothing desks) cuts undo room × MovesPlaces
+          s old new × AreFoundBy (reading_of on.search.scan.sight) on.search.scan.table (plan_of on) old.past s (map (λ (f : FoundRow). f.row) found)
+      ended {found} ends =
           let moves : MovesPlaces s old new = leaving_moves s _ old new ends.leaves in
           let are
-          =
-          subst (λ (scan : Scan). AreFound on.schema scan.which (rows_seen scan.sight (in_table scan.table held.chains)) (lies_in on.schema scan) found ×
-          RiseByKey found) taken_up.1 (ends.found (in_table search.scan.table held.chains) taken_up.0.finds) in (
+          = subst (λ (scan : Scan). AreFound on.schema scan.which (rows_seen scan.sight (in_table scan.table held.chains)) (lies_in on.schema scan) found
+          × RiseByKey found) taken_up.1 (ends.found (in_table search.scan.table held.chains) taken_up.0.finds) in (
             over new moves told,
             moves,
-            found_then held.chains writer old held.agrees (some_rows (moves_told s old new moves told)) s on found search_held.there search_held.sight are.0
-                are.1,
+            found_then held.agrees (some_rows (moves_told moves told)) s on found search_held.there search_held.sight are.0 are.1,
           )
 
-      pub waited : (same : RowSearch) (why : Move) → Waits s on.schema old new search same why → MayStep s on.schema new same × MovesPlaces s old new
-      waited same why waits =
-          let moves : MovesPlaces s old new = moves_nothing s old new waits.unchanged in (
-            may_step s on.schema new held.chains same told (rows_on s old new held.chains moves told (some_rows (moves_told s old new moves told))) short
-                waits.holds,
+      pub waited : {same : RowSearch} {why : Move} → Waits s on.schema old new search same why → MayStep s on.schema new same × MovesPlaces s old new
+      waited waits =
+          let moves : MovesPlaces s old new = moves_nothing waits.unchanged in (
+            may_step held.chains told (rows_on held.chains moves told (some_rows (moves_told moves told))) short waits.holds,
             moves,
           )
 
-  pub given_up : (index : ℕ) (new later : WorldState) → MovesPlaces s old new → Calls index (Leaves s) new later → IsTold later
+  pub given_up : {index : ℕ} {new later : WorldState} → MovesPlaces s old new → Calls index (Leaves s) new later → IsTold later
       → IsHeld later writer (with_doing s Nothing desks) cuts undo room × MovesPlaces s old later
-  given_up index new later first leaves told =
-      let moves : MovesPlaces s old later = moves_then s old new later first (leaving_moves s index new later leaves) in
+  given_up {index} {new} {later} first leaves told =
+      let moves : MovesPlaces s old later = moves_then first (leaving_moves s index new later leaves) in
       (over later moves told, moves)

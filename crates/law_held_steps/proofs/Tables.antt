@@ -1,47 +1,134 @@
--- A table that is made, by who may write.
-use Rattle.std.proofs.Common.{◌≡◌, ◌≢◌, ℕ, ◌+◌, ◌<◌, ◌≤◌, ◌^◌, Some, List, [], ◌∷◌, ◌++◌, length, refl, sym, ap, subst, ◌∙◌, ⊎_elim, inl, inr, arith, eq-eqb}
-use Rattle.std.proofs.Common.{◌⊎◌, get_or}
-use Rattle.std.proofs.lemmas.Option.{slice_get_within, get_or_from_slice_get}
+-- The first world, sessions that join, and tables that are made by who may write.
+use Rattle.law_held_steps.proofs.Items.{entered_by}
+use Rattle.std.proofs.Common.{◌≡◌, ◌≢◌, ℕ, zero, suc, ◌+◌, ◌<◌, Bool, true, false, Option, Some, None, List, [], ◌∷◌, ◌++◌, length, refl, sym, ap, subst, ◌∙◌}
+use Rattle.std.proofs.Common.{inl, arith, get_or, ◌≤◌, ◌^◌, ⊎_elim, inr, eq-eqb, ◌⊎◌}
+use Rattle.std.proofs.lemmas.List.{length-append}
 use Rattle.std.specs.Prelude.{slice_get, is_some}
+use Rattle.inno_types.specs.{declared.reply.Item.Item, declared.lock.Level.Level, declared.value.Schema.Schema}
+use Rattle.inno_model.specs.Past.{own, started, under_way, of_item, level, awaits_ack}
+use Rattle.law_past_agreement.specs.Agreement.{owed_by, owed_by_txn, owed_by_item}
+use Rattle.shared_lists.specs.Fitting.{FitsThen}
+use Rattle.world.specs.State.{WorldState, Session, Work, IsSession, HasWork, index_of}
+use Rattle.world.specs.{Told.IsTold, Told.pairs_in, Told.pairs_of, declared.undo_room.UndoRoom.UndoRoom, EngineCalls.fresh_session, EngineCalls.joined}
+use Rattle.world.specs.{Undoing.read_into}
+use Rattle.undo_apply.specs.{declared.work_room.WorkRoom.WorkRoom, declared.work_room.Stage.TheVariants.Find, Rooms.IsWhole}
+use Rattle.law_world_agreement.proofs.{Joining.first_agrees, Joining.joined_agrees, Changing.created_agrees}
+use Rattle.desks.specs.{declared.desk.Desk.Desk, Desks.fresh_desk, Desks.doing_at, Holding.IsFresh, Holding.IsHeld, Holding.RowsHeld, Holding.SearchHeld}
+use Rattle.desks.specs.{declared.desk.Doing.TheVariants.Nothing, Leaves.LeavesOthers}
+use Rattle.std.proofs.lemmas.Option.{slice_get_within, get_or_from_slice_get}
 use Rattle.std.proofs.lemmas.Bool.{cases_eq}
 use Rattle.std.proofs.lemmas.Bool.Decides.{nat_tests}
-use Rattle.inno_types.specs.{declared.value.Schema.Schema, declared.value.Key.Key, declared.value.Column.Column}
 use Rattle.inno_db.specs.declared.change.Change.TheVariants.{Create}
 use Rattle.inno_model.specs.declared.event.Event.TheVariants.{Changed}
-use Rattle.inno_model.specs.Past.{own, started, under_way, of_item, awaits_ack}
 use Rattle.entries.specs.{Pairs.Pair, Pairs.value_of, Index.Index, Lists.empty_index}
 use Rattle.law_stored_rows.specs.{Storable.IsStorable, Storable.IsKeyOn, Edits.clustered_index, Edits.key_index, Tables.HasItsColumns, Tables.HasNoPairs}
 use Rattle.law_stored_rows.specs.{Tables.AreCoded}
 use Rattle.law_stored_rows.proofs.Made.{a_table_more}
-use Rattle.world.specs.State.{WorldState, Session, Work, IsSession, HasWork, index_of}
-use Rattle.world.specs.{Told.IsTold, Told.pairs_in, Told.pairs_of, declared.undo_room.UndoRoom.UndoRoom, Undoing.read_into}
-use Rattle.undo_apply.specs.{declared.work_room.WorkRoom.WorkRoom, declared.work_room.Stage.TheVariants.Find}
 use Rattle.row_changes.specs.Told.{HasRows}
-use Rattle.shared_lists.specs.Fitting.{FitsThen}
-use Rattle.law_world_agreement.specs.Steps.{IsChangedBy}
-use Rattle.law_world_agreement.proofs.Changing.{created_agrees}
-use Rattle.law_logged_changes.specs.{Logs.LogsAgree, Logs.IsLogOf, Pointers.IsNeededBy}
-use Rattle.desks.specs.{declared.desk.Desk.Desk, declared.desk.Doing.TheVariants.Nothing, Desks.doing_at, Holding.RowsHeld, Holding.SearchHeld}
-use Rattle.desks.specs.{Holding.IsHeld, Leaves.LeavesOthers}
+use Rattle.law_world_agreement.specs.{Steps.IsChangedBy, Agreement.Agrees}
+use Rattle.law_logged_changes.specs.{Logs.LogsAgree, Logs.IsLogOf, Pointers.IsNeededBy, Pointers.Reaches}
 use Rattle.law_logged_changes.proofs.Leaving.{more_grow}
-use Rattle.law_held_steps.proofs.Joining.{others_there}
 use Rattle.law_held_steps.proofs.AnyStep.{each, waits_not, others_past, past_grows, held_after}
+use Rattle.law_found_rows.specs.Pasts.{AddsAtMostOne}
 
--- ---- columns of a table that can be stored
+behind : (desks : List Desk) → get_or desks (length desks) fresh_desk ≡ fresh_desk
+behind [] = refl
+behind (desk ∷ desks) = behind desks
 
-keyed : (schema : Schema) (storable : IsStorable schema) (which : ℕ) (key : Key) → slice_get schema.keys which ≡ Some key
-    → (column : Column) × (slice_get schema.columns key.column ≡ Some column)
-keyed schema storable which key there =
-    let on : IsKeyOn schema.columns storable.column.kind (get_or schema.keys which key) =
-    storable.keys which key (slice_get_within schema.keys which key there) in
-    let is : IsKeyOn schema.columns storable.column.kind key =
-    subst (λ (k : Key). IsKeyOn schema.columns storable.column.kind k) (get_or_from_slice_get schema.keys which key key there) on in
-    (is.column, is.there)
+-- a desk that nobody has used says what no desk says
+pub one_more : (desks : List Desk) (s : ℕ) → get_or (desks ++ fresh_desk ∷ []) s fresh_desk ≡ get_or desks s fresh_desk
+one_more [] zero = refl
+one_more [] (suc s) = refl
+one_more (desk ∷ desks) zero = refl
+one_more (desk ∷ desks) (suc s) = one_more desks s
+
+last_there : {X : Type 0} (xs : List X) (x : X) → slice_get (xs ++ x ∷ []) (length xs) ≡ Some x
+last_there [] x = refl
+last_there (first ∷ xs) x = last_there xs x
+
+pub others_there : {X : Type 0} (xs : List X) (x : X) (s : ℕ) → s ≢ length xs → slice_get (xs ++ x ∷ []) s ≡ slice_get xs s
+others_there [] x zero differ = absurd (differ refl)
+others_there [] x (suc s) differ = refl
+others_there (first ∷ xs) x zero differ = refl
+others_there (first ∷ xs) x (suc s) differ = others_there xs x s (λ same. differ (ap suc same))
+
+-- ---- who has not joined is owed nothing
+
+no_item : (txn : ℕ) (item : Option Item) → txn + owed_by_item item ≡ 0 → is_some item ≡ true → ⊥
+no_item txn None none some = cc
+no_item txn (Some item) none some = omega (arith, none)
+
+no_ack : (l : Option Level) (changes : ℕ) (waits : Bool) (item : ℕ) → owed_by_txn l changes waits + item ≡ 0 → waits ≡ true → ⊥
+no_ack (Some l) changes waits item none is = omega (arith, none)
+no_ack None changes true item none is = omega (arith, none)
+no_ack None changes false item none is = cc
+
+pub joined_held : {writer : Option ℕ} {cuts : ℕ} {undo : UndoRoom} {room : WorkRoom} {old : WorldState} {desks : List Desk} (held : IsHeld old writer desks cuts
+    undo room) → IsTold old → (name : List ℕ) → length old.names < 68 → IsHeld (joined name old) writer (desks ++ fresh_desk ∷ []) cuts undo room
+joined_held {writer} {old = old} {desks = desks} held told name room_left =
+    let t = length desks in
+    let new = joined name old in
+    let t_is : t ≡ length old.sessions = held.count ∙ sym held.agrees.count in
+    let stranger : owed_by old.past t ≡ 0 = held.agrees.lists.strangers t (omega (arith, held.count)) in
+    entered_by {t = length desks} held (ap (λ (desk : Desk). desk.doing) (behind desks)) told (ap (slice_get new.sessions) t_is ∙ last_there old.sessions
+    fresh_session) (record { indexes = refl; versions = refl; schemas = refl }) (record {
+      sessions = λ s differ. others_there old.sessions fresh_session s (λ same. differ (same ∙ sym t_is));
+      same = λ s differ. one_more desks s;
+      doing = ap (λ (desk : Desk). desk.doing) (one_more desks t);
+      rights = λ s differ is. is;
+      back = λ s differ is. is;
+    }) (length-append desks (fresh_desk ∷ []) ∙ ap (λ n. n + 1) held.count ∙ sym (length-append old.names (name ∷ [])))
+    (omega (arith, length-append old.names (name ∷ []), room_left)) (joined_agrees held.chains writer old new name held.agrees
+    (record { session = fresh_session; closed = refl; sessions = refl; names = refl; past = refl; schemas = refl; txns = refl })) (inl refl) held.fits
+    (λ work is. absurd (cc)) (λ busy. absurd (no_item (owed_by_txn (level t old.past) (length (own t old.past)) (awaits_ack (of_item t old.past)))
+    (under_way t old.past) stranger busy)) (λ waits. absurd (no_ack (level t old.past) (length (own t old.past)) (awaits_ack (of_item t old.past))
+    (owed_by_item (under_way t old.past)) stranger waits)) (λ work is. absurd (cc)) (held.started t ∙ ap (λ (desk : Desk). desk.started)
+    (sym (one_more desks t)))
+
+-- ---- the first world
+
+pub first_held : (state : WorldState) (undo : UndoRoom) (room : WorkRoom) → IsFresh state → IsWhole room → room.stage ≡ Find → IsHeld state None [] 0 undo room
+first_held state undo room first whole stage =
+    let nobody : (s : ℕ) (session : Session) → slice_get state.sessions s ≡ Some session → ⊥
+    = λ s session there. let no : None ≡ Some session = sym (ap (λ (sessions : List Session). slice_get sessions s) first.sessions) ∙ there in cc in
+    record {
+      chains = first.chains;
+      agrees = first_agrees first.chains state (record {
+        db = first.db;
+        opened = first.opened;
+        past = first.past;
+        names = first.names;
+        schemas = first.schemas;
+        sessions = first.sessions;
+        txns = first.txns;
+      });
+      fits = subst FitsThen (sym first.past) first.fits;
+      rows = (first.coded, stage);
+      quiet = λ s other. refl;
+      searches = λ s. tt;
+      logs = record { each = λ s session work has. absurd (nobody s session has.session_is); apart = first.apart };
+      has_room = record {
+        replies = λ s session has busy. absurd (nobody s session has);
+        acks = λ s session has waits. absurd (nobody s session has);
+        ends = λ s session work has. absurd (nobody s session has.session_is);
+      };
+      started = λ s. ap (started s) first.past;
+      count = sym (ap length first.names);
+      few = omega (arith, ap length first.names);
+      cut = omega arith;
+      short = first.few_versions;
+      whole = whole;
+    }
 
 pub its_columns : (schema : Schema) → IsStorable schema → HasItsColumns schema
-its_columns schema storable = record { primary = storable.column; primary_is = storable.primary; few = storable.few; keys = keyed schema storable }
-
--- ---- schemas with one more
+its_columns schema storable = record {
+  primary = storable.column;
+  primary_is = storable.primary;
+  few = storable.few;
+  keys = λ which key there. let is : IsKeyOn schema.columns storable.column.kind key = subst (IsKeyOn schema.columns storable.column.kind)
+      (get_or_from_slice_get schema.keys which key key there) (storable.keys which key (slice_get_within schema.keys which key there)) in
+      (is.column, is.there);
+}
 
 there_before : (schemas : List Schema) (schema : Schema) (n : ℕ) (s : Schema) → slice_get (schemas ++ schema ∷ []) n ≡ Some s
     → (slice_get schemas n ≡ Some s) ⊎ (n ≡ length schemas)
@@ -51,31 +138,17 @@ there_before schemas schema n s there =
 no_value : (key bytes : List ℕ) → value_of key [] ≡ Some bytes → ⊥
 no_value key bytes there = cc
 
--- ---- all that is held
-
--- what making the table has left of the session's rooms and log
-pub record LeavesRooms (t : ℕ) (old new : WorldState) : Type 0 where
-  pub session : Session
-  pub work : Work
-  pub had : HasWork t session work old
-  pub session_now : Session
-  pub work_now : Work
-  pub has : HasWork t session_now work_now new
-  pub can_reply : session_now.can_reply ≡ session.can_reply
-  pub can_ack : session_now.can_ack ≡ session.can_ack
-  pub can_end : work_now.can_end ≡ work.can_end
-  pub log : work_now.log ≡ work.log
-
-module _ (cuts : ℕ) (undo : UndoRoom) (room : WorkRoom) (old new : WorldState) (desks : List Desk) (t : ℕ) (schema : Schema)
+module _ {cuts : ℕ} {undo : UndoRoom} {room : WorkRoom} {old new : WorldState} {desks : List Desk} {t : ℕ} {schema : Schema}
     (held : IsHeld old (Some t) desks cuts undo room) (rests : doing_at t desks ≡ Nothing) (told : IsTold old) (told_now : IsTold new)
-    (by : IsChangedBy t (Create schema) (old.schemas ++ schema ∷ []) old new) (rooms : LeavesRooms t old new)
+    (by : IsChangedBy t (Create schema) (old.schemas ++ schema ∷ []) old new) (can_reply : by.session_now.can_reply ≡ by.session.can_reply)
+    (can_end : by.work_now.can_end ≡ by.work.can_end) (log : by.work_now.log ≡ by.work.log)
     (same : (index : ℕ) → new.indexes index ≡ old.indexes index) (versions : new.versions ≡ old.versions)
     (empty : (which : ℕ) → which < 8 → new.indexes (index_of (length old.schemas) which) ≡ empty_index)
     (storable : IsStorable schema) (few : length old.past + 1 < 2 ^ 63) (none : own t old.past ≡ []) where
-  adds : Rattle.law_found_rows.specs.Pasts.AddsAtMostOne t old.past new.past
+  adds : AddsAtMostOne t old.past new.past
   adds = inr (Changed t (Create schema), eq-eqb t t refl, by.past)
 
-  agrees : Rattle.law_world_agreement.specs.Agreement.Agrees held.chains (Some t) new
+  agrees : Agrees held.chains (Some t) new
   agrees = created_agrees held.chains old new t schema held.agrees by few
 
   same_pairs : pairs_of new ≡ pairs_of old
@@ -126,16 +199,14 @@ module _ (cuts : ℕ) (undo : UndoRoom) (room : WorkRoom) (old new : WorldState)
   own_now =
       let made : own t (Changed t (Create schema) ∷ old.past) ≡ Create schema ∷ [] = grind (arith, nat_tests, none) in ap (own t) by.past ∙ made
 
-  one_now : (session : Session) (work : Work) → HasWork t session work new → work ≡ rooms.work_now
-  one_now session work has = let is = rooms.has in let a = is.session_is in let b = is.work_is in let c = has.session_is in let d = has.work_is in cc
+  one_now : (session : Session) (work : Work) → HasWork t session work new → work ≡ by.work_now
+  one_now session work has = let is = by.has in let a = is.session_is in let b = is.work_is in let c = has.session_is in let d = has.work_is in cc
 
   log_now : (s : ℕ) (session : Session) (work : Work) → HasWork s session work new → IsLogOf new work.log (own s new.past)
   log_now s session work =
-      each t (λ u. HasWork u session work new → IsLogOf new work.log (own u new.past))
-      (λ has.
-      let log_is : work.log ≡ [] = ap (λ (w : Work). w.log) (one_now session work has) ∙ (rooms.log ∙ no_log t rooms.session rooms.work rooms.had none) in
-      subst (IsLogOf new work.log) (sym own_now) log_is)
-      (λ u differ has.
+      each t (λ u. HasWork u session work new → IsLogOf new work.log (own u new.past)) (λ has.
+      let log_is : work.log ≡ [] = ap (λ (w : Work). w.log) (one_now session work has) ∙ (log ∙ no_log t by.session by.work by.had none) in
+      subst (IsLogOf new work.log) (sym own_now) log_is) (λ u differ has.
       let log_is : work.log ≡ [] =
       no_log u session work (record { session_is = sym (by.others u differ) ∙ has.session_is; work_is = has.work_is }) (alone u differ) in
       subst (IsLogOf new work.log) (sym ((others_past t u old.past new.past differ adds).own_is ∙ alone u differ)) log_is) s
@@ -161,8 +232,7 @@ module _ (cuts : ℕ) (undo : UndoRoom) (room : WorkRoom) (old new : WorldState)
         record_is = record_is;
         code_is = needed.code_is;
         further = needed.further;
-        reaches =
-            subst (λ (v : _). Rattle.law_logged_changes.specs.Pointers.Reaches v.kept_at needed.coded.pointer needed.further pointer) versions needed.reaches;
+        reaches = subst (λ (v : _). Reaches v.kept_at needed.coded.pointer needed.further pointer) versions needed.reaches;
       }
 
   logs_now : LogsAgree new
@@ -173,22 +243,19 @@ module _ (cuts : ℕ) (undo : UndoRoom) (room : WorkRoom) (old new : WorldState)
 
   pub created_held : IsHeld new (Some t) desks cuts undo room
   created_held =
-      held_after held leaves (λ u differs. refl)
-      (record {
-        replies = λ session has busy. ap (λ (x : Session). x.can_reply) (one_session session has) ∙ rooms.can_reply ∙
-            held.has_room.replies t rooms.session rooms.had.session_is (sym (ap (λ h. is_some (under_way t h)) by.past) ∙ busy);
+      held_after held leaves (λ u differs. refl) (record {
+        replies = λ session has busy. ap (λ (x : Session). x.can_reply) (one_session session has) ∙ can_reply ∙
+            held.has_room.replies t by.session by.had.session_is (sym (ap (λ h. is_some (under_way t h)) by.past) ∙ busy);
         acks = λ session has waits. absurd
             (waits_not t (Changed t (Create schema) ∷ of_item t old.past) old.past (sym (ap (λ h. awaits_ack (of_item t h)) by.past) ∙ waits) refl);
-        ends = λ session work has. ap (λ (w : Work). w.can_end) (one_now session work has) ∙ rooms.can_end ∙
-            held.has_room.ends t rooms.session rooms.work rooms.had;
+        ends = λ session work has. ap (λ (w : Work). w.can_end) (one_now session work has) ∙ can_end ∙ held.has_room.ends t by.session by.work by.had;
         started = ap (started t) by.past ∙ held.started t;
         quiet = λ other. absurd (other refl);
         search = subst (SearchHeld held.chains new (Some t) cuts t) (sym rests) tt;
       })
-      (subst FitsThen (sym by.past) ((storable, tt), held.fits))
-      (subst (RowsHeld held.chains new t (read_into undo) room) (sym rests) (coded, was.1)) logs_now (held.count ∙ ap length (sym by.names))
-      (subst (λ (names : List (List ℕ)). length names ≤ 68) (sym by.names) held.few) (omega (arith, held.cut, past_grows t old.past new.past adds))
-      (λ place. omega (arith, held.short place, past_grows t old.past new.past adds)) held.whole
+      (subst FitsThen (sym by.past) ((storable, tt), held.fits)) (subst (RowsHeld held.chains new t (read_into undo) room) (sym rests) (coded, was.1)) logs_now
+      (held.count ∙ ap length (sym by.names)) (subst (λ (names : List (List ℕ)). length names ≤ 68) (sym by.names) held.few)
+      (omega (arith, held.cut, past_grows t old.past new.past adds)) (λ place. omega (arith, held.short place, past_grows t old.past new.past adds)) held.whole
     where
-      one_session : (session : Session) → IsSession t session new → session ≡ rooms.session_now
-      one_session session has = let is = rooms.has.session_is in cc
+      one_session : (session : Session) → IsSession t session new → session ≡ by.session_now
+      one_session session has = let is = by.has.session_is in cc

@@ -3,51 +3,32 @@ use Rattle.std.proofs.Common.{◌≡◌, ◌≢◌, ◌∙◌, ⊎_elim, sym, ap
 use Rattle.std.proofs.Common.{Some, slice_get, arith}
 use Rattle.std.specs.Prelude.{IsSome, IsTrue, IsSomeAnd, is_some}
 use Rattle.std.specs.FinMap.{get, insert, get-empty, get-insert}
-use Rattle.inno_types.specs.declared.value.Value.{Value}
-use Rattle.inno_types.specs.declared.value.Column.{Column}
-use Rattle.inno_types.specs.declared.value.Schema.{Schema}
+use Rattle.inno_types.specs.{declared.value.Value.Value, declared.value.Column.Column, declared.value.Schema.Schema}
 use Rattle.key_codec.specs.Keys.{HasKey, key_code}
 use Rattle.inno_db.specs.Database.{Database, database_of, key_of, key_in, place_cmp}
-use Rattle.inno_db.specs.Changes.{apply_one}
-use Rattle.inno_db.specs.Order.{place_cmp_total}
-use Rattle.inno_db.specs.declared.change.Change.TheVariants.{Create, Put}
+use Rattle.inno_db.specs.{Changes.apply_one, Order.place_cmp_total, declared.change.Change.TheVariants.Create, declared.change.Change.TheVariants.Put}
 use Rattle.inno_db.proofs.Keys.{key_in-at}
 use Rattle.row_codec.specs.Rows.{version_code}
-use Rattle.entries.specs.Pairs.{value_of}
-use Rattle.entries.specs.Index.{Index}
-use Rattle.entries.specs.Lists.{empty_index}
-use Rattle.row_versions.specs.declared.kept.Kept.{Kept}
-use Rattle.row_versions.specs.Versions.{Versions}
-use Rattle.row_versions.specs.declared.place.Place.{Place}
-use Rattle.row_versions.specs.declared.version.Version.{Version}
+use Rattle.entries.specs.{Pairs.value_of, Index.Index, Lists.empty_index}
+use Rattle.row_versions.specs.{declared.kept.Kept.Kept, Versions.Versions, declared.place.Place.Place, declared.version.Version.Version}
+use Rattle.row_versions.specs.{Laws.same_place_equiv}
 use Rattle.row_versions.specs.Chains.{Chains, in_model, is_same_place, versions_at, newest, Pushes}
-use Rattle.row_versions.specs.Laws.{same_place_equiv}
-use Rattle.law_stored_rows.specs.Storable.{IsStorable}
-use Rattle.law_stored_rows.proofs.Applying.{AreFitting-no_rows, AreFitting-apply_one}
-use Rattle.law_stored_rows.proofs.Numbers.{empty-Has64Bits, apply_one-Has64Bits}
-use Rattle.law_stored_rows.specs.Edits.{clustered_index}
-use Rattle.law_stored_rows.specs.Records.{IsRecordWith}
+use Rattle.law_stored_rows.specs.{Storable.IsStorable, Edits.clustered_index, Records.IsRecordWith}
+use Rattle.law_stored_rows.proofs.{Applying.AreFitting-no_rows, Applying.AreFitting-apply_one, Numbers.empty-Has64Bits, Numbers.apply_one-Has64Bits}
+use Rattle.law_stored_rows.proofs.{Values.same_place, Tables.lag_stays, Tables.pushed_here, Tables.pushed_elsewhere, FromTables.absent, Made.no_tables}
+use Rattle.law_stored_rows.proofs.{Made.a_table_more}
 use Rattle.law_stored_rows.specs.Tables.{HasNoPairs, AreCoded, AreCodedAs, what_is_there, in_table}
-use Rattle.law_stored_rows.proofs.Values.{same_place}
-use Rattle.law_stored_rows.proofs.Tables.{lag_stays, pushed_here, pushed_elsewhere}
-use Rattle.law_stored_rows.proofs.FromTables.{absent}
-use Rattle.law_stored_rows.proofs.Made.{no_tables, a_table_more}
-use Rattle.world.specs.State.{WorldState, index_of}
-use Rattle.world.specs.Told.{IsTold, pairs_in, pairs_of}
-use Rattle.world.specs.EngineCalls.{IsNew, LaysTable}
+use Rattle.world.specs.{State.WorldState, State.index_of, Told.IsTold, Told.pairs_in, Told.pairs_of, EngineCalls.IsNew, EngineCalls.LaysTable}
 use Rattle.row_changes.specs.declared.row_edit.RowEdit.TheVariants as edits
-use Rattle.row_changes.specs.Edits.{IsKeyAt}
-use Rattle.row_changes.specs.Keys.{IsChangingKeys}
+use Rattle.row_changes.specs.{Edits.IsKeyAt, Keys.IsChangingKeys, Awaited.IsOfTable}
 use Rattle.row_changes.proofs.Pushed.{key_at, first_rows}
 use Rattle.row_changes.proofs.Telling.{HasPut, pairs_told, puts_pairs, tells, coded_again}
-use Rattle.law_logged_changes.proofs.Entering.{with_version, pushed_version}
+use Rattle.law_logged_changes.proofs.{Entering.with_version, Entering.pushed_version, ReadersLeft.has_rows_left}
 use Rattle.law_held_steps.proofs.Tables.{its_columns}
 use Rattle.shared_lists.specs.Fitting.{FitsWell}
 use Rattle.opened_world.specs.Laid.{no_db, version_of, IsLaid, PutsNewRecord, HasRecordThere, TakesKeysOver, AwaitsNobody}
 use Rattle.std.proofs.lemmas.Bool.{cases_eq}
 use Rattle.world.specs.Told.{LeavesRows}
-use Rattle.row_changes.specs.Awaited.{IsOfTable}
-use Rattle.law_logged_changes.proofs.ReadersLeft.{has_rows_left}
 use Rattle.law_held_steps.specs.Leaving.{LeavesIndexes, LeavesTable}
 
 -- ---- a database without tables

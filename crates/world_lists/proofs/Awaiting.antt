@@ -53,9 +53,8 @@ awaits_of_nobody new writer desks undone nobody = record { each = λ index by is
 module _ (old new : WorldState) (writer : Option ℕ) (desks : List Desk) (cuts : ℕ) (undo : UndoRoom) (room : WorkRoom)
     (kept : IsKept old writer desks cuts undo room) (more : AwaitsNoMore old new) where
   -- who is awaited may write still, and has the same under way
-  kept_if : (later : Option ℕ) (now : List Desk)
-      → ((by : ℕ) → writer ≡ Some by → can_await (doing_at by desks) ≡ true → (later ≡ Some by) × (doing_at by now ≡ doing_at by desks))
-      → IsHeld new later now cuts undo room → IsKept new later now cuts undo room
+  kept_if : (later : Option ℕ) (now : List Desk) → ((by : ℕ) → writer ≡ Some by → can_await (doing_at by desks) ≡ true → (later ≡ Some by) × (doing_at by
+      now ≡ doing_at by desks)) → IsHeld new later now cuts undo room → IsKept new later now cuts undo room
   kept_if later now stays held = record { held = held; record_room = kept.record_room; awaits = record { each = go } }
     where
       go : (index by : ℕ) → (new.indexes index).awaited ≡ Some by → IsAwaitedFor new later now undo.table index by
@@ -70,9 +69,8 @@ module _ (old new : WorldState) (writer : Option ℕ) (desks : List Desk) (cuts 
           }
 
   -- a session that is not awaited may have another thing under way, or the right to write no longer
-  kept_but : (s : ℕ) (later : Option ℕ) (now : List Desk) → can_await (doing_at s desks) ≡ false
-      → ((by : ℕ) → by ≢ s → writer ≡ Some by → later ≡ Some by) → ((by : ℕ) → by ≢ s → doing_at by now ≡ doing_at by desks)
-      → IsHeld new later now cuts undo room → IsKept new later now cuts undo room
+  kept_but : (s : ℕ) (later : Option ℕ) (now : List Desk) → can_await (doing_at s desks) ≡ false → ((by : ℕ) → by ≢ s → writer ≡ Some by → later ≡ Some by)
+      → ((by : ℕ) → by ≢ s → doing_at by now ≡ doing_at by desks) → IsHeld new later now cuts undo room → IsKept new later now cuts undo room
   kept_but s later now rest rights others =
       kept_if later now
       (λ by writes can. let differs : by ≢ s = λ same. (let no : true ≡ false = sym can ∙ (ap (λ n. can_await (doing_at n desks)) same ∙ rest) in cc) in
@@ -99,22 +97,18 @@ module _ (old new : WorldState) (writer : Option ℕ) (desks : List Desk) (cuts 
     where
       without_stays : (writer : Option ℕ) (by : ℕ) → by ≢ s → writer ≡ Some by → writer_without writer s ≡ Some by
       without_stays None by differs writes = absurd (cc)
-      without_stays (Some w) by differs writes = ⊎_elim
-          (λ t. absurd (differs (let one : w ≡ by = cc in sym one ∙ t.1)))
-          (λ f. ap (λ (mine : Bool). if mine then None else Some w) f.0 ∙ writes) (eqb_tells w s)
+      without_stays (Some w) by differs writes = ⊎_elim (λ t. absurd (differs (let one : w ≡ by = cc in sym one ∙ t.1))) (λ f. ap (λ (mine : Bool). if mine then
+          None else Some w) f.0 ∙ writes) (eqb_tells w s)
 
 -- the right to write is taken
-pub kept_locked : (s : ℕ) (state : WorldState) (writer : Option ℕ) (desks : List Desk) (cuts : ℕ) (undo : UndoRoom) (room : WorkRoom)
-    → IsKept state writer desks cuts undo room → writer_without writer s ≡ None → IsHeld state (Some s) desks cuts undo room
-    → IsKept state (Some s) desks cuts undo room
+pub kept_locked : (s : ℕ) (state : WorldState) (writer : Option ℕ) (desks : List Desk) (cuts : ℕ) (undo : UndoRoom) (room : WorkRoom) → IsKept state writer
+    desks cuts undo room → writer_without writer s ≡ None → IsHeld state (Some s) desks cuts undo room → IsKept state (Some s) desks cuts undo room
 kept_locked s state writer desks cuts undo room kept free =
-    kept_if state state writer desks cuts undo room kept (same_no_more state state refl) (Some s) desks
-    (λ by writes can. (is_mine by writer free writes, refl))
+    kept_if state state writer desks cuts undo room kept (same_no_more state state refl) (Some s) desks (λ by writes can. (is_mine by writer free writes, refl))
   where
     is_mine : (by : ℕ) (writer : Option ℕ) → writer_without writer s ≡ None → writer ≡ Some by → Some s ≡ Some by
     is_mine by None free writes = absurd (cc)
-    is_mine by (Some w) free writes = ⊎_elim
-        (λ t. (let one : w ≡ by = cc in ap (λ n. Some n) (sym t.1 ∙ one)))
+    is_mine by (Some w) free writes = ⊎_elim (λ t. (let one : w ≡ by = cc in ap (λ n. Some n) (sym t.1 ∙ one)))
         (λ f. (let no : Some w ≡ None = ap (λ (mine : Bool). if mine then None else Some w) (sym f.0) ∙ free in absurd (cc))) (eqb_tells w s)
 
 -- ---- one session alone
@@ -176,11 +170,9 @@ module _ (s : ℕ) (old new : WorldState) (desks : List Desk) (undone : ℕ) (ch
       } in
       writer_of_only s (table_of change) undone new now at_new (ap can_await at) (ap (table_at undone) at ∙ table_on s chains old mid change next made)
   came mid reached.Done now at same awaits leaves gone made =
-      awaits_of_nobody new (Some s) now undone
-      (only_left s (table_of change) mid new (only_then s (table_of change) old mid only awaits same) leaves gone)
+      awaits_of_nobody new (Some s) now undone (only_left s (table_of change) mid new (only_then s (table_of change) old mid only awaits same) leaves gone)
   came mid (reached.Hindered other why) now at same awaits leaves gone made =
-      awaits_of_nobody new (Some s) now undone
-      (only_left s (table_of change) mid new (only_then s (table_of change) old mid only awaits same) leaves gone)
+      awaits_of_nobody new (Some s) now undone (only_left s (table_of change) mid new (only_then s (table_of change) old mid only awaits same) leaves gone)
 
   pub change_awaits : (doing : Doing) (answer : _) (now : List Desk) (step : StepsChange s change old new doing answer)
       → doing_at s now ≡ doing → step.mid.schemas ≡ old.schemas → AwaitsWriter new (Some s) now undone

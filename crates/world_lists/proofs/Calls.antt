@@ -1,14 +1,15 @@
 -- What a call finds of the lists: its session with its transaction, as the past says, what it has under way, and its desk.
-use Rattle.std.proofs.Common.{◌≡◌, ℕ, ◌+◌, ◌<◌, Bool, true, Option, Some, None, List, length, sym, ap, subst, ◌∙◌, arith, get_or, inl, inr, zero, suc, false}
-use Rattle.std.proofs.Common.{◌∷◌, map, refl, [], ◌≤◌}
+use Rattle.std.proofs.Common.{◌≡◌, ℕ, ◌+◌, ◌<◌, Bool, true, Option, Some, None, List, length, sym, ap, subst, ◌∙◌, arith, get_or, inl, inr, zero, suc, ◌∷◌}
+use Rattle.std.proofs.Common.{map, refl, []}
 use Rattle.std.proofs.lemmas.Bool.Decides.{eqb_tells}
 use Rattle.std.proofs.lemmas.List.{get_or-set_other}
+use Rattle.std.proofs.lemmas.Option.{slice_get-get_or}
 use Rattle.std.specs.Prelude.{slice_set, slice_index_or, is_some, slice_get, option_map}
-use Rattle.inno_types.specs.{declared.reply.Item.Item, declared.lock.Level.Level}
+use Rattle.inno_types.specs.declared.reply.Item.{Item}
 use Rattle.inno_model.specs.{declared.event.Event.Event, declared.event.Event.TheVariants.Acked}
 use Rattle.inno_model.specs.Past.{own, level, txn, view_of, started, under_way, of_item, IsOpen, awaits_ack}
 use Rattle.sql_history.specs.Settings.{Setting, at_first}
-use Rattle.law_past_agreement.specs.{Order.MayCome, Rows.place_in}
+use Rattle.law_past_agreement.specs.{Order.MayCome, Rows.place_in, Agreement.IsIdle, Agreement.IsWorkOf, Agreement.ViewAgrees}
 use Rattle.store_api.specs.declared.answers.Standing.{Standing}
 use Rattle.world.specs.State.{WorldState, Session, Work, IsSession, HasWork, standing_of, txn_of, Seen, own_of, level_of}
 use Rattle.world.specs.declared.undo_room.UndoRoom.{UndoRoom}
@@ -18,13 +19,10 @@ use Rattle.law_logged_changes.proofs.Listed.{listed_of}
 use Rattle.shared_lists.specs.{Tasks.Idle, State.Lists, State.task_of}
 use Rattle.desks.specs.{declared.desk.Desk.Desk, declared.desk.Doing.TheVariants.Nothing, Desks.fresh_desk, Desks.desk_at, Desks.doing_at, Desks.with_start}
 use Rattle.desks.specs.{Shown.seen_of, Holding.IsHeld}
-use Rattle.law_held_steps.proofs.{SeenEntries.rests_of, SeenEntries.setting_at, EntrySessions.start_here}
+use Rattle.law_held_steps.proofs.{Showing.rests_of, Showing.setting_at, Items.start_here, Keeping.open_work}
 use Rattle.world_lists.specs.Between.{IsKept}
-use Rattle.law_past_agreement.specs.Agreement.{IsIdle, IsWorkOf, ViewAgrees, owed_by, owed_by_txn, owed_by_item}
 use Rattle.law_world_agreement.specs.Agreement.{sight_of, work_at}
 use Rattle.law_world_agreement.proofs.{Opening.idle_of, Ending.work_of}
-use Rattle.std.proofs.lemmas.Bool.{cases_lt}
-use Rattle.std.proofs.lemmas.Option.{slice_get-get_or}
 
 pub one_some : {X : Type 0} (a b : X) → Some a ≡ Some b → a ≡ b
 one_some a b same = cc
@@ -32,19 +30,6 @@ one_some a b same = cc
 desk_read : (desks : List Desk) (s : ℕ) (read : Desk) → s < length desks → read ≡ get_or desks s read → read ≡ desk_at s desks
 desk_read desks s read within is =
     is ∙ one_some (get_or desks s read) (desk_at s desks) (sym (slice_get-get_or desks s read within) ∙ slice_get-get_or desks s fresh_desk within)
-
--- ---- who hasn't joined is owed nothing
-
-owes : (l : Option Level) (changes : ℕ) (waits : Bool) (item : ℕ) → owed_by_txn l changes waits + item ≡ 0 → is_some l ≡ true → ⊥
-owes (Some l) changes waits item none is = omega (arith, none)
-owes None changes waits item none is = cc
-
-joined_of_open : (state : WorldState) (w : ℕ) → (length state.names ≤ w → owed_by state.past w ≡ 0) → IsOpen w state.past → w < length state.names
-joined_of_open state w strangers open_is = elim (cases_lt w (length state.names)) [
-  | inl joined ↦ joined
-  | inr stranger ↦ absurd (owes (level w state.past) (length (own w state.past)) (awaits_ack (of_item w state.past)) (owed_by_item (under_way w state.past))
-      (strangers stranger) open_is)
-]
 
 -- ---- what is read of a session is what the past says
 
@@ -65,8 +50,7 @@ module _ {state : WorldState} {writer : Option ℕ} {desks : List Desk} {cuts : 
     has : (work : Work) → session.work ≡ Some work → HasWork s session work state
     has work work_is = record { session_is = is; work_is = work_is }
 
-    work_says : (work : Work) → session.work ≡ Some work → IsWorkOf state.schemas state.past s
-        (work_at (map (place_in state.schemas) (own s state.past)) work)
+    work_says : (work : Work) → session.work ≡ Some work → IsWorkOf state.schemas state.past s (work_at (map (place_in state.schemas) (own s state.past)) work)
     work_says work work_is = work_of held.chains writer state s session work held.agrees (has work work_is)
 
     idle_says : session.work ≡ None → IsIdle state.past s
@@ -94,12 +78,7 @@ module _ {state : WorldState} {writer : Option ℕ} {desks : List Desk} {cuts : 
 
     own_is : (standing_of session).own ≡ length (own s state.past)
     own_is =
-        by_work (λ none. ap own_of none ∙ sym (ap length (idle_says none).own_is))
-        (λ work was. ap own_of was ∙ held.agrees.own s session work (has work was))
-
-    open_has : IsOpen s state.past → (work : Work) × HasWork s session work state
-    open_has open_is =
-        by_work (λ none. absurd (let no : false ≡ true = sym (ap is_some (idle_says none).level_is) ∙ open_is in cc)) (λ work was. (work, has work was))
+        by_work (λ none. ap own_of none ∙ sym (ap length (idle_says none).own_is)) (λ work was. ap own_of was ∙ held.agrees.own s session work (has work was))
 
     view_by : (view : Option Seen) → ViewAgrees state.past s (option_map sight_of view) → is_some view ≡ is_some (view_of s state.past)
     view_by None agrees = sym (ap is_some agrees)
@@ -110,10 +89,6 @@ module _ {state : WorldState} {writer : Option ℕ} {desks : List Desk} {cuts : 
 
     pub closed_none : level s state.past ≡ None → session.work ≡ None
     closed_none closed = by_work (λ none. none) (λ work was. absurd (none_some work.level (sym closed ∙ (work_says work was).level_is)))
-
-  -- who has an open transaction has joined
-  pub open_joined : (w : ℕ) → IsOpen w state.past → w < length state.names
-  open_joined w open_is = joined_of_open state w (held.agrees.lists.strangers w) open_is
 
 module _ (s : ℕ) {state : WorldState} {writer : Option ℕ} {desks : List Desk} {cuts : ℕ} {undo : UndoRoom} {room : WorkRoom} {lists : Lists}
     (kept : IsKept state writer desks cuts undo room) (view : seen_of undo.table room.stage state writer desks ≡ lists) where
@@ -130,9 +105,7 @@ module _ (s : ℕ) {state : WorldState} {writer : Option ℕ} {desks : List Desk
   its_session joined = there kept.held s (joined_here joined)
 
   pub its_work : s < length lists.state.names → IsOpen s lists.state.past → (session : Session) × (work : Work) × HasWork s session work state
-  its_work joined is_open =
-      let (session, is) = its_session joined in
-      let (work, has) = open_has kept.held s is (past_here (IsOpen s) is_open) in (session, work, has)
+  its_work joined is_open = open_work kept.held.agrees s (past_here (IsOpen s) is_open)
 
   pub at_rest : task_of s lists.state ≡ Idle → doing_at s desks ≡ Nothing
   at_rest idle = rests_of s undo.table room.stage state writer desks (subst (λ (l : Lists). task_of s l.state ≡ Idle) (sym view) idle)
@@ -193,7 +166,7 @@ module _ (s : ℕ) {state : WorldState} {writer : Option ℕ} {desks : List Desk
       → setting ≡ slice_index_or lists.settings s at_first
   setting_read joined read =
       let (session, is) = its_session joined in
-      read session is ∙ sym (setting_at state.sessions s session is) ∙ ap (λ (l : Lists). slice_index_or l.settings s at_first) view
+      read session is ∙ sym (setting_at state.sessions s is) ∙ ap (λ (l : Lists). slice_index_or l.settings s at_first) view
 
   -- ---- it has room for its entries
 

@@ -10,7 +10,7 @@ use Rattle.store_api.specs.{declared.moves.Move.Move, declared.moves.Move.TheVar
 use Rattle.row_versions.specs.Chains.{Chains}
 use Rattle.law_past_agreement.specs.Order.{created}
 use Rattle.key_codec.specs.Keys.{IsOfKind}
-use Rattle.world.specs.{State.WorldState, Told.IsTold, Undoing.read_into, declared.undo_room.UndoRoom.UndoRoom}
+use Rattle.world.specs.{State.WorldState, Told.IsTold, declared.undo_room.UndoRoom.UndoRoom}
 use Rattle.row_changes.specs.{Awaited.AwaitsIn, declared.row_edit.RowEdit.RowEdit, declared.row_change.RowChange.RowChange}
 use Rattle.row_changes.specs.{declared.row_change.RowChange.TheVariants.Record, declared.row_change.RowChange.TheVariants.Keys}
 use Rattle.row_changes.specs.{declared.reached.Reached.Reached, declared.reached.Reached.TheVariants.Went, declared.reached.Reached.TheVariants.Done}
@@ -19,23 +19,22 @@ use Rattle.row_changes.specs.{Rows.table_of, Rows.primary_of}
 use Rattle.row_changes.proofs.Changing.{lacks_memory}
 use Rattle.law_logged_changes.proofs.ReadersLeft.{left_told}
 use Rattle.undo_apply.specs.declared.work_room.WorkRoom.{WorkRoom}
-use Rattle.shared_lists.specs.{Fitting.FitsWell, declared.answers.Changed.Changed}
-use Rattle.shared_lists.specs.declared.answers.Changed.TheVariants as answers
+use Rattle.shared_lists.specs.{Fitting.FitsWell, declared.answers.Changed.Changed, State.Lists, State.Turns, State.task_of, Steps.Changes, Steps.rows_entered}
 use Rattle.shared_lists.specs.Tasks.{Task, Idle, asked, left_by, is_changing, steps_left}
-use Rattle.shared_lists.specs.{State.Lists, State.Turns, State.task_of, Steps.Changes, Steps.rows_entered}
 use Rattle.desks.specs.{declared.desk.Desk.Desk, declared.desk.Doing.Doing, Desks.doing_at, Desks.with_doing, Shown.lists_of, Shown.shown, Shown.seen_of}
 use Rattle.desks.specs.{Undoing.undo_left_in, Holding.IsHeld}
 use Rattle.desks.specs.declared.desk.Doing.TheVariants.{Nothing, Searching, Changing, Lagging, Undoing}
 use Rattle.desks.proofs.Showing.{task_is}
 use Rattle.law_held_steps.specs.{Beginning.IsEditable, Beginning.IsKeyOfEdit, Beginning.begun, Leaving.is_searching, Leaving.LeavesIndexes}
 use Rattle.law_held_steps.specs.{Leaving.LeavesTable, Making.doing_after, Making.Comes, Making.LeavesLists, Making.MakesChange}
-use Rattle.law_held_steps.proofs.{Begun.can_be_keyed, Begun.begins, Beside.rows_of_writer, Desks.doing_here, Desks.changes_at_a_desk, Left.held_left}
-use Rattle.law_held_steps.proofs.{Made.change_made}
+use Rattle.law_held_steps.proofs.{Made.can_be_keyed, Made.begins, Made.change_made, Putting.rows_mine, Desks.doing_here, Desks.changes_at_a_desk}
+use Rattle.law_held_steps.proofs.{Left.held_left}
 use Rattle.law_held_steps.proofs.Showing.{begun_turns, begun_task, went_shown, entered_shown, done_shown, given_up_shown, rows_shown, left_shown}
 use Rattle.world_lists.specs.Between.{IsKept, AwaitsWriter, can_await, table_at}
 use Rattle.world_lists.specs.Parts.{StepsChange, StepsAtDesk, HasChange, LeavesIfOver, doing_now, is_told, answer_for}
 use Rattle.world_lists.proofs.{Awaiting.kept_beside, Awaiting.same_no_more, Awaiting.change_awaits, Awaiting.only_mine, Calls.past_here, Calls.at_rest}
 use Rattle.world_lists.proofs.{Calls.at_desk, Calls.writer_now}
+use Rattle.shared_lists.specs.declared.answers.Changed.TheVariants as answers
 
 -- ---- the table of a change
 
@@ -80,8 +79,7 @@ module _ (s : ℕ) {table : ℕ} (change : RowChange) (table_is : table ≡ tabl
 
     pub table_over : came ≡ Done → HasTable table new
     table_over is =
-        subst (λ n. HasTable n new) (sym table_is)
-        (done_table s may.0 old new change may.1 (subst (ChangesRow s may.0 old new change) is (made may.0 may.1)))
+        subst (λ n. HasTable n new) (sym table_is) (done_table s may.0 old new change may.1 (subst (ChangesRow s may.0 old new change) is (made may.0 may.1)))
 
 pub gone_by : {s table other : ℕ} {old new : WorldState} → table ≡ other → LeavesTable s table old new → LeavesTable s other old new
 gone_by {s} {old = old} {new = new} same gone = subst (λ n. LeavesTable s n old new) same gone
@@ -104,11 +102,10 @@ lies_there (Record change key after) (Keys next) is = ap (doing_now (Record chan
 lies_there (Keys change) (Record next key after) is = ap (doing_now (Keys change) (Record next key after)) is
 lies_there (Keys change) (Keys next) is = ap (doing_now (Keys change) (Keys next)) is
 
-pub step_of : {s : ℕ} (change : RowChange) {old mid new : WorldState} {doing : Doing} {answer : Changed} {came : Reached RowChange}
-    (reached : Reached RowChange) → AwaitsIn s (table_of change) old mid → LeavesIndexes s mid new → came ≡ reached
-    → ((chains : Chains) → IsChangingRow s chains old change → ChangesRow s chains old mid change came)
-    → LeavesIfOver s (table_of change) mid new reached → doing ≡ doing_after change reached → answer ≡ answer_for change reached
-    → StepsChange s change old new doing answer
+pub step_of : {s : ℕ} (change : RowChange) {old mid new : WorldState} {doing : Doing} {answer : Changed} {came : Reached RowChange} (reached : Reached
+    RowChange) → AwaitsIn s (table_of change) old mid → LeavesIndexes s mid new → came ≡ reached → ((chains : Chains) → IsChangingRow s chains old change
+    → ChangesRow s chains old mid change came) → LeavesIfOver s (table_of change) mid new reached → doing ≡ doing_after change reached → answer ≡ answer_for
+    change reached → StepsChange s change old new doing answer
 step_of {s} change {old} {mid} reached awaits left is made gone doing_is answer_is = record {
   mid = mid;
   reached = reached;
@@ -168,7 +165,7 @@ module _ (s : ℕ) {state : WorldState} {writer : Option ℕ} {desks : List Desk
   fits_mine = subst (FitsWell (created state.past)) (sym is) (past_here s kept view (λ h. FitsWell (created h) change) fits)
 
   can : IsEditable state table edit
-  can = can_be_keyed state s desks cuts undo room held_mine table edit fits_mine
+  can = can_be_keyed held_mine table edit fits_mine
 
   pub edit_within : table < length slice
   edit_within = subst (λ (schemas : List Schema). table < length schemas) (sym (slice_is ∙ tables_are)) can.within
@@ -179,8 +176,7 @@ module _ (s : ℕ) {state : WorldState} {writer : Option ℕ} {desks : List Desk
 
     pub edit_keyed : (column : Column) × (slice_get found.columns found.primary ≡ Some column) × IsOfKind column.kind (primary_of found edit)
     edit_keyed =
-        subst (λ (schema : Schema). (column : Column) × (slice_get schema.columns schema.primary ≡ Some column) × IsOfKind column.kind
-        (primary_of schema edit))
+        subst (λ (schema : Schema). (column : Column) × (slice_get schema.columns schema.primary ≡ Some column) × IsOfKind column.kind (primary_of schema edit))
         one (can.column, can.primary, can.of_kind)
 
     module _ (idle : task_of s lists.state ≡ Idle) (key : List ℕ) (spelled : IsKeyOfEdit found edit key) {first : RowChange}
@@ -193,18 +189,16 @@ module _ (s : ℕ) {state : WorldState} {writer : Option ℕ} {desks : List Desk
           let rests = at_rest s kept view idle in
           let there = subst (λ (schema : Schema). slice_get state.schemas table ≡ Some schema) one can.there in
           kept_beside state state writer desks cuts undo room kept (same_no_more state state refl) s _ later (ap can_await rests) gives
-          (subst (λ (w : Option ℕ). IsHeld state w later cuts undo room) (sym (writer_now s kept view locked))
-          (subst (λ (ds : List Desk). IsHeld state (Some s) ds cuts undo room) (sym gives)
-          (begins state s desks cuts undo room held_mine table found edit key rests (past_here s kept view (IsOpen s) is_open) fits_mine there spelled)))
+          (subst (λ (w : Option ℕ). IsHeld state w later cuts undo room) (sym (writer_now s kept view locked)) (subst (λ (ds : List Desk). IsHeld state (Some s)
+          ds cuts undo room) (sym gives) (begins held_mine table found edit key rests (past_here s kept view (IsOpen s) is_open) fits_mine there spelled)))
 
       pub change_begins : s < length lists.state.names → Begins s change lists (seen_of undo.table room.stage state writer later)
       change_begins joined =
           let left = undo_left_in undo.table room.stage state in
           let now : Lists = lists_of state (Some s) (with_doing s (Changing (begun table edit key)) desks) left in
-          let task = begun_task state s desks cuts undo room held_mine (at_desk s kept view joined) left table edit key now refl in
-          let mine : Begins s change (lists_of state (Some s) desks left) now
-          = record {
-            turns = begun_turns state s desks cuts undo room held_mine (at_desk s kept view joined) left left table edit key now refl;
+          let task = begun_task held_mine (at_desk s kept view joined) left table edit key now refl in
+          let mine : Begins s change (lists_of state (Some s) desks left) now = record {
+            turns = begun_turns held_mine (at_desk s kept view joined) left left table edit key now refl;
             changing = task.0;
             asked_is = subst (λ (asks : Change). asked (task_of s now.state) ≡ Some asks) is task.1;
             few = task.2;
@@ -245,25 +239,19 @@ module _ (s : ℕ) (desks : List Desk) (cuts : ℕ) (undo : UndoRoom) (room : Wo
 
   came_shown : (change : RowChange) (came : Reached RowChange) → doing_at s desks ≡ Changing change → Comes s old new change came → Shows change came
   came_shown (Record change key after) (Went (Record next key' after')) at comes =
-      all_of (went_shown s desks cuts undo room old new left later held leaves (Record change key after) at (Record next key' after') comes) leaves.settings
-      (no_more new.rows old.rows comes.adds.rows)
+      all_of (went_shown left later held leaves at comes) leaves.settings (no_more new.rows old.rows comes.adds.rows)
   came_shown (Record change key after) (Went (Keys next)) at comes =
-      all_of (entered_shown s desks cuts undo room old new left later held leaves (Record change key after) at (Keys next) comes) leaves.settings
-      (rows_shown s desks old new (Record change key after) (Keys next) left at comes)
+      all_of (entered_shown left later held leaves at comes) leaves.settings (rows_shown desks left at comes)
   came_shown (Keys change) (Went (Record next key' after')) at comes = absurd comes
   came_shown (Keys change) (Went (Keys next)) at comes =
-      all_of (went_shown s desks cuts undo room old new left later held leaves (Keys change) at (Keys next) comes) leaves.settings
-      (no_more new.rows old.rows comes.adds.rows)
+      all_of (went_shown left later held leaves at comes) leaves.settings (no_more new.rows old.rows comes.adds.rows)
   came_shown (Record change key after) Done at comes = absurd (let none = comes.1 in cc)
   came_shown (Keys change) Done at comes =
-      all_of (done_shown s desks cuts undo room old new left later held leaves (Keys change) at comes.0 comes.1) leaves.settings
-      (no_more new.rows old.rows comes.0.rows)
+      all_of (done_shown left later held leaves at comes.0 comes.1) leaves.settings (no_more new.rows old.rows comes.0.rows)
   came_shown (Record change key after) (Hindered same why) at comes =
-      all_of (given_up_shown s desks cuts undo room old new left later held leaves (Record change key after) at comes.0) leaves.settings
-      (no_more new.rows old.rows comes.0.rows)
+      all_of (given_up_shown left later held leaves at comes.0) leaves.settings (no_more new.rows old.rows comes.0.rows)
   came_shown (Keys change) (Hindered same why) at comes =
-      all_of (given_up_shown s desks cuts undo room old new left later held leaves (Keys change) at comes.0) leaves.settings
-      (no_more new.rows old.rows comes.0.rows)
+      all_of (given_up_shown left later held leaves at comes.0) leaves.settings (no_more new.rows old.rows comes.0.rows)
 
 module _ (s : ℕ) (desks : List Desk) (cuts : ℕ) (undo : UndoRoom) (room : WorkRoom) (old new : WorldState) (change : RowChange) (doing : Doing)
     (answer : Changed) (step : StepsChange s change old new doing answer) (held : IsHeld old (Some s) desks cuts undo room)
@@ -278,7 +266,7 @@ module _ (s : ℕ) (desks : List Desk) (cuts : ℕ) (undo : UndoRoom) (room : Wo
 
   is_made : MakesChange s desks cuts undo room old step.mid change step.reached
   is_made =
-      change_made s desks cuts undo room old step.mid change step.reached held at step.made was told_mid
+      change_made held at step.made was told_mid
       (subst (λ (past : List Event). length past < 2 ^ 63) (ap (λ (state : WorldState). state.past) step.left.rest) few)
 
   mid_same : step.mid.schemas ≡ old.schemas
@@ -286,31 +274,25 @@ module _ (s : ℕ) (desks : List Desk) (cuts : ℕ) (undo : UndoRoom) (room : Wo
 
   mine_awaits : AwaitsWriter old (Some s) desks undo.table → (later : List Desk) → doing_at s later ≡ doing → AwaitsWriter new (Some s) later undo.table
   mine_awaits awaits later now =
-      change_awaits s old new desks undo.table change
-      (only_mine s old (Some s) desks undo.table (table_of change) awaits refl (ap (table_at undo.table) at))
-      held.chains (rows_of_writer s (Some s) held.chains old desks (read_into undo) room (Changing change) refl at held.rows).0
-      (ap (λ (state : WorldState). state.schemas) step.left.rest ∙ mid_same) doing answer later step now mid_same
+      change_awaits s old new desks undo.table change (only_mine s old (Some s) desks undo.table (table_of change) awaits refl (ap (table_at undo.table) at))
+      held.chains (rows_mine s held refl at).0 (ap (λ (state : WorldState). state.schemas) step.left.rest ∙ mid_same) doing answer later step now mid_same
 
   abbrev desks_then : List Desk
   desks_then = with_doing s (doing_after change step.reached) desks
 
   none : is_searching (doing_at s desks_then) ≡ false
-  none = ap is_searching (doing_here s (doing_after change step.reached) desks (changes_at_a_desk s change desks at)) ∙ not_searching change step.reached
+  none = ap is_searching (doing_here s (doing_after change step.reached) desks (changes_at_a_desk s desks at)) ∙ not_searching change step.reached
 
   mine_held : IsHeld new (Some s) (with_doing s doing desks) cuts undo room
-  mine_held =
-      subst (λ (d : Doing). IsHeld new (Some s) (with_doing s d desks) cuts undo room) (sym step.doing_is)
-      (held_left s (Some s) step.mid new step.left desks_then cuts undo room is_made.held none told)
+  mine_held = subst (λ (d : Doing). IsHeld new (Some s) (with_doing s d desks) cuts undo room) (sym step.doing_is) (held_left step.left is_made.held none told)
 
   mine_shown : (left later : ℕ) → ChangesIn s (lists_of old (Some s) desks left) (lists_of new (Some s) (with_doing s doing desks) later) answer
   mine_shown left later =
       let before : Lists = lists_of old (Some s) desks left in
       let shows = came_shown s desks cuts undo room old step.mid left later held is_made.leaves change step.reached at is_made.comes in
       subst (λ (d : Doing). ChangesIn s before (lists_of new (Some s) (with_doing s d desks) later) answer) (sym step.doing_is)
-      (subst (λ (a : Changed). ChangesIn s before (lists_of new (Some s) desks_then later) a) (sym step.answer_is)
-      (subst (λ (now : Lists). ChangesIn s before now (answer_for change step.reached))
-      (sym (left_shown s (Some s) desks_then later step.mid new step.left none told))
-      shows))
+      (subst (λ (a : Changed). ChangesIn s before (lists_of new (Some s) desks_then later) a) (sym step.answer_is) (subst (λ (now : Lists). ChangesIn s before
+      now (answer_for change step.reached)) (sym (left_shown (Some s) desks_then later step.left none told)) shows))
 
 changing_shown : (schemas : List Schema) (left : ℕ) (doing : Doing) → is_changing (shown schemas left doing) ≡ true
     → (change : RowChange) × (doing ≡ Changing change)
@@ -338,23 +320,20 @@ module _ (s : ℕ) {old : WorldState} {writer : Option ℕ} {desks : List Desk} 
       {later : List Desk} (gives : later ≡ with_doing s doing desks) where
     pub step_kept : IsKept new writer later cuts undo room
     step_kept = record {
-      held = subst (λ (w : Option ℕ). IsHeld new w later cuts undo room) (sym its)
-          (subst (λ (ds : List Desk). IsHeld new (Some s) ds cuts undo room) (sym gives)
-          (mine_held s desks cuts undo room old new change doing answer step held_now at was told few));
+      held = subst (λ (w : Option ℕ). IsHeld new w later cuts undo room) (sym its) (subst (λ (ds : List Desk). IsHeld new (Some s) ds cuts undo room)
+          (sym gives) (mine_held s desks cuts undo room old new change doing answer step held_now at was told few));
       record_room = kept.record_room;
-      awaits = subst (λ (w : Option ℕ). AwaitsWriter new w later undo.table) (sym its)
-          (mine_awaits s desks cuts undo room old new change doing answer step held_now at was told few
-          (subst (λ (w : Option ℕ). AwaitsWriter old w desks undo.table) its kept.awaits) later
-          (ap (doing_at s) gives ∙ doing_here s doing desks (changes_at_a_desk s change desks at)));
+      awaits = subst (λ (w : Option ℕ). AwaitsWriter new w later undo.table) (sym its) (mine_awaits s desks cuts undo room old new change doing answer step
+          held_now at was told few (subst (λ (w : Option ℕ). AwaitsWriter old w desks undo.table) its kept.awaits) later (ap (doing_at s) gives ∙ doing_here s
+          doing desks (changes_at_a_desk s desks at)));
     }
 
     pub step_shown : ChangesIn s lists (seen_of undo.table room.stage new writer later) answer
     step_shown =
         let left_now = undo_left_in undo.table room.stage new in
-        subst (λ (l : Lists). ChangesIn s l (lists_of new writer later left_now) answer) view
-        (subst (λ (w : Option ℕ). ChangesIn s (lists_of old w desks left) (lists_of new w later left_now) answer) (sym its)
-        (subst (λ (ds : List Desk). ChangesIn s (lists_of old (Some s) desks left) (lists_of new (Some s) ds left_now) answer) (sym gives)
-        (mine_shown s desks cuts undo room old new change doing answer step held_now at was told few left left_now)))
+        subst (λ (l : Lists). ChangesIn s l (lists_of new writer later left_now) answer) view (subst (λ (w : Option ℕ). ChangesIn s (lists_of old w desks left)
+        (lists_of new w later left_now) answer) (sym its) (subst (λ (ds : List Desk). ChangesIn s (lists_of old (Some s) desks left) (lists_of new (Some s) ds
+        left_now) answer) (sym gives) (mine_shown s desks cuts undo room old new change doing answer step held_now at was told few left left_now)))
 
     -- a change that was asked for and is given up is nothing
     pub step_stops : (asks : Change) → asked (task_of s lists.state) ≡ Some asks → answer ≡ answers.NoMemory
@@ -367,14 +346,12 @@ module _ (s : ℕ) {old : WorldState} {writer : Option ℕ} {desks : List Desk} 
     -- who shows that it changes a row has a change under way
     pub may_change : HasChange s old desks
     may_change =
-        let found =
-        changing_shown old.schemas left (doing_at s desks)
-        (subst (λ (t : Task). is_changing t ≡ true) (task_is s left old writer desks)
+        let found = changing_shown old.schemas left (doing_at s desks) (subst (λ (t : Task). is_changing t ≡ true) (task_is s left old writer desks)
         (subst (λ (l : Lists). is_changing (task_of s l.state) ≡ true) (sym view) changing)) in (
           found.0,
           found.1,
           kept.held.chains,
-          (rows_of_writer s writer kept.held.chains old desks (read_into undo) room (Changing found.0) its found.1 kept.held.rows).0,
+          (rows_mine s kept.held its found.1).0,
         )
 
     module _ {new : WorldState} (was : IsTold old) (told : IsTold new) (few : length new.past < 2 ^ 63) {later : List Desk} {answer : Changed}

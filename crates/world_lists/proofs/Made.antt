@@ -2,7 +2,7 @@
 use Rattle.std.proofs.Common.{◌≡◌, ℕ, ◌+◌, ◌<◌, ◌^◌, true, false, Option, Some, None, List, ◌∷◌, ◌++◌, length, refl, sym, ap, subst, ◌∙◌, arith, [], ◌-◌}
 use Rattle.std.proofs.lemmas.List.{length-map, length-set}
 use Rattle.std.specs.Prelude.{Result, Ok, Err, OnOk, OnErr, is_ok, if◌then◌else◌, slice_set, slice_index_or, slice_get}
-use Rattle.inno_types.specs.{declared.value.Schema.Schema, declared.reply.Item.Item, declared.reply.Reply.Reply, declared.stmt.Stmt.Stmt}
+use Rattle.inno_types.specs.{declared.reply.Item.Item, declared.reply.Reply.Reply, declared.stmt.Stmt.Stmt}
 use Rattle.inno_model.specs.declared.event.Event.{Event}
 use Rattle.inno_model.specs.declared.event.Event.TheVariants.{Started, Ended, View, Committed, Acked, RolledBack, Signal, Begin}
 use Rattle.inno_model.specs.Past.{own, txn, started, under_way, IsOpen, begins, IsClosed}
@@ -19,14 +19,12 @@ use Rattle.undo_apply.specs.declared.work_room.WorkRoom.{WorkRoom}
 use Rattle.world.specs.EngineCalls.{joined as with_joined, item_started, item_ended, acknowledged, signalled, with_setting}
 use Rattle.shared_lists.specs.Tasks.{Idle}
 use Rattle.shared_lists.specs.State.{Lists, task_of, IsNow, Adds, Closes, Stays, writer_without}
-use Rattle.desks.specs.{declared.desk.Desk.Desk, Desks.fresh_desk, Desks.doing_at, Desks.with_start, Holding.IsHeld, Shown.seen_of, Shown.shown}
-use Rattle.desks.specs.{Undoing.undo_left_in}
-use Rattle.desks.proofs.Showing.{task_is}
+use Rattle.desks.specs.{declared.desk.Desk.Desk, Desks.fresh_desk, Desks.doing_at, Desks.with_start, Holding.IsHeld, Shown.seen_of}
 use Rattle.law_held_steps.specs.SeenEntries.{settings_of}
-use Rattle.law_held_steps.proofs.SeenEntries.{left_same, now_of, settings_by, settings_same, settings_now}
-use Rattle.law_held_steps.proofs.Joining.{joined_held, one_more}
-use Rattle.law_held_steps.proofs.Items.{started_held, ended_held, acked_held, signal_held, unentered_held}
-use Rattle.law_held_steps.proofs.Transactions.{txn_here, txn_elsewhere, viewed_held, saved_held, committed_held, rolled_back_held, opened_held}
+use Rattle.law_held_steps.proofs.Showing.{tasks_same, now_of, settings_by, settings_same, settings_now}
+use Rattle.law_held_steps.proofs.Tables.{joined_held, one_more}
+use Rattle.law_held_steps.proofs.Items.{started_held, ended_held, acked_held, signal_held, unentered_held, txn_here, txn_elsewhere, viewed_held, saved_held}
+use Rattle.law_held_steps.proofs.Items.{committed_held, rolled_back_held, opened_held}
 use Rattle.world_lists.specs.Between.{IsKept}
 use Rattle.world_lists.proofs.Awaiting.{kept_on, kept_by, kept_closed, no_more_in}
 use Rattle.world_lists.proofs.Calls.{past_here, joined_here, its_session, its_work, its_listed, its_txn, its_own, at_rest, doing_started, closed_none}
@@ -71,17 +69,15 @@ module _ (s : ℕ) {old : WorldState} {writer : Option ℕ} {desks : List Desk} 
 
   -- ---- what callers see
 
-  seen_now : (past : List Event → List Event) (later : Option ℕ → Option ℕ) (now : List Desk) {new target : WorldState} → new ≡ target
-      → target.names ≡ old.names → target.past ≡ past old.past → target.schemas ≡ old.schemas → target.versions ≡ old.versions
-      → ((u : ℕ) → doing_at u now ≡ doing_at u desks)
-      → IsNow (past lists.state.past) s (task_of s lists.state) (later lists.state.writer) lists.state
-      (seen_of undo.table room.stage new (later writer) now).state
+  seen_now : (past : List Event → List Event) (later : Option ℕ → Option ℕ) (now : List Desk) {new target : WorldState} → new ≡ target → target.names ≡
+      old.names → target.past ≡ past old.past → target.schemas ≡ old.schemas → target.versions ≡ old.versions → ((u : ℕ) → doing_at u now ≡ doing_at u desks)
+      → IsNow (past lists.state.past) s (task_of s lists.state) (later lists.state.writer) lists.state (seen_of undo.table room.stage new (later writer)
+      now).state
   seen_now past later now {new} is names past_is schemas versions doing =
-      subst (λ (l : Lists). IsNow (past l.state.past) s (task_of s l.state) (later l.state.writer) l.state
-      (seen_of undo.table room.stage new (later writer) now).state) view
-      (now_of s undo.table room.stage old new writer (later writer) desks now (past old.past)
-      (ap (λ (w : WorldState). w.names) is ∙ names) (ap (λ (w : WorldState). w.past) is ∙ past_is) (ap (λ (w : WorldState). w.schemas) is ∙ schemas)
-      (ap (λ (w : WorldState). w.versions) is ∙ versions) doing)
+      subst (λ (l : Lists). IsNow (past l.state.past) s (task_of s l.state) (later l.state.writer) l.state (seen_of undo.table room.stage new (later writer)
+      now).state) view (now_of s undo.table room.stage old new writer (later writer) desks now (past old.past) (ap (λ (w : WorldState). w.names) is ∙ names)
+      (ap (λ (w : WorldState). w.past) is ∙ past_is) (ap (λ (w : WorldState). w.schemas) is ∙ schemas) (ap (λ (w : WorldState). w.versions) is ∙ versions)
+      doing)
 
   pub adds : (e : Event) {new target : WorldState} → new ≡ target → target.names ≡ old.names → target.past ≡ e ∷ old.past
       → target.schemas ≡ old.schemas → target.versions ≡ old.versions → Adds e s lists.state (seen_of undo.table room.stage new writer desks).state
@@ -109,23 +105,10 @@ module _ (s : ℕ) {old : WorldState} {writer : Option ℕ} {desks : List Desk} 
       → settings_of target.sessions ≡ slice_set (settings_of old.sessions) s (f (slice_index_or (settings_of old.sessions) s at_first))
       → settings_of new.sessions ≡ slice_set lists.settings s (f (slice_index_or lists.settings s at_first))
   reset_as f is set =
-      ap (λ (w : WorldState). settings_of w.sessions) is ∙ set
-      ∙ ap (λ (l : Lists). slice_set l.settings s (f (slice_index_or l.settings s at_first))) view
+      ap (λ (w : WorldState). settings_of w.sessions) is ∙ set ∙ ap (λ (l : Lists). slice_set l.settings s (f (slice_index_or l.settings s at_first))) view
 
   pub same_rows : {new target : WorldState} → new ≡ target → target.rows ≡ old.rows → new.rows ≡ lists.rows
   same_rows is same = ap (λ (w : WorldState). w.rows) is ∙ same ∙ ap (λ (l : Lists). l.rows) view
-
-  -- what the sessions have under way, whoever has joined
-  pub tasks_same : (new : WorldState) (now : List Desk) → new.schemas ≡ old.schemas → new.versions ≡ old.versions
-      → ((u : ℕ) → doing_at u now ≡ doing_at u desks)
-      → (u : ℕ) → task_of u (seen_of undo.table room.stage new writer now).state ≡ task_of u lists.state
-  tasks_same new now schemas versions doing u =
-      task_is u (undo_left_in undo.table room.stage new) new writer now
-      ∙ ap (λ n. shown new.schemas n (doing_at u now)) (left_same undo.table room.stage old new schemas versions)
-      ∙ ap (λ (x : List Schema). shown x (undo_left_in undo.table room.stage old) (doing_at u now)) schemas
-      ∙ ap (shown old.schemas (undo_left_in undo.table room.stage old)) (doing u)
-      ∙ sym (task_is u (undo_left_in undo.table room.stage old) old writer desks)
-      ∙ ap (λ (l : Lists). task_of u l.state) view
 
   -- ---- another session
 
@@ -136,12 +119,13 @@ module _ (s : ℕ) {old : WorldState} {writer : Option ℕ} {desks : List Desk} 
     pub joined_kept : IsTold old → length old.names < 68 → IsKept new writer now cuts undo room
     joined_kept told few =
         kept_by old new writer desks cuts undo room kept (no_more_in old new (with_joined name old) made refl refl) now as_before
-        (subst (λ (w : WorldState). IsHeld w writer now cuts undo room) (sym made)
-        (subst (λ (ds : List Desk). IsHeld (with_joined name old) writer ds cuts undo room) (sym now_is)
-        (joined_held writer cuts undo room old desks kept.held told name few)))
+        (subst (λ (w : WorldState). IsHeld w writer now cuts undo room) (sym made) (subst (λ (ds : List Desk). IsHeld (with_joined name old) writer ds cuts undo
+        room) (sym now_is) (joined_held kept.held told name few)))
 
     pub joined_tasks : (u : ℕ) → task_of u (seen_of undo.table room.stage new writer now).state ≡ task_of u lists.state
-    joined_tasks = tasks_same new now (ap (λ (w : WorldState). w.schemas) made) (ap (λ (w : WorldState). w.versions) made) as_before
+    joined_tasks u =
+        tasks_same undo.table room.stage old new writer writer desks now (ap (λ (w : WorldState). w.schemas) made) (ap (λ (w : WorldState). w.versions) made)
+        as_before u ∙ ap (λ (l : Lists). task_of u l.state) view
 
   module _ (joined : s < length lists.state.names) where
     abbrev mine : Session
@@ -156,15 +140,14 @@ module _ (s : ℕ) {old : WorldState} {writer : Option ℕ} {desks : List Desk} 
       pub acked_kept : task_of s lists.state ≡ Idle → IsTold old → MayCome lists.state.past (Acked s moment) → length new.past < 2 ^ 63
           → IsKept new writer desks cuts undo room
       acked_kept idle told may few =
-          kept_as (made mine its) refl refl
-          (acked_held writer cuts undo room old desks kept.held s (at_rest s kept view idle) told mine its moment (joined_here s kept view joined)
+          kept_as (made mine its) refl refl (acked_held kept.held s (at_rest s kept view idle) told mine its moment (joined_here s kept view joined)
           (past_here s kept view (λ h. MayCome h (Acked s moment)) may) (few_by (Acked s moment) (made mine its) refl few))
 
       pub acked_adds : Adds (Acked s moment) s lists.state (seen_of undo.table room.stage new writer desks).state
       acked_adds = adds (Acked s moment) (made mine its) refl refl refl refl
 
       pub acked_unset : settings_of new.sessions ≡ lists.settings
-      acked_unset = unset_as (made mine its) (settings_same old.sessions s mine (record mine { can_ack = false }) its refl)
+      acked_unset = unset_as (made mine its) (settings_same old.sessions s (record mine { can_ack = false }) its refl)
 
       pub acked_rows : new.rows ≡ lists.rows
       acked_rows = same_rows (made mine its) refl
@@ -174,9 +157,8 @@ module _ (s : ℕ) {old : WorldState} {writer : Option ℕ} {desks : List Desk} 
     module _ (name : List ℕ) {new : WorldState} (made : new ≡ signalled name old) where
       pub signal_kept : task_of s lists.state ≡ Idle → IsTold old → length new.past < 2 ^ 63 → IsKept new writer desks cuts undo room
       signal_kept idle told few =
-          kept_as made refl refl
-          (signal_held writer cuts undo room old desks kept.held s (at_rest s kept view idle) told mine its name (joined_here s kept view joined)
-          (few_by (Signal name) made refl few))
+          kept_as made refl refl (signal_held kept.held s (at_rest s kept view idle) told mine its name (joined_here s kept view joined) (few_by (Signal name)
+          made refl few))
 
     -- ---- the end of an item
 
@@ -189,16 +171,14 @@ module _ (s : ℕ) {old : WorldState} {writer : Option ℕ} {desks : List Desk} 
           → length new.past < 2 ^ 63 → IsKept new writer desks cuts undo room
       ended_kept idle told may few =
           let count = started s lists.state.past in
-          kept_as ended_is refl refl
-          (ended_held writer cuts undo room old desks kept.held s (at_rest s kept view idle) told mine its count reply (old.rows + rows_of_reply reply)
-          (joined_here s kept view joined) (past_here s kept view (λ h. MayCome h (Ended s count reply)) may)
-          (few_by (Ended s count reply) ended_is refl few))
+          kept_as ended_is refl refl (ended_held kept.held s (at_rest s kept view idle) told mine its count reply (old.rows + rows_of_reply reply)
+          (joined_here s kept view joined) (past_here s kept view (λ h. MayCome h (Ended s count reply)) may) (few_by (Ended s count reply) ended_is refl few))
 
       pub ended_adds : Adds (Ended s (started s lists.state.past) reply) s lists.state (seen_of undo.table room.stage new writer desks).state
       ended_adds = adds (Ended s (started s lists.state.past) reply) ended_is refl refl refl refl
 
       pub ended_unset : settings_of new.sessions ≡ lists.settings
-      ended_unset = unset_as ended_is (settings_same old.sessions s mine (record mine { can_reply = false }) its refl)
+      ended_unset = unset_as ended_is (settings_same old.sessions s (record mine { can_reply = false }) its refl)
 
       pub ended_rows : new.rows ≡ lists.rows + rows_of_reply reply
       ended_rows = ap (λ (w : WorldState). w.rows) ended_is ∙ ap (λ (l : Lists). l.rows + rows_of_reply reply) view
@@ -219,18 +199,16 @@ module _ (s : ℕ) {old : WorldState} {writer : Option ℕ} {desks : List Desk} 
         started_kept idle told none few =
             let j = started s lists.state.past + 1 in
             kept_by old new writer desks cuts undo room kept (no_more_in old new (item_started s j item mine old) started_is refl refl) now same_doing
-            (subst (λ (ds : List Desk). IsHeld new writer ds cuts undo room) (sym now_is)
-            (subst (λ (w : WorldState). IsHeld w writer (with_start s desks) cuts undo room) (sym started_is)
-            (started_held writer cuts undo room old desks kept.held s (at_rest s kept view idle) told mine its j item (joined_here s kept view joined)
-            (past_here s kept view (λ h. under_way s h ≡ None) none) (past_here s kept view (λ h. j ≡ started s h + 1) refl)
-            (few_by (Started s j item) started_is refl few))))
+            (subst (λ (ds : List Desk). IsHeld new writer ds cuts undo room) (sym now_is) (subst (λ (w : WorldState). IsHeld w writer (with_start s desks) cuts
+            undo room) (sym started_is) (started_held kept.held s (at_rest s kept view idle) told mine its j item (joined_here s kept view joined)
+            (past_here s kept view (λ h. under_way s h ≡ None) none) (past_here s kept view (λ h. j ≡ started s h + 1) refl) (few_by (Started s j item)
+            started_is refl few))))
 
         pub started_adds : Adds (Started s (started s lists.state.past + 1) item) s lists.state (seen_of undo.table room.stage new writer now).state
-        started_adds =
-            seen_now (λ h. Started s (started s lists.state.past + 1) item ∷ h) (λ w. w) now started_is refl refl refl refl same_doing
+        started_adds = seen_now (λ h. Started s (started s lists.state.past + 1) item ∷ h) (λ w. w) now started_is refl refl refl refl same_doing
 
       pub started_unset : settings_of new.sessions ≡ lists.settings
-      started_unset = unset_as started_is (settings_same old.sessions s mine (record mine { can_reply = true }) its refl)
+      started_unset = unset_as started_is (settings_same old.sessions s (record mine { can_reply = true }) its refl)
 
       pub started_rows : new.rows ≡ lists.rows
       started_rows = same_rows started_is refl
@@ -242,15 +220,13 @@ module _ (s : ℕ) {old : WorldState} {writer : Option ℕ} {desks : List Desk} 
       after = record mine { setting = set_by stmt 0 false mine.setting }
 
       pub set_kept : task_of s lists.state ≡ Idle → IsTold old → IsKept new writer desks cuts undo room
-      set_kept idle told =
-          kept_as (made mine its) refl refl
-          (unentered_held writer cuts undo room old desks kept.held s (at_rest s kept view idle) told mine its after refl refl refl)
+      set_kept idle told = kept_as (made mine its) refl refl (unentered_held kept.held s (at_rest s kept view idle) told mine its after refl refl refl)
 
       pub set_stays : Stays s lists.state (seen_of undo.table room.stage new writer desks).state
       set_stays = stays (made mine its) refl refl refl refl
 
       pub set_reset : settings_of new.sessions ≡ slice_set lists.settings s (set_by stmt 0 false (slice_index_or lists.settings s at_first))
-      set_reset = reset_as (set_by stmt 0 false) (made mine its) (settings_now old.sessions s mine after (set_by stmt 0 false) its refl)
+      set_reset = reset_as (set_by stmt 0 false) (made mine its) (settings_now old.sessions s after (set_by stmt 0 false) its refl)
 
       pub set_rows : new.rows ≡ lists.rows
       set_rows = same_rows (made mine its) refl
@@ -276,9 +252,8 @@ module _ (s : ℕ) {old : WorldState} {writer : Option ℕ} {desks : List Desk} 
 
         pub viewed_kept : task_of s lists.state ≡ Idle → IsTold old → length new.past < 2 ^ 63 → IsKept new writer desks cuts undo room
         viewed_kept idle told few =
-            kept_as viewed_is refl refl
-            (viewed_held writer cuts undo room old desks kept.held s (at_rest s kept view idle) told holder has.session_is work has.work_is
-            (few_by (View s) viewed_is refl few))
+            kept_as viewed_is refl refl (viewed_held kept.held s (at_rest s kept view idle) told holder has.session_is work has.work_is (few_by (View s)
+            viewed_is refl few))
 
         pub viewed_adds : Adds (View s) s lists.state (seen_of undo.table room.stage new writer desks).state
         viewed_adds = adds (View s) viewed_is refl refl refl refl
@@ -287,7 +262,7 @@ module _ (s : ℕ) {old : WorldState} {writer : Option ℕ} {desks : List Desk} 
         viewed_unset =
             let after : Session = record holder
             { work = Some (record work { view = Some (record { active = ids_of old.txns.open_txns; next = old.txns.next }) }) } in
-            unset_as viewed_is (settings_same old.sessions s holder after has.session_is refl)
+            unset_as viewed_is (settings_same old.sessions s after has.session_is refl)
 
         pub viewed_rows : new.rows ≡ lists.rows
         viewed_rows = same_rows viewed_is refl
@@ -312,20 +287,16 @@ module _ (s : ℕ) {old : WorldState} {writer : Option ℕ} {desks : List Desk} 
               → settings_of new.sessions ≡ slice_set lists.settings s (saves (slice_index_or lists.settings s at_first))
           saved_reset done =
               let change : Session → Session = λ x. record x { setting = saves x.setting } in
-              reset_as saves (saved_is done)
-              (settings_by old.sessions (change_txn work.txn change old.sessions) s holder (change holder) saves (length-map old.sessions _) has.session_is
-              (txn_here s work.txn holder work change old.sessions has.session_is has.work_is refl) refl
-              (λ u differ. txn_elsewhere work.txn u change old.sessions
-              (λ x other there theirs is. differ ((its_listed s kept view has).alone u x other (record { session_is = there; work_is = theirs }) is))))
+              reset_as saves (saved_is done) (settings_by old.sessions (change_txn work.txn change old.sessions) s saves (length-map old.sessions _)
+              has.session_is (txn_here s work.txn holder work change old.sessions has.session_is has.work_is refl) refl (λ u differ. txn_elsewhere work.txn u
+              change old.sessions (λ x other there theirs is. differ ((its_listed s kept view has).alone u x other
+              (record { session_is = there; work_is = theirs }) is))))
 
           module _ {T E : Type 0} (result : Result T E) (ok : OnOk result (new ≡ with_save number name read.own old)) (err : OnErr result (new ≡ old)) where
             pub saved_kept : task_of s lists.state ≡ Idle → IsTold old → IsKept new writer desks cuts undo room
             saved_kept idle told =
-                by_result result ok err
-                (λ done. kept_as (saved_is done) refl refl
-                (saved_held writer cuts undo room old desks kept.held s (at_rest s kept view idle) told holder has.session_is work has.work_is name
-                (length (own s lists.state.past))))
-                (λ failed. kept_as failed refl refl kept.held)
+                by_result result ok err (λ done. kept_as (saved_is done) refl refl (saved_held kept.held s (at_rest s kept view idle) told holder has.session_is
+                work has.work_is name (length (own s lists.state.past)))) (λ failed. kept_as failed refl refl kept.held)
 
             pub saved_stays : Stays s lists.state (seen_of undo.table room.stage new writer desks).state
             saved_stays = by_result result ok err (λ done. stays (saved_is done) refl refl refl refl) stays_same
@@ -341,27 +312,25 @@ module _ (s : ℕ) {old : WorldState} {writer : Option ℕ} {desks : List Desk} 
 
     pub committed_kept : length new.past < 2 ^ 63 → IsCommitted s old new → IsKept new later desks cuts undo room
     committed_kept few ends =
-        closed ends.rest refl refl
-        (committed_held writer cuts undo room old new desks kept.held s (at_rest s kept view idle) told (few_by (Committed s) ends.rest refl few) ends)
+        closed ends.rest refl refl (committed_held kept.held s (at_rest s kept view idle) told (few_by (Committed s) ends.rest refl few) ends)
 
     pub rolled_back_kept : own s lists.state.past ≡ [] → length new.past < 2 ^ 63 → IsRolledBack s old new → IsKept new later desks cuts undo room
     rolled_back_kept none few ends =
-        closed ends.rest refl refl
-        (rolled_back_held writer cuts undo room old new desks kept.held s (at_rest s kept view idle) told (few_by (RolledBack s) ends.rest refl few)
-        (past_here s kept view (λ h. own s h ≡ []) none) ends)
+        closed ends.rest refl refl (rolled_back_held kept.held s (at_rest s kept view idle) told (few_by (RolledBack s) ends.rest refl few) (past_here s kept
+        view (λ h. own s h ≡ []) none) ends)
 
   -- its session has the settings that come back at the end
   pub committed_reset : {new : WorldState} → IsCommitted s old new
       → settings_of new.sessions ≡ slice_set lists.settings s (at_end (slice_index_or lists.settings s at_first))
   committed_reset ends =
       let after : Session = record ends.session { setting = at_end ends.session.setting; work = None; can_ack = true } in
-      reset_as at_end ends.rest (settings_now old.sessions s ends.session after at_end ends.has_work.session_is refl)
+      reset_as at_end ends.rest (settings_now old.sessions s after at_end ends.has_work.session_is refl)
 
   pub rolled_back_reset : {new : WorldState} → IsRolledBack s old new
       → settings_of new.sessions ≡ slice_set lists.settings s (at_end (slice_index_or lists.settings s at_first))
   rolled_back_reset ends =
       let after : Session = record ends.session { setting = at_end ends.session.setting; work = None } in
-      reset_as at_end ends.rest (settings_now old.sessions s ends.session after at_end ends.has_work.session_is refl)
+      reset_as at_end ends.rest (settings_now old.sessions s after at_end ends.has_work.session_is refl)
 
 -- ---- a transaction opens: room is taken for there_was entries, it begins, and the history tells it
 
@@ -391,16 +360,11 @@ module _ (s : ℕ) {old : WorldState} {writer : Option ℕ} {desks : List Desk} 
 
   pub few_begun : mid.txns.begun < 2 ^ 64 - 1
   few_begun =
-      omega (
-        arith,
-        ap (λ (w : WorldState). w.txns.begun) mid_is,
-        ap (λ (t : Txns). t.begun) kept.held.agrees.lists.txns_are,
-        begins_few old.past,
-        kept.held.agrees.lists.small,
-      )
+      let begun = ap (λ (w : WorldState). w.txns.begun) mid_is in
+      omega (arith, begun, ap (λ (t : Txns). t.begun) kept.held.agrees.lists.txns_are, begins_few old.past, kept.held.agrees.lists.small)
 
   mid_held : task_of s lists.state ≡ Idle → IsTold old → IsHeld (with_room s was old) writer desks cuts undo room
-  mid_held idle told = unentered_held writer cuts undo room old desks kept.held s (at_rest s kept view idle) told was there_was roomed refl refl refl
+  mid_held idle told = unentered_held kept.held s (at_rest s kept view idle) told was there_was roomed refl refl refl
 
   -- ---- it finds no memory to begin
 
@@ -412,7 +376,7 @@ module _ (s : ℕ) {old : WorldState} {writer : Option ℕ} {desks : List Desk} 
     roomed_stays = stays s kept view (same ∙ mid_is) refl refl refl refl
 
     pub roomed_unset : settings_of new.sessions ≡ lists.settings
-    roomed_unset = unset_as s kept view (same ∙ mid_is) (settings_same old.sessions s was roomed there_was refl)
+    roomed_unset = unset_as s kept view (same ∙ mid_is) (settings_same old.sessions s roomed there_was refl)
 
     pub roomed_rows : new.rows ≡ lists.rows
     roomed_rows = same_rows s kept view (same ∙ mid_is) refl
@@ -450,11 +414,9 @@ module _ (s : ℕ) {old : WorldState} {writer : Option ℕ} {desks : List Desk} 
           → IsKept new writer desks cuts undo room
       opened_kept idle told told_mid closed few =
           kept_as s kept view new_is (ap (λ (w : WorldState). w.indexes) mid_is) (ap (λ (w : WorldState). w.schemas) mid_is)
-          (opened_held writer cuts undo room mid desks
-          (subst (λ (w : WorldState). IsHeld w writer desks cuts undo room) (sym mid_is) (mid_held idle told)) s (at_rest s kept view idle)
-          told_mid roomed here level (is_none closed)
-          (subst (λ h. IsClosed s h) (sym (ap (λ (w : WorldState). w.past) mid_is)) (past_here s kept view (IsClosed s) closed))
-          (omega (arith, few, ap length (ap (λ (w : WorldState). w.past) new_is))))
+          (opened_held (subst (λ (w : WorldState). IsHeld w writer desks cuts undo room) (sym mid_is) (mid_held idle told)) s (at_rest s kept view idle)
+          told_mid roomed here level (is_none closed) (subst (λ h. IsClosed s h) (sym (ap (λ (w : WorldState). w.past) mid_is)) (past_here s kept view
+          (IsClosed s) closed)) (omega (arith, few, ap length (ap (λ (w : WorldState). w.past) new_is))))
 
       count_is : mid.txns.begun + 1 ≡ begins lists.state.past + 1
       count_is =
@@ -472,13 +434,10 @@ module _ (s : ℕ) {old : WorldState} {writer : Option ℕ} {desks : List Desk} 
           let target : WorldState = opened s level roomed mid in
           let base : List Session = slice_set mid.sessions s first in
           let last : Session = record first { can_begin = false; work = Some (record fresh { can_end = true }) } in
-          reset_as s kept view at_begin new_is
-          (settings_by old.sessions target.sessions s was last at_begin
-          (length-set base s last ∙ length-set mid.sessions s first ∙ ap (λ (w : WorldState). length w.sessions) mid_is
-          ∙ length-set old.sessions s roomed)
-          there_was (set_here base s first last (set_here mid.sessions s roomed first here)) refl
-          (λ u differ. set_other base s u last differ ∙ set_other mid.sessions s u first differ
-          ∙ ap (λ (w : WorldState). slice_get w.sessions u) mid_is ∙ set_other old.sessions s u roomed differ))
+          reset_as s kept view at_begin new_is (settings_by old.sessions target.sessions s at_begin (length-set base s last ∙ length-set mid.sessions s first
+          ∙ ap (λ (w : WorldState). length w.sessions) mid_is ∙ length-set old.sessions s roomed) there_was (set_here base s first last (set_here mid.sessions s
+          roomed first here)) refl (λ u differ. set_other base s u last differ ∙ set_other mid.sessions s u first differ ∙ ap (λ (w : WorldState). slice_get
+          w.sessions u) mid_is ∙ set_other old.sessions s u roomed differ))
 
       pub opened_rows : new.rows ≡ lists.rows
       opened_rows = same_rows s kept view new_is (ap (λ (w : WorldState). w.rows) mid_is)

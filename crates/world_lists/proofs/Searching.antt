@@ -2,29 +2,22 @@
 -- of a table, which are read at once.
 use Rattle.std.proofs.Common.{◌≡◌, ◌≢◌, inl, inr, ℕ, ◌<◌, ◌==◌, true, false, not, List, map, length, get_or, Option, Some, None, slice_get, [], Result, Ok}
 use Rattle.std.proofs.Common.{Err, refl, sym, ap, subst, ◌∙◌, arith}
-use Rattle.std.specs.Prelude.{◌≤◌, is_some, IfSome, IfOk}
 use Rattle.std.proofs.lemmas.Bool.Decides.{eqb_tells}
 use Rattle.std.proofs.lemmas.Option.{slice_get_within, get_or_from_slice_get}
+use Rattle.std.specs.Prelude.{◌≤◌, is_some, IfSome, IfOk}
 use Rattle.inno_types.specs.{Order.IsBelow, declared.value.Value.Value, declared.value.Schema.Schema}
 use Rattle.inno_model.specs.{declared.event.Event.Event, Past.own, Past.view_of, Past.IsOpen}
 use Rattle.store_api.specs.declared.moves.Move.{Move}
 use Rattle.entries.specs.Calls.{Leaves}
-use Rattle.read_view.specs.Sight.{Sight as ReadSight}
 use Rattle.row_versions.specs.Chains.{Chains}
 use Rattle.sql_plan.specs.declared.choice.Plan.{Plan}
 use Rattle.law_past_agreement.specs.{Order.created, Agreement.WriterAgrees}
 use Rattle.world.specs.{State.WorldState, Told.IsTold, Indexes.Calls, declared.undo_room.UndoRoom.UndoRoom}
-use Rattle.row_search.specs.{declared.found.FoundRow.FoundRow, declared.search.RowSearch.RowSearch, declared.sight.Sight.Sight}
-use Rattle.row_search.specs.declared.sight.Sight.TheVariants as sights
-use Rattle.row_search.specs.Steps.{GoesOn, Waits, Ends}
+use Rattle.row_search.specs.{declared.found.FoundRow.FoundRow, declared.search.RowSearch.RowSearch, declared.sight.Sight.Sight, Steps.GoesOn, Steps.Waits}
+use Rattle.row_search.specs.{Steps.Ends}
 use Rattle.undo_apply.specs.declared.work_room.WorkRoom.{WorkRoom}
-use Rattle.shared_lists.specs.declared.answers.Reading.{Reading}
-use Rattle.shared_lists.specs.declared.answers.Reading.TheVariants as readings
-use Rattle.shared_lists.specs.declared.answers.Searched.{Searched}
-use Rattle.shared_lists.specs.declared.answers.Searched.TheVariants as searched
-use Rattle.shared_lists.specs.Tasks as tasks
+use Rattle.shared_lists.specs.{declared.answers.Reading.Reading, declared.answers.Searched.Searched, Steps.AreFoundBy, Steps.Searches, Steps.AreNewestRows}
 use Rattle.shared_lists.specs.State.{State, Lists, Places, task_of, places_before, counted, Turns, Stays}
-use Rattle.shared_lists.specs.Steps.{AreFoundBy, Searches, AreNewestRows}
 use Rattle.desks.specs.{declared.desk.Desk.Desk, declared.desk.Doing.Doing, declared.desk.Doing.TheVariants.Nothing}
 use Rattle.desks.specs.{declared.desk.Doing.TheVariants.Searching, declared.desk.TableSearch.TableSearch, Desks.doing_at, Desks.with_doing, Desks.is_quiet}
 use Rattle.desks.specs.{Holding.IsHeld, Holding.IsOwnView, Holding.SightHolds, Shown.reading_of, Shown.seen_of, Undoing.undo_left_in, Searching.places_in}
@@ -32,13 +25,18 @@ use Rattle.desks.specs.{Searching.places_of}
 use Rattle.desks.proofs.Showing.{task_is, places_are}
 use Rattle.law_held_steps.specs.{Begun.HasView, Begun.IsBegun, Begun.IsNewSearch, Moving.MovesPlaces, Newest.plan_read, Newest.TellsTable, Newest.AreRead}
 use Rattle.law_held_steps.specs.TakenUp.{ComesAnew, IsTakenUp, MayStep, IsSearchOf, plan_of}
-use Rattle.law_held_steps.proofs.{AtDesks.doing_twice, AtDesks.doing_here, AtOnce.tells_held, AtOnce.are_newest, Begins.has_view, Begins.begun}
-use Rattle.law_held_steps.proofs.{Places.moves_in_one, Places.leaving_moves, Places.moves_then, Staying.held_idle}
-use Rattle.law_held_steps.proofs.Callers.{turns_now, turns_to_search, search_shown, has_desk, searches_on, seen_stay}
-use Rattle.law_held_steps.proofs.Stepping.{steps, went, nears, ended, waited, given_up}
+use Rattle.law_held_steps.proofs.{Keeping.open_joined, Desks.doing_twice, Desks.doing_here, AtOnce.tells_held, AtOnce.are_newest, Places.moves_in_one}
+use Rattle.law_held_steps.proofs.{Places.leaving_moves, Places.moves_then, Places.held_idle}
+use Rattle.law_held_steps.proofs.Stepping.{has_view, begun, steps, went, nears, ended, waited, given_up}
+use Rattle.law_held_steps.proofs.Showing.{turns_now, turns_to_search, search_shown, has_desk, searches_on, seen_stay}
 use Rattle.world_lists.specs.Between.{IsKept, can_await}
-use Rattle.world_lists.proofs.{Awaiting.kept_on, Awaiting.kept_beside, Awaiting.moves_no_more, Awaiting.same_no_more, Calls.open_joined, Calls.at_rest}
-use Rattle.world_lists.proofs.{Calls.at_desk, Calls.writer_now}
+use Rattle.world_lists.proofs.{Awaiting.kept_on, Awaiting.kept_beside, Awaiting.moves_no_more, Awaiting.same_no_more, Calls.at_rest, Calls.at_desk}
+use Rattle.world_lists.proofs.{Calls.writer_now}
+use Rattle.read_view.specs.Sight.{Sight as ReadSight}
+use Rattle.row_search.specs.declared.sight.Sight.TheVariants as sights
+use Rattle.shared_lists.specs.declared.answers.Reading.TheVariants as readings
+use Rattle.shared_lists.specs.declared.answers.Searched.TheVariants as searched
+use Rattle.shared_lists.specs.Tasks as tasks
 
 -- ---- who reads
 
@@ -84,16 +82,14 @@ over_by table plan reading s old new rows (searched.Found given) is over turns f
     (turns, subst (AreFoundBy reading table plan old.past s) (sym (is given refl)) found)
 over_by table plan reading s old new rows searched.NoMemory is over turns found = turns
 
-found_as : (table : ℕ) (plan : Plan) (reading : Reading) (s : ℕ) (past : List Event) (rows : List (List Value)) (on : TableSearch)
-    → IsSearchOf (Searching on) table plan reading
-    → AreFoundBy (reading_of on.search.scan.sight) on.search.scan.table (plan_of on) past s rows → AreFoundBy reading table plan past s rows
+found_as : (table : ℕ) (plan : Plan) (reading : Reading) (s : ℕ) (past : List Event) (rows : List (List Value)) (on : TableSearch) → IsSearchOf (Searching on)
+    table plan reading → AreFoundBy (reading_of on.search.scan.sight) on.search.scan.table (plan_of on) past s rows → AreFoundBy reading table plan past s rows
 found_as table plan reading s past rows on is found =
     let one : is.0 ≡ on = one_search on is.0 is.1 in
     let by : AreFoundBy (reading_of is.0.search.scan.sight) is.0.search.scan.table (plan_of is.0) past s rows
     = subst (λ (t : TableSearch). AreFoundBy (reading_of t.search.scan.sight) t.search.scan.table (plan_of t) past s rows) (sym one) found in
-    subst (λ (r : Reading). AreFoundBy r table plan past s rows) (sym is.4)
-    (subst (λ (p : Plan). AreFoundBy (reading_of is.0.search.scan.sight) table p past s rows) (sym is.3)
-    (subst (λ (n : ℕ). AreFoundBy (reading_of is.0.search.scan.sight) n (plan_of is.0) past s rows) (sym is.2) by))
+    subst (λ (r : Reading). AreFoundBy r table plan past s rows) (sym is.4) (subst (λ (p : Plan). AreFoundBy (reading_of is.0.search.scan.sight) table p past s
+    rows) (sym is.3) (subst (λ (n : ℕ). AreFoundBy (reading_of is.0.search.scan.sight) n (plan_of is.0) past s rows) (sym is.2) by))
 
 module _ (s : ℕ) {old : WorldState} {writer : Option ℕ} {desks : List Desk} {cuts : ℕ} {undo : UndoRoom} {room : WorkRoom} {lists : Lists}
     (kept : IsKept old writer desks cuts undo room) (view : seen_of undo.table room.stage old writer desks ≡ lists) where
@@ -101,11 +97,11 @@ module _ (s : ℕ) {old : WorldState} {writer : Option ℕ} {desks : List Desk} 
   writer_within = by writer (kept.held.agrees.lists.writes) where
     by : (who : Option ℕ) → WriterAgrees old.past who → IfSome who (λ w. w < length desks)
     by None writes = record {}
-    by (Some w) writes = omega (arith, open_joined kept.held w writes.0, kept.held.count)
+    by (Some w) writes = omega (arith, open_joined kept.held.agrees w writes.0, kept.held.count)
 
   pub view_there : IsOpen s lists.state.past → is_some (view_of s lists.state.past) ≡ true → HasView s old
   view_there is_open viewed =
-      has_view s kept.held.chains writer old kept.held.agrees (subst (λ (l : Lists). IsOpen s l.state.past) (sym view) is_open)
+      has_view s kept.held.agrees (subst (λ (l : Lists). IsOpen s l.state.past) (sym view) is_open)
       (subst (λ (l : Lists). is_some (view_of s l.state.past) ≡ true) (sym view) viewed)
 
   -- ---- a table that is there, and the copy of its schema
@@ -151,59 +147,48 @@ module _ (s : ℕ) {old : WorldState} {writer : Option ℕ} {desks : List Desk} 
         begun_kept idle told =
             let rests = at_rest s kept view idle in
             kept_beside old old writer desks cuts undo room kept (same_no_more old old refl) s (Searching first) after (ap can_await rests) at
-            (subst (λ (d : List Desk). IsHeld old writer d cuts undo room) (sym at)
-            (begun s table old writer desks cuts undo room plan sight copy first kept.held told rests copied fits reads.0 has_begun))
+            (subst (λ (d : List Desk). IsHeld old writer d cuts undo room) (sym at) (begun s kept.held told rests copied fits reads.0 has_begun))
 
         pub begun_seen : s < length lists.state.names
             → Turns s (tasks.Searching table plan reading) lists.state (seen_of undo.table room.stage old writer after).state
         begun_seen joined =
             subst (λ (l : Lists). Turns s (tasks.Searching table plan reading) l.state (seen_of undo.table room.stage old writer after).state) view
-            (subst (λ (r : Reading). Turns s (tasks.Searching table plan r) (seen_of undo.table room.stage old writer desks).state
-            (seen_of undo.table room.stage old writer after).state) reads.1
-            (subst (λ (d : List Desk). Turns s (tasks.Searching table plan (reading_of sight)) (seen_of undo.table room.stage old writer desks).state
-            (seen_of undo.table room.stage old writer d).state) (sym at)
-            (turns_to_search s undo.table room.stage writer desks old table cuts plan sight copy first (at_desk s kept view joined) has_begun)))
+            (subst (λ (r : Reading). Turns s (tasks.Searching table plan r) (seen_of undo.table room.stage old writer desks).state (seen_of undo.table
+            room.stage old writer after).state) reads.1 (subst (λ (d : List Desk). Turns s (tasks.Searching table plan (reading_of sight)) (seen_of undo.table
+            room.stage old writer desks).state (seen_of undo.table room.stage old writer d).state) (sym at) (turns_to_search s undo.table room.stage writer
+            desks old (at_desk s kept view joined) has_begun)))
 
       -- ---- the newest rows, read at once
 
       module _ (told : IsTold old) {by : Plan} (by_is : by ≡ plan_read (is_quiet writer desks) plan) where
         tells : TellsTable kept.held.chains table by copy old
-        tells =
-            subst (λ (p : Plan). TellsTable kept.held.chains table p copy old) (sym by_is)
-            (tells_held old writer desks cuts undo room table plan copy kept.held told copied fits)
+        tells = subst (λ (p : Plan). TellsTable kept.held.chains table p copy old) (sym by_is) (tells_held table plan copy kept.held told copied fits)
 
         pub tells_now : (chains : Chains) × TellsTable chains table by copy old
         tells_now = (kept.held.chains, tells)
 
-        read_now : {rows : List FoundRow} → ((chains : Chains) → TellsTable chains table by copy old → AreRead chains table by copy old rows)
-            → (w : ℕ) → ((u : ℕ) → u ≢ w → own u lists.state.past ≡ [])
-            → AreNewestRows table plan lists.state.past w (map (λ (found : FoundRow). found.row) rows)
+        read_now : {rows : List FoundRow} → ((chains : Chains) → TellsTable chains table by copy old → AreRead chains table by copy old rows) → (w : ℕ)
+            → ((u : ℕ) → u ≢ w → own u lists.state.past ≡ []) → AreNewestRows table plan lists.state.past w (map (λ (found : FoundRow). found.row) rows)
         read_now {rows} read =
             subst (λ (l : Lists). (w : ℕ) → ((u : ℕ) → u ≢ w → own u l.state.past ≡ []) → AreNewestRows table plan l.state.past w
-            (map (λ (found : FoundRow). found.row) rows)) view
-            (are_newest old writer desks cuts undo room table plan copy kept.held rows
-            (subst (λ (p : Plan). AreRead kept.held.chains table p copy old rows) by_is (read kept.held.chains tells)))
+            (map (λ (found : FoundRow). found.row) rows)) view (are_newest table plan copy kept.held rows (subst (λ (p : Plan). AreRead kept.held.chains table p
+            copy old rows) by_is (read kept.held.chains tells)))
 
-        pub read_answered : {E : Type 0} (answer : Result (List (List Value)) E) {rows : List FoundRow}
-            → ((chains : Chains) → TellsTable chains table by copy old → AreRead chains table by copy old rows)
-            → IfOk answer (λ given. given ≡ map (λ (found : FoundRow). found.row) rows)
-            → IfOk answer (λ given. (w : ℕ) → ((u : ℕ) → u ≢ w → own u lists.state.past ≡ []) → AreNewestRows table plan lists.state.past w given)
+        pub read_answered : {E : Type 0} (answer : Result (List (List Value)) E) {rows : List FoundRow} → ((chains : Chains) → TellsTable chains table by copy
+            old → AreRead chains table by copy old rows) → IfOk answer (λ given. given ≡ map (λ (found : FoundRow). found.row) rows) → IfOk answer
+            (λ given. (w : ℕ) → ((u : ℕ) → u ≢ w → own u lists.state.past ≡ []) → AreNewestRows table plan lists.state.past w given)
         read_answered answer {rows} read is =
             answered (map (λ (found : FoundRow). found.row) rows) answer
             (λ given. (w : ℕ) → ((u : ℕ) → u ≢ w → own u lists.state.past ≡ []) → AreNewestRows table plan lists.state.past w given) is (read_now read)
 
   module _ (idle : task_of s lists.state ≡ tasks.Idle) {new : WorldState} (moves : MovesPlaces s old new) (told : IsTold new) where
     pub nothing_kept : IsKept new writer desks cuts undo room
-    nothing_kept =
-        kept_on old new writer desks cuts undo room kept (moves_no_more s old new moves)
-        (held_idle s old new writer desks cuts undo room kept.held (at_rest s kept view idle) moves told)
+    nothing_kept = kept_on old new writer desks cuts undo room kept (moves_no_more s old new moves) (held_idle kept.held (at_rest s kept view idle) moves told)
 
     pub nothing_seen : Stays s lists.state (seen_of undo.table room.stage new writer desks).state
     nothing_seen =
-        subst (λ (l : Lists). Stays s lists.state l.state)
-        (sym (seen_stay s (undo_left_in undo.table room.stage old) old new writer desks moves undo.table room.stage refl told
-        (λ on is. no_search on (sym (at_rest s kept view idle) ∙ is)) ∙ view))
-        (nothing_changes s lists.state)
+        subst (λ (l : Lists). Stays s lists.state l.state) (sym (seen_stay undo.table room.stage writer desks moves told (λ on is. no_search on
+        (sym (at_rest s kept view idle) ∙ is)) ∙ view)) (nothing_changes s lists.state)
 
   -- ---- a search under way
 
@@ -225,15 +210,13 @@ module _ (s : ℕ) {old : WorldState} {writer : Option ℕ} {desks : List Desk} 
     turns_idle : {new : WorldState} {after : List Desk} → after ≡ with_doing s Nothing desks → MovesPlaces s old new → IsTold new
         → Turns s tasks.Idle lists.state (now_in new after)
     turns_idle {new} {after} at moves told =
-        subst (λ (l : Lists). Turns s tasks.Idle l.state (now_in new after)) view
-        (subst (λ (d : List Desk). Turns s tasks.Idle (now_in old desks) (now_in new d)) (sym at)
-        (turns_now s undo.table room.stage old new writer desks Nothing (has_desk s desks on is) moves told))
+        subst (λ (l : Lists). Turns s tasks.Idle l.state (now_in new after)) view (subst (λ (d : List Desk). Turns s tasks.Idle (now_in old desks)
+        (now_in new d)) (sym at) (turns_now undo.table room.stage writer desks Nothing (has_desk s desks is) moves told))
 
     search_of : (table : ℕ) (plan : Plan) (reading : Reading) → task_of s lists.state ≡ tasks.Searching table plan reading
         → IsSearchOf (Searching on) table plan reading
     search_of table plan reading task =
-        subst (λ (d : Doing). IsSearchOf d table plan reading) is
-        (search_shown (undo_left_in undo.table room.stage old) old.schemas (doing_at s desks) table plan reading
+        subst (λ (d : Doing). IsSearchOf d table plan reading) is (search_shown (undo_left_in undo.table room.stage old) old.schemas (doing_at s desks)
         (sym (task_is s (undo_left_in undo.table room.stage old) old writer desks) ∙ (ap (λ (l : Lists). task_of s l.state) view ∙ task)))
 
     -- it may come to its pair anew
@@ -246,7 +229,7 @@ module _ (s : ℕ) {old : WorldState} {writer : Option ℕ} {desks : List Desk} 
       ]
 
       pub may_step_now : IsTold old → MayStep s on.schema old search
-      may_step_now told = steps s old writer desks cuts undo room on kept.held is search taken_up told
+      may_step_now told = steps s kept.held is search taken_up told
 
       module _ {new : WorldState} (told : IsTold new) where
         module _ {next : RowSearch} (goes : GoesOn s on.schema old new search next) {between after : List Desk} (takes : between ≡ with_doing s Nothing desks)
@@ -258,45 +241,36 @@ module _ (s : ℕ) {old : WorldState} {writer : Option ℕ} {desks : List Desk} 
           at = desks_given s (Searching on_now) desks between after takes gives
 
           pub went_kept : IsKept new writer after cuts undo room
-          went_kept =
-              kept_now (Searching on_now) at (moves_in_one s _ old new goes.moves)
-              (went s old writer desks cuts undo room on kept.held is search taken_up new told next goes).0
+          went_kept = kept_now (Searching on_now) at (moves_in_one goes.moves) (went s kept.held is search taken_up told goes).0
 
           pub went_seen : Turns s (task_of s lists.state) lists.state (now_in new after)
           went_seen =
-              let goes_on = went s old writer desks cuts undo room on kept.held is search taken_up new told next goes in
+              let goes_on = went s kept.held is search taken_up told goes in
               subst (λ (l : Lists). Turns s (task_of s l.state) l.state (now_in new after)) view
               (subst (λ (d : List Desk). Turns s (task_of s (now_in old desks)) (now_in old desks) (now_in new d)) (sym at)
-              (searches_on s undo.table room.stage writer desks old new cuts on next is goes_on.1 goes_on.2 told))
+              (searches_on s undo.table room.stage writer desks cuts next is goes_on.1 goes_on.2 told))
 
           pub went_nears : IsBelow (counted (places_before s (now_in new after))) (counted (places_before s lists.state))
           went_nears =
-              let before : places_before s lists.state ≡ places_in s old on
-              = ap (λ (l : Lists). places_before s l.state) (sym view)
+              let before : places_before s lists.state ≡ places_in s old on = ap (λ (l : Lists). places_before s l.state) (sym view)
               ∙ (places_are s (undo_left_in undo.table room.stage old) old writer desks ∙ ap (places_of s old) is) in
               let now : places_before s (now_in new after) ≡ places_in s new on_now
-              = ap (λ (d : List Desk). places_before s (now_in new d)) at
-              ∙ (places_are s (undo_left_in undo.table room.stage new) new writer (with_doing s (Searching on_now) desks)
-              ∙ ap (places_of s new) (doing_here s (Searching on_now) desks (has_desk s desks on is))) in
-              subst (λ (p : Places). IsBelow (counted (places_before s (now_in new after))) (counted p)) (sym before)
-              (subst (λ (p : Places). IsBelow (counted p) (counted (places_in s old on))) (sym now)
-              (nears s old writer desks cuts undo room on kept.held is search taken_up new told next goes))
+              = ap (λ (d : List Desk). places_before s (now_in new d)) at ∙ (places_are s (undo_left_in undo.table room.stage new) new writer
+              (with_doing s (Searching on_now) desks) ∙ ap (places_of s new) (doing_here s (Searching on_now) desks (has_desk s desks is))) in
+              subst (λ (p : Places). IsBelow (counted (places_before s (now_in new after))) (counted p)) (sym before) (subst (λ (p : Places). IsBelow
+              (counted p) (counted (places_in s old on))) (sym now) (nears s kept.held is search taken_up told goes))
 
         module _ {after : List Desk} (at : after ≡ with_doing s Nothing desks) where
           module _ {found : List FoundRow} (ends : Ends s on.schema old new search found) where
             pub ended_kept : IsKept new writer after cuts undo room
-            ended_kept =
-                kept_now Nothing at (leaving_moves s _ old new ends.leaves)
-                (ended s old writer desks cuts undo room on kept.held is search taken_up new told found ends).0
+            ended_kept = kept_now Nothing at (leaving_moves s _ old new ends.leaves) (ended s kept.held is search taken_up told ends).0
 
-            pub ended_seen : {answer : Searched}
-                → ((rows : List (List Value)) → answer ≡ searched.Found rows → rows ≡ map (λ (f : FoundRow). f.row) found) → answer ≢ searched.Went
-                → (table : ℕ) (plan : Plan) (reading : Reading) → task_of s lists.state ≡ tasks.Searching table plan reading
-                → Searches table plan reading s lists.state (now_in new after) answer
+            pub ended_seen : {answer : Searched} → ((rows : List (List Value)) → answer ≡ searched.Found rows → rows ≡ map (λ (f : FoundRow). f.row) found)
+                → answer ≢ searched.Went → (table : ℕ) (plan : Plan) (reading : Reading) → task_of s lists.state ≡ tasks.Searching table plan reading → Searches
+                table plan reading s lists.state (now_in new after) answer
             ended_seen {answer} rows over table plan reading task =
-                let on_end = ended s old writer desks cuts undo room on kept.held is search taken_up new told found ends in
-                over_by table plan reading s lists.state (now_in new after) (map (λ (f : FoundRow). f.row) found) answer rows over
-                (turns_idle at on_end.1 told)
+                let on_end = ended s kept.held is search taken_up told ends in
+                over_by table plan reading s lists.state (now_in new after) (map (λ (f : FoundRow). f.row) found) answer rows over (turns_idle at on_end.1 told)
                 (found_as table plan reading s lists.state.past (map (λ (f : FoundRow). f.row) found) on (search_of table plan reading task)
                 (subst (λ (l : Lists). AreFoundBy (reading_of on.search.scan.sight) on.search.scan.table (plan_of on) l.state.past s
                 (map (λ (f : FoundRow). f.row) found)) view on_end.2))
@@ -305,13 +279,10 @@ module _ (s : ℕ) {old : WorldState} {writer : Option ℕ} {desks : List Desk} 
           module _ {stuck : RowSearch} {why : Move} (waits : Waits s on.schema old new search stuck why) {index : ℕ} {later : WorldState}
               (leaves : Calls index (Leaves s) new later) (told_later : IsTold later) where
             moves : MovesPlaces s old new
-            moves = (waited s old writer desks cuts undo room on kept.held is search taken_up new told stuck why waits).1
+            moves = (waited s kept.held is search taken_up told waits).1
 
             pub hindered_kept : IsKept later writer after cuts undo room
-            hindered_kept =
-                kept_now Nothing at (moves_then s old new later moves (leaving_moves s index new later leaves))
-                (given_up s old writer desks cuts undo room on kept.held is index new later moves leaves told_later).0
+            hindered_kept = kept_now Nothing at (moves_then moves (leaving_moves s index new later leaves)) (given_up s kept.held is moves leaves told_later).0
 
             pub hindered_seen : Turns s tasks.Idle lists.state (now_in later after)
-            hindered_seen =
-                turns_idle at (given_up s old writer desks cuts undo room on kept.held is index new later moves leaves told_later).1 told_later
+            hindered_seen = turns_idle at (given_up s kept.held is moves leaves told_later).1 told_later

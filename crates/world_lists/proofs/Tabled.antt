@@ -10,7 +10,7 @@ use Rattle.store_api.specs.declared.answers.Standing.{Standing}
 use Rattle.law_stored_rows.specs.Storable.{IsStorable}
 use Rattle.sql_history.specs.Settings.{at_first}
 use Rattle.txn_table.specs.Txns.{Txns, is_there, id_at}
-use Rattle.world.specs.State.{WorldState, Session, Work, IsSession, HasWork, standing_of, id_of}
+use Rattle.world.specs.State.{WorldState, Session, Work, IsSession, HasWork, standing_of, id_of, index_of}
 use Rattle.world.specs.{Told.IsTold, Sessions.identified, declared.undo_room.UndoRoom.UndoRoom, EngineCalls.MakesTable}
 use Rattle.law_world_agreement.specs.Steps.{IsChangedBy}
 use Rattle.law_world_agreement.proofs.Opening.{set_here, set_other}
@@ -23,7 +23,7 @@ use Rattle.desks.specs.{Undoing.undo_left_in, Holding.IsHeld}
 use Rattle.desks.specs.declared.desk.Doing.TheVariants.{Nothing, Searching, Changing, Lagging, Undoing}
 use Rattle.law_held_steps.specs.SeenEntries.{settings_of}
 use Rattle.desks.proofs.Showing.{task_is}
-use Rattle.law_held_steps.proofs.Tables.{LeavesRooms, created_held}
+use Rattle.law_held_steps.proofs.{Showing.settings_by, Tables.created_held}
 use Rattle.world_lists.specs.Between.{IsKept, can_await}
 use Rattle.world_lists.proofs.Awaiting.{created_kept}
 use Rattle.world_lists.proofs.Calls.{one_some, past_here, its_listed, its_txn, at_rest, writer_now}
@@ -91,7 +91,7 @@ module _ {s : ℕ} {schema : Schema} {old mid : WorldState} (makes : MakesTable 
     same_count : length new.sessions ≡ length old.sessions
     same_count = gives.count ∙ ap (λ (w : WorldState). length w.sessions) makes.rest ∙ length-set old.sessions s session1
 
-    pub changed_by : IsChangedBy s (Create schema) (old.schemas ++ schema ∷ []) old new
+    abbrev pub changed_by : IsChangedBy s (Create schema) (old.schemas ++ schema ∷ []) old new
     changed_by = record {
       session = makes.session;
       work = makes.work;
@@ -108,38 +108,18 @@ module _ {s : ℕ} {schema : Schema} {old mid : WorldState} (makes : MakesTable 
       count = same_count;
     }
 
-    rooms : LeavesRooms s old new
-    rooms = record {
-      session = makes.session;
-      work = makes.work;
-      had = makes.has_work;
-      session_now = session_now;
-      work_now = work_now;
-      has = record { session_is = gives.now; work_is = refl };
-      can_reply = refl;
-      can_ack = refl;
-      can_end = refl;
-      log = refl;
-    }
-
     -- what sessions have set is as it was
     pub settings_are : settings_of new.sessions ≡ settings_of old.sessions
     settings_are =
-        Rattle.law_held_steps.proofs.SeenEntries.settings_by old.sessions new.sessions s makes.session session_now (λ x. x) same_count
-        makes.has_work.session_is
-        gives.now refl same_else
+        settings_by old.sessions new.sessions s (λ x. x) same_count makes.has_work.session_is gives.now refl same_else
         ∙ set-get_or (settings_of old.sessions) s at_first
 
-    pub created_now : (cuts : ℕ) (undo : UndoRoom) (room : WorkRoom) (desks : List Desk) → IsHeld old (Some s) desks cuts undo room
-        → doing_at s desks ≡ Nothing → IsTold old → IsTold new
-        → IsStorable schema → length new.past < 2 ^ 63 → own s old.past ≡ [] → IsHeld new (Some s) desks cuts undo room
+    pub created_now : (cuts : ℕ) (undo : UndoRoom) (room : WorkRoom) (desks : List Desk) → IsHeld old (Some s) desks cuts undo room → doing_at s desks ≡ Nothing
+        → IsTold old → IsTold new → IsStorable schema → length new.past < 2 ^ 63 → own s old.past ≡ [] → IsHeld new (Some s) desks cuts undo room
     created_now cuts undo room desks held rests told told_now storable few none =
-        created_held cuts undo room old new desks s schema held rests told told_now changed_by rooms
-        (λ index. ap (λ (w : WorldState). w.indexes index) gives.rest ∙ makes.same index)
-        (ap (λ (w : WorldState). w.versions) gives.rest ∙ ap (λ (w : WorldState). w.versions) makes.rest)
-        (λ which within. ap (λ (w : WorldState). w.indexes (Rattle.world.specs.State.index_of (length old.schemas) which)) gives.rest ∙ makes.empty which
-        within)
-        storable (omega (arith, few, ap length past_is)) none
+        created_held held rests told told_now changed_by refl refl refl (λ index. ap (λ (w : WorldState). w.indexes index) gives.rest ∙ makes.same index)
+        (ap (λ (w : WorldState). w.versions) gives.rest ∙ ap (λ (w : WorldState). w.versions) makes.rest) (λ which within. ap (λ (w : WorldState). w.indexes
+        (index_of (length old.schemas) which)) gives.rest ∙ makes.empty which within) storable (omega (arith, few, ap length past_is)) none
 
 -- ---- what callers see
 
@@ -196,11 +176,10 @@ module _ (s : ℕ) {old : WorldState} {writer : Option ℕ} {desks : List Desk} 
         pub table_kept : IsTold old → IsTold new → IsStorable schema → length new.past < 2 ^ 63 → own s lists.state.past ≡ []
             → IsKept new writer desks cuts undo room
         table_kept told told_now storable few none =
-            created_kept old new writer desks cuts undo room kept s its (ap can_await rests)
-            (λ index. ap (λ (w : WorldState). w.indexes index) gives.rest ∙ makes.same index)
-            (subst (λ (w : Option ℕ). IsHeld new w desks cuts undo room) (sym its)
-            (created_now makes listed gives cuts undo room desks (subst (λ (w : Option ℕ). IsHeld old w desks cuts undo room) its kept.held) rests
-            told told_now storable few (past_here s kept view (λ h. own s h ≡ []) none)))
+            created_kept old new writer desks cuts undo room kept s its (ap can_await rests) (λ index. ap (λ (w : WorldState). w.indexes index) gives.rest
+            ∙ makes.same index) (subst (λ (w : Option ℕ). IsHeld new w desks cuts undo room) (sym its) (created_now makes listed gives cuts undo room desks
+            (subst (λ (w : Option ℕ). IsHeld old w desks cuts undo room) its kept.held) rests told told_now storable few (past_here s kept view
+            (λ h. own s h ≡ []) none)))
 
         all_quiet : (u : ℕ) → is_quiet_doing (doing_at u desks) ≡ true
         all_quiet u = elim (eqb_tells u s) [
@@ -215,8 +194,7 @@ module _ (s : ℕ) {old : WorldState} {writer : Option ℕ} {desks : List Desk} 
             let same : (u : ℕ) → task_of u (seen new).state ≡ task_of u (seen old).state
             = λ u. task_is u (left new) new writer desks ∙ quiet_shown new.schemas old.schemas (left new) (left old) (doing_at u desks) (all_quiet u)
             ∙ sym (task_is u (left old) old writer desks) in
-            subst (λ (l : Lists). Adds (Changed s (Create schema)) s l.state (seen new).state) view
-            (record {
+            subst (λ (l : Lists). Adds (Changed s (Create schema)) s l.state (seen new).state) view (record {
               names_are = names_are makes listed gives;
               past_is = past_is makes listed gives;
               writer_is = refl;

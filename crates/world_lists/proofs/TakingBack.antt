@@ -7,32 +7,30 @@ use Rattle.inno_types.specs.declared.value.Schema.{Schema}
 use Rattle.inno_model.specs.{declared.event.Event.TheVariants.Undone, Past.own}
 use Rattle.store_api.specs.{declared.moves.Move.Move, declared.moves.Move.TheVariants.Done, declared.moves.Move.TheVariants.Step}
 use Rattle.entries.specs.Index.{Index}
-use Rattle.row_versions.specs.{Chains.Chains, declared.kept.Kept.Kept, declared.place.Place.Place}
+use Rattle.row_versions.specs.{Chains.Chains, declared.place.Place.Place}
 use Rattle.law_past_agreement.specs.Order.{MayCome}
 use Rattle.world.specs.State.{WorldState, Session, Work, IsSession, HasWork, standing_of}
 use Rattle.world.specs.{Told.TellsTogether, declared.undo_room.UndoRoom.UndoRoom, Undoing.read_into, Undoing.ReadsLast, Undoing.IsCutBack}
 use Rattle.world.specs.{Undoing.HoldsRecord, Memory.IsInMemory}
 use Rattle.row_changes.specs.Awaited.{AwaitsIn, IsOfTable}
-use Rattle.undo_apply.specs.{declared.work_room.WorkRoom.WorkRoom, declared.work_room.Stage.Stage, Stages.IsPuttingBack}
-use Rattle.shared_lists.specs.Tasks.{MayTakeBack}
-use Rattle.shared_lists.specs.Tasks as tasks
-use Rattle.shared_lists.specs.State.{Lists, task_of}
-use Rattle.shared_lists.specs.declared.answers.Undone.{Undone as Answer}
-use Rattle.shared_lists.specs.declared.answers.Undone.TheVariants as undone
+use Rattle.undo_apply.specs.{declared.work_room.WorkRoom.WorkRoom, Stages.IsPuttingBack}
+use Rattle.shared_lists.specs.{Tasks.MayTakeBack, State.Lists, State.task_of}
 use Rattle.desks.specs.{declared.desk.Desk.Desk, declared.desk.Doing.Doing, Desks.doing_at, Desks.with_doing, Shown.lists_of, Shown.shown, Shown.seen_of}
-use Rattle.desks.specs.{Undoing.undo_left_in, Undoing.left_at, Undoing.keys_if, Undoing.most_versions, Holding.IsHeld}
+use Rattle.desks.specs.{Undoing.undo_left_in, Holding.IsHeld}
 use Rattle.desks.specs.declared.desk.Doing.TheVariants.{Nothing, Searching, Changing, Lagging, Undoing}
 use Rattle.desks.proofs.Showing.{task_is}
 use Rattle.law_held_steps.specs.{Leaving.LeavesIndexes, Leaving.LeavesTable, Leaving.is_searching, Undoing.IsReady, Undoing.HasPutBack}
 use Rattle.law_held_steps.specs.{SeenUndoing.lists_held, SeenUndoing.TakesBackIn}
-use Rattle.law_held_steps.proofs.{Desks.doing_here, Left.held_left, Reading.held_begun, Reading.may_write, Showing.left_shown, TakenBack.own_number}
-use Rattle.law_held_steps.proofs.{TakenBack.has_logged, TakenBack.may_add, TakenBack.held_then, UndoShowing.ready_if, UndoShowing.shows_begun}
-use Rattle.law_held_steps.proofs.{UndoShowing.shows_went, UndoShowing.shows_undone}
-use Rattle.law_held_steps.proofs.Putting.{going, mine, asks_for, held_on, rest_beside, goes_or_is_done}
+use Rattle.law_held_steps.proofs.Putting.{left_same, going, mine, asks_for, held_on, rest_beside, goes_or_is_done, held_begun, may_write}
+use Rattle.law_held_steps.proofs.{Desks.doing_here, Left.held_left, Showing.left_shown}
+use Rattle.law_held_steps.proofs.TakenBack.{own_number, has_logged, may_add, held_then, ready_if, shows_begun, shows_went, shows_undone}
 use Rattle.world_lists.specs.Between.{IsKept, AwaitsOnly, AwaitsNobody, AwaitsWriter, can_await, table_at}
 use Rattle.world_lists.specs.Parts.{DropsNewest, AwaitsAfter}
 use Rattle.world_lists.proofs.Awaiting.{only_mine, only_then, only_left, awaits_none, awaits_of_nobody, writer_of_only}
 use Rattle.world_lists.proofs.{Calls.past_here, Calls.at_desk, Changing.HasTable}
+use Rattle.shared_lists.specs.Tasks as tasks
+use Rattle.shared_lists.specs.declared.answers.Undone.{Undone as Answer}
+use Rattle.shared_lists.specs.declared.answers.Undone.TheVariants as undone
 
 -- who is awaited after it
 pub awaits_after : (s : ℕ) (new : WorldState) (writer : Option ℕ) (desks later : List Desk) (table : ℕ) (answer : Answer) → writer ≡ Some s
@@ -75,21 +73,17 @@ module _ (s : ℕ) {old : WorldState} {writer : Option ℕ} {desks : List Desk} 
     is_ready =
         let task_here = subst (λ (l : Lists). MayTakeBack (task_of s l.state)) (sym view) task in
         let busy_shown = task_is s left old writer desks in
-        ⊎_elim (λ ready. ready)
-        (λ busy. absurd (waits left (ap (λ (l : Lists). task_of s l.state) (sym view) ∙ (busy_shown ∙ ap (shown old.schemas left) busy))))
-        (ready_if old writer desks left s task_here)
+        ⊎_elim (λ ready. ready) (λ busy. absurd (waits left (ap (λ (l : Lists). task_of s l.state) (sym view) ∙ (busy_shown ∙ ap (shown old.schemas left)
+        busy)))) (ready_if old writer desks left s task_here)
 
     pub read_kept : HoldsRecord read → IsKept new writer later cuts read room
     read_kept record_room = record {
       held = subst (λ (ds : List Desk). IsHeld new writer ds cuts read room) (sym gives)
-          (held_begun s (length (own s old.past) - 1) old new writer desks cuts undo read room there kept.held may_here reads (at_desk s kept view joined)
-          is_ready memory);
+          (held_begun s kept.held (length (own s old.past) - 1) may_here new read there reads (at_desk s kept view joined) is_ready memory);
       record_room = record_room;
       -- nobody is awaited
-      awaits = awaits_of_nobody new writer later read.table
-          (λ index by is. awaits_none s old writer desks undo.table kept.awaits
-          (may_write s (length (own s old.past) - 1) old writer desks cuts undo room kept.held may_here) (ready_rests (doing_at s desks) is_ready)
-          index by (sym (reads.1.indexes index).awaited ∙ is));
+      awaits = awaits_of_nobody new writer later read.table (λ index by is. awaits_none s old writer desks undo.table kept.awaits (may_write s kept.held
+          (length (own s old.past) - 1) may_here) (ready_rests (doing_at s desks) is_ready) index by (sym (reads.1.indexes index).awaited ∙ is));
     }
 
     pub read_shown : TakesBackIn s (length (own s lists.state.past) - 1) lists (lists_held new writer later read room) undone.Went
@@ -97,26 +91,23 @@ module _ (s : ℕ) {old : WorldState} {writer : Option ℕ} {desks : List Desk} 
         subst (λ (l : Lists). TakesBackIn s (length (own s l.state.past) - 1) l (lists_held new writer later read room) undone.Went) view
         (subst (λ (ds : List Desk). TakesBackIn s (length (own s old.past) - 1) (lists_held old writer desks undo room)
         (lists_held new writer ds read room) undone.Went) (sym gives)
-        (shows_begun s (length (own s old.past) - 1) old new writer desks cuts undo read room there kept.held (at_desk s kept view joined) is_ready
-        may_here memory reads))
+        (shows_begun s (length (own s old.past) - 1) kept.held new read there (at_desk s kept view joined) is_ready may_here memory reads))
 
   -- ---- a session that takes a change back
 
   module _ (task : (n : ℕ) × (task_of s lists.state ≡ tasks.Undoing n)) where
     is_busy : doing_at s desks ≡ Undoing
     is_busy =
-        undoing_shown old.schemas left task.0 (doing_at s desks)
-        (sym (task_is s left old writer desks) ∙ (ap (λ (l : Lists). task_of s l.state) view ∙ task.1))
+        undoing_shown old.schemas left task.0 (doing_at s desks) (sym (task_is s left old writer desks) ∙ (ap (λ (l : Lists). task_of s l.state) view ∙ task.1))
 
     writes : writer ≡ Some s
-    writes = mine s old old writer desks cuts undo room room kept.held is_busy
+    writes = mine s kept.held is_busy
 
     pub undo_awaits : AwaitsOnly s undo.table old
     undo_awaits = only_mine s old writer desks undo.table undo.table kept.awaits writes (ap (table_at undo.table) is_busy)
 
-    pub undo_kept : {new : WorldState} {later : List Desk} {after : ℕ} {next : WorkRoom}
-        → ((w : Option ℕ) → IsHeld old w desks cuts undo room → IsHeld new w later after undo next) → (answer : Answer)
-        → AwaitsAfter s undo.table new desks later answer → IsKept new writer later after undo next
+    pub undo_kept : {new : WorldState} {later : List Desk} {after : ℕ} {next : WorkRoom} → ((w : Option ℕ) → IsHeld old w desks cuts undo room → IsHeld new w
+        later after undo next) → (answer : Answer) → AwaitsAfter s undo.table new desks later answer → IsKept new writer later after undo next
     undo_kept {new} {later} held answer awaits = record {
       held = held writer kept.held;
       record_room = kept.record_room;
@@ -128,35 +119,29 @@ module _ (s : ℕ) {old : WorldState} {writer : Option ℕ} {desks : List Desk} 
 step_is_not_done : Step ≢ Done
 step_is_not_done same = cc
 
-same_left : (table : ℕ) (stage : Stage) (old new : WorldState) → new.schemas ≡ old.schemas → new.versions.kept_at ≡ old.versions.kept_at
-    → undo_left_in table stage new ≡ undo_left_in table stage old
-same_left table stage old new schemas kept =
-    ap (λ (s : List Schema). left_at (keys_if (slice_get s table)) most_versions new.versions.kept_at stage) schemas
-    ∙ ap (λ (k : ℕ → Option Kept). left_at (keys_if (slice_get old.schemas table)) most_versions k stage) kept
-
 module _ (s : ℕ) {old : WorldState} {writer : Option ℕ} {desks : List Desk} {cuts : ℕ} {undo : UndoRoom} {room : WorkRoom}
     (held : IsHeld old writer desks cuts undo room) (busy : doing_at s desks ≡ Undoing) (memory : IsInMemory old) where
   pub asks : ((chains : Chains) × (place : Place) × IsPuttingBack chains place (read_into undo) room old) × TellsTogether old
-  asks = asks_for s old old writer desks cuts undo room room held busy memory
+  asks = asks_for s held busy memory
 
   module _ (mid : WorldState) (next : WorkRoom) where
     same_schemas : (answer : Move) → HasPutBack s (read_into undo) room next old mid answer → mid.schemas ≡ old.schemas
-    same_schemas answer put = ap (λ (state : WorldState). state.schemas) (rest_beside s old mid writer desks cuts undo room next held busy answer put)
+    same_schemas answer put = ap (λ (state : WorldState). state.schemas) (rest_beside s held busy mid next answer put)
 
     -- nothing hinders it
     pub is_made : AwaitsOnly s undo.table old → (answer : Move) → HasPutBack s (read_into undo) room next old mid answer → answer ≢ Done → answer ≢ Step → ⊥
     is_made only answer put not_done not_step =
         ⊎_elim (λ done. not_done done) (λ step. not_step step)
-        (goes_or_is_done s old mid writer desks cuts undo room next held busy answer memory (λ index by is. (only.each index by is).0) put)
+        (goes_or_is_done s held busy mid next answer put memory (λ index by is. (only.each index by is).0))
 
     -- it goes on
     module _ (put : HasPutBack s (read_into undo) room next old mid Step) where
       pub step_held : IsInMemory mid → IsHeld mid writer desks cuts undo next
-      step_held later = held_on s old mid writer desks cuts undo room next held busy Step memory later put step_is_not_done
+      step_held later = held_on s held busy mid next Step put step_is_not_done memory later
 
       pub step_shown : IsInMemory mid
           → TakesBackIn s (length (own s old.past) - 1) (lists_held old writer desks undo room) (lists_held mid writer desks undo next) undone.Went
-      step_shown later = shows_went s (length (own s old.past) - 1) old mid writer desks cuts undo room next held busy memory later put
+      step_shown later = shows_went s (length (own s old.past) - 1) held busy mid next memory later put
 
       pub step_awaits : AwaitsOnly s undo.table old → AwaitsIn s undo.table old mid → AwaitsOnly s undo.table mid × (desks ≡ desks)
       step_awaits only awaits = (only_then s undo.table old mid only awaits (same_schemas Step put), refl)
@@ -164,20 +149,20 @@ module _ (s : ℕ) {old : WorldState} {writer : Option ℕ} {desks : List Desk} 
     -- It is the last one, and the undo record may go.
     module _ (joined : s < length desks) (put : HasPutBack s (read_into undo) room next old mid Done) where
       pub is_logged : (session : Session) × (work : Work) × HasWork s session work mid × (work.log ≢ [])
-      is_logged = has_logged s old mid writer desks cuts undo room next held busy put
+      is_logged = has_logged s held busy mid next put
 
       pub is_session : s < length mid.sessions
       is_session = slice_get_within mid.sessions s is_logged.0 is_logged.2.session_is
 
       pub has_changes : (now : Session) → IsSession s now mid → 0 < (standing_of now).own
-      has_changes now is = (own_number s old mid writer desks cuts undo room next held busy put now is).0
+      has_changes now is = (own_number s held busy mid next put now is).0
 
       pub has_still : (cut : WorldState) → IsCutBack s mid cut → (now : Session) × (work : Work) × HasWork s now work cut × (0 < work.own)
-      has_still cut back = may_add s old mid writer desks cuts undo room next held busy put cut back
+      has_still cut back = may_add s held busy mid next put cut back
 
       module _ (new : WorldState) (drops : DropsNewest s mid new) where
         keep_is : (standing_of drops.session).own - 1 ≡ length (own s old.past) - 1
-        keep_is = (own_number s old mid writer desks cuts undo room next held busy put drops.session drops.there).1
+        keep_is = (own_number s held busy mid next put drops.session drops.there).1
 
         -- the last step and what comes with it call no index but that of the table
         drops_same : (new.indexes ≡ mid.indexes) × (new.schemas ≡ mid.schemas)
@@ -192,7 +177,7 @@ module _ (s : ℕ) {old : WorldState} {writer : Option ℕ} {desks : List Desk} 
         -- its table is there, and has few keys
         pub has_table : HasTable undo.table new
         has_table =
-            let putting = (going s old old writer desks cuts undo room room held busy).putting in
+            let putting = (going s held busy).putting in
             let tells = putting.tells in
             let schema = putting.schema in
             let few = tells.storable.few in
@@ -207,16 +192,14 @@ module _ (s : ℕ) {old : WorldState} {writer : Option ℕ} {desks : List Desk} 
 
           pub done_held : length new.past < 2 ^ 63 → IsHeld fin writer later (cuts + 1) undo next
           done_held few =
-              held_left s writer new fin leaves later (cuts + 1) undo next
-              (subst (λ (ds : List Desk). IsHeld new writer ds (cuts + 1) undo next) (sym gives)
-              (held_then s old mid writer desks cuts undo room next held busy put drops.cut drops.cuts ((standing_of drops.session).own - 1) new
-              drops.added keep_is undo joined memory few)) not_searching later_memory.told
+              held_left leaves (subst (λ (ds : List Desk). IsHeld new writer ds (cuts + 1) undo next) (sym gives) (held_then s held busy mid next put drops.cut
+              drops.cuts ((standing_of drops.session).own - 1) new drops.added keep_is undo joined memory few)) not_searching later_memory.told
 
           same_seen : lists_held new writer later undo next ≡ lists_held fin writer later undo next
           same_seen =
-              ap (lists_of new writer later) (sym (same_left undo.table next.stage new fin (ap (λ (state : WorldState). state.schemas) leaves.rest)
+              ap (lists_of new writer later) (sym (left_same undo.table next.stage new fin (ap (λ (state : WorldState). state.schemas) leaves.rest)
               (leaves.versions.kept later_memory.told.versions)))
-              ∙ sym (left_shown s writer later (undo_left_in undo.table next.stage fin) new fin leaves not_searching later_memory.told)
+              ∙ sym (left_shown writer later (undo_left_in undo.table next.stage fin) leaves not_searching later_memory.told)
 
           pub done_shown : TakesBackIn s (length (own s old.past) - 1) (lists_held old writer desks undo room)
               (lists_held fin writer later undo next) undone.Undone
@@ -225,15 +208,13 @@ module _ (s : ℕ) {old : WorldState} {writer : Option ℕ} {desks : List Desk} 
               subst (λ (now : Lists). TakesBackIn s (length (own s old.past) - 1) was now undone.Undone) same_seen
               (subst (λ (n : ℕ). TakesBackIn s n was (lists_held new writer later undo next) undone.Undone) keep_is
               (subst (λ (ds : List Desk). TakesBackIn s ((standing_of drops.session).own - 1) was (lists_held new writer ds undo next) undone.Undone)
-              (sym gives) (shows_undone s ((standing_of drops.session).own - 1) old mid drops.cut new writer desks cuts undo undo room next held joined busy
-              put drops.cuts drops.added)))
+              (sym gives) (shows_undone s held busy mid next put drops.cut drops.cuts ((standing_of drops.session).own - 1) new drops.added undo joined)))
 
         pub done_awaits : AwaitsOnly s undo.table old → AwaitsIn s undo.table old mid → {fin : WorldState} → LeavesIndexes s new fin
             → LeavesTable s undo.table new fin → AwaitsNobody fin
         done_awaits only awaits {fin} leaves gone =
             let at_mid = only_then s undo.table old mid only awaits (same_schemas Done put) in
             only_left s undo.table new fin (record {
-              each = λ index by is.
-                  (let was = at_mid.each index by (ap (λ (at : ℕ → Index). (at index).awaited) (sym drops_same.0) ∙ is) in
+              each = λ index by is. (let was = at_mid.each index by (ap (λ (at : ℕ → Index). (at index).awaited) (sym drops_same.0) ∙ is) in
                   (was.0, subst (λ (schemas : List Schema). IsOfTable undo.table schemas index) (sym drops_same.1) was.1));
             }) leaves gone

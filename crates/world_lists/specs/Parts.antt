@@ -4,19 +4,16 @@ use Rattle.row_versions.specs.Chains.{Chains}
 use Rattle.world.specs.State.{WorldState, Session, Work, IsSession, HasWork, standing_of}
 use Rattle.world.specs.{Sessions.undone_added, Undoing.IsCutBack}
 use Rattle.row_changes.specs.{declared.row_change.RowChange.RowChange, declared.row_change.RowChange.TheVariants.Record}
-use Rattle.row_changes.specs.{declared.row_change.RowChange.TheVariants.Keys, declared.reached.Reached.Reached}
-use Rattle.row_changes.specs.declared.reached.Reached.TheVariants as reached
-use Rattle.row_changes.specs.Rows.{IsChangingRow, ChangesRow, table_of}
+use Rattle.row_changes.specs.{declared.row_change.RowChange.TheVariants.Keys, declared.reached.Reached.Reached, Rows.IsChangingRow, Rows.ChangesRow}
+use Rattle.row_changes.specs.{Rows.table_of, Awaited.AwaitsIn}
 use Rattle.shared_lists.specs.{declared.answers.Changed.Changed, declared.answers.Changed.TheVariants.Went, declared.answers.Changed.TheVariants.Entered}
 use Rattle.shared_lists.specs.{declared.answers.Changed.TheVariants.Done, declared.answers.Changed.TheVariants.NoMemory, declared.answers.Undone.Undone}
 use Rattle.desks.specs.{declared.desk.Doing.Doing, declared.desk.Doing.TheVariants.Nothing, declared.desk.Doing.TheVariants.Changing, Desks.doing_at}
-use Rattle.desks.specs.{Desks.with_doing}
-use Rattle.law_held_steps.specs.Making.{given_up, doing_after}
-use Rattle.shared_lists.specs.declared.answers.Undone.TheVariants as undone
-use Rattle.row_changes.specs.Awaited.{AwaitsIn}
-use Rattle.desks.specs.declared.desk.Desk.{Desk}
+use Rattle.desks.specs.{Desks.with_doing, declared.desk.Desk.Desk}
+use Rattle.law_held_steps.specs.{Making.given_up, Making.doing_after, Leaving.LeavesIndexes, Leaving.LeavesTable}
 use Rattle.world_lists.specs.Between.{AwaitsOnly, AwaitsNobody}
-use Rattle.law_held_steps.specs.Leaving.{LeavesIndexes, LeavesTable}
+use Rattle.row_changes.specs.declared.reached.Reached.TheVariants as reached
+use Rattle.shared_lists.specs.declared.answers.Undone.TheVariants as undone
 
 -- whether the history tells the change
 abbrev pub is_told : RowChange → Bool

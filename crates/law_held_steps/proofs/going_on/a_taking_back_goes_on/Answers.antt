@@ -3,13 +3,11 @@ use Rattle.law_held_steps.proofs.going_on.a_taking_back_goes_on.Goals as goal
 
 pub returns : goal.returns
 returns c = record {
-  asks = λ s state writer desks cuts undo room held busy memory. asks_for s state state writer desks cuts undo room room held busy memory;
-  held = λ s old new writer desks cuts undo room next answer held busy memory later put not_done.
-      held_on s old new writer desks cuts undo room next held busy answer memory later put not_done;
-  rest = λ s old new writer desks cuts undo room next answer held busy put. rest_beside s old new writer desks cuts undo room next held busy answer put;
-  nears = nearer;
+  asks = λ s state writer desks cuts undo room held busy memory. asks_for s held busy memory;
+  held = λ s old new writer desks cuts undo room next answer held busy memory later put not_done. held_on s held busy new next answer put not_done memory later;
+  rest = λ s old new writer desks cuts undo room next answer held busy put. rest_beside s held busy new next answer put;
+  nears = λ s old new writer desks cuts undo room next held busy memory later put. nearer s held busy new next put memory later;
   same = λ s old new writer desks cuts undo room next answer held busy later put not_done not_step.
-      same_left s old new writer desks cuts undo room next held busy answer later put not_done not_step;
-  sure = λ s old new writer desks cuts undo room next answer held busy memory alone put.
-      goes_or_is_done s old new writer desks cuts undo room next held busy answer memory alone put;
+      same_left s held busy new next answer put not_done not_step later;
+  sure = λ s old new writer desks cuts undo room next answer held busy memory alone put. goes_or_is_done s held busy new next answer put memory alone;
 }

@@ -1,4 +1,4 @@
-use Rattle.law_held_steps.proofs.SeenEntries.{now_of}
+use Rattle.law_held_steps.proofs.Showing.{now_of}
 use Rattle.law_held_steps.proofs.item_entries.callers_see_the_entry.Goals as goal
 
 pub returns : goal.returns

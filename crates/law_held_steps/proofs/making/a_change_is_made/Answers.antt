@@ -1,5 +1,9 @@
-use Rattle.law_held_steps.proofs.Made.{may, change_made}
+use Rattle.std.proofs.Common.{refl}
+use Rattle.law_held_steps.proofs.{Made.change_made, Putting.rows_mine}
 use Rattle.law_held_steps.proofs.making.a_change_is_made.Goals as goal
 
 pub returns : goal.returns
-returns c = record { may = λ state s desks cuts undo room change held at. may s desks cuts undo room state held change at; made = change_made }
+returns c = record {
+  may = λ state s desks cuts undo room change held at. (held.chains, (rows_mine s held refl at).0);
+  made = λ s desks cuts undo room old new change reached. change_made;
+}

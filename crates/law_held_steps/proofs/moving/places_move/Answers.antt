@@ -2,4 +2,11 @@ use Rattle.law_held_steps.proofs.Places.{none_moves, moves_then, moves_in_one, m
 use Rattle.law_held_steps.proofs.moving.places_move.Goals as goal
 
 pub returns : goal.returns
-returns c = record { none = none_moves; then = moves_then; in_one = moves_in_one; unchanged = moves_nothing; left = leaving_moves; told = moves_told }
+returns c = record {
+  none = λ s state. none_moves;
+  then = λ s old between new. moves_then;
+  in_one = λ s index old new. moves_in_one;
+  unchanged = λ s old new. moves_nothing;
+  left = leaving_moves;
+  told = λ s old new. moves_told;
+}

@@ -4,7 +4,7 @@ use Rattle.read_view.specs.Sight.{Sight as ReadSight}
 use Rattle.world.specs.{State.WorldState, Sessions.IsShown}
 use Rattle.desks.specs.Holding.{IsOwnView}
 use Rattle.law_held_steps.specs.Begun.{HasView}
-use Rattle.law_held_steps.proofs.Begins.{own_view}
+use Rattle.law_held_steps.proofs.Stepping.{own_view}
 use Rattle.world_lists.proofs.reading.own_sight.Goals as goal
 
 pub returns-in-Some : goal.returns-in-Some
@@ -16,7 +16,6 @@ returns-in-Some g c =
       c.in_ok-view-in-Some.view,
       reader,
       refl,
-      subst (λ (view : ReadSight). IsOwnView state c.args.session view reader) (sym c.in_ok-view-in-Some.ensures)
-          (own_view c.args.session state c.view.new.into c.in_ok-next.field-0 has shown c.in-Some.next reader c.in-Some.is
-          (ap (λ (standing : Standing). standing.id) (c.session-own.ensures has.session has.has_work.session_is))),
+      subst (λ (view : ReadSight). IsOwnView state c.args.session view reader) (sym c.in_ok-view-in-Some.ensures) (own_view c.view.new.into c.in_ok-next.field-0
+          has shown c.in-Some.next reader c.in-Some.is (ap (λ (standing : Standing). standing.id) (c.session-own.ensures has.session has.has_work.session_is))),
     )

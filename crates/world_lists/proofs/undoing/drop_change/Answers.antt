@@ -6,8 +6,7 @@ use Rattle.world_lists.proofs.Changing.{table_dropped, gone_by, step_of, dropped
 use Rattle.world_lists.proofs.undoing.drop_change.Goals as goal
 
 pub leave_table-requires : goal.leave_table-requires
-leave_table-requires g c =
-    table_dropped c.args.session c.args.change c.table_of-table.ensures (g.W.World.state c.args.world.now) c.requires.changing
+leave_table-requires g c = table_dropped c.args.session c.args.change c.table_of-table.ensures (g.W.World.state c.args.world.now) c.requires.changing
 
 pub returns : goal.returns
 returns g c =

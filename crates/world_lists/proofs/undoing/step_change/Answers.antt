@@ -18,8 +18,7 @@ leave_table-requires-in-Hindered g c =
 pub returns-in-Went : goal.returns-in-Went
 returns-in-Went g c =
     let answer_is = c.answer_for.ensures c.args.change.now c.is_told-is_told.ensures in
-    step_of c.args.change.now (Went c.advance.new.self) c.advance.ensures.awaits (none_left c.args.session _)
-    (ap (reached_at c.advance.new.self) c.in-Went.is)
+    step_of c.args.change.now (Went c.advance.new.self) c.advance.ensures.awaits (none_left c.args.session _) (ap (reached_at c.advance.new.self) c.in-Went.is)
     c.advance.ensures.changes (record {}) (lies_there c.args.change.now c.advance.new.self answer_is) answer_is
 
 pub returns-in-Done : goal.returns-in-Done

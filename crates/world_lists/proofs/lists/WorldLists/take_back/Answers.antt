@@ -6,8 +6,7 @@ use Rattle.world_lists.proofs.TakingBack.{undo_awaits, undo_kept}
 use Rattle.world_lists.proofs.lists.WorldLists.take_back.Goals as goal
 
 pub take_newest_back-requires-clause-awaits : goal.take_newest_back-requires-clause-awaits
-take_newest_back-requires-clause-awaits g c =
-    undo_awaits c.args.session c.self.invariant c.self.view_is c.requires.task
+take_newest_back-requires-clause-awaits g c = undo_awaits c.args.session c.self.invariant c.self.view_is c.requires.task
 
 pub invariant_of-self : goal.invariant_of-self
 invariant_of-self g c =

@@ -3,16 +3,13 @@ use Rattle.world_lists.proofs.Made.{opened_kept, opened_adds, opened_reset, open
 use Rattle.world_lists.proofs.steps.WorldListsSharedLists.begin.Goals as goal
 
 pub returns-in_err-event_room-clause-err : goal.returns-in_err-event_room-clause-err
-returns-in_err-event_room-clause-err g c =
-    on_err _ (stays_same c.args.session c.self.invariant c.self.view_is c.in_err-event_room.ensures.err)
+returns-in_err-event_room-clause-err g c = on_err _ (stays_same c.args.session c.self.invariant c.self.view_is c.in_err-event_room.ensures.err)
 
 pub begin-requires-clause-closed : goal.begin-requires-clause-closed
-begin-requires-clause-closed g c =
-    is_closed c.args.session c.self.invariant c.self.view_is c.requires.joined c.in_ok-event_room.ensures.ok c.requires.may.1
+begin-requires-clause-closed g c = is_closed c.args.session c.self.invariant c.self.view_is c.requires.joined c.in_ok-event_room.ensures.ok c.requires.may.1
 
 pub begin-requires-clause-few : goal.begin-requires-clause-few
-begin-requires-clause-few g c =
-    few_begun c.args.session c.self.invariant c.self.view_is c.requires.joined c.in_ok-event_room.ensures.ok
+begin-requires-clause-few g c = few_begun c.args.session c.self.invariant c.self.view_is c.requires.joined c.in_ok-event_room.ensures.ok
 
 pub invariant_of-self-in_err-txn : goal.invariant_of-self-in_err-txn
 invariant_of-self-in_err-txn g c =

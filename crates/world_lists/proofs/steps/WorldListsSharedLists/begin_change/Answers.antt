@@ -20,9 +20,8 @@ invariant_of-self g c =
 pub returns : goal.returns
 returns g c =
     let begins = change_begins c.args.session c.self.invariant c.self.view_is c.requires.locked c.requires.fits c.in-Some.table c.in-Some.edit
-    c.in-Some.ensures.some
-    c.as_slice.ensures c.tables.ensures c.index-as_slice-table.is c.requires.idle c.in_ok-key.key c.in_ok-key.ensures c.in_ok-change.ensures
-    c.give_doing.ensures c.requires.joined in
+    c.in-Some.ensures.some c.as_slice.ensures c.tables.ensures c.index-as_slice-table.is c.requires.idle c.in_ok-key.key c.in_ok-key.ensures
+    c.in_ok-change.ensures c.give_doing.ensures c.requires.joined in
     record {
       ok = begins.turns;
       changing = begins.changing;

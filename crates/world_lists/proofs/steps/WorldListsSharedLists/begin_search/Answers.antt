@@ -1,4 +1,4 @@
-use Rattle.law_held_steps.proofs.Begins.{new_search}
+use Rattle.law_held_steps.proofs.Stepping.{new_search}
 use Rattle.world_lists.proofs.Searching.{table_within, view_there, begun_kept, begun_seen}
 use Rattle.world_lists.proofs.steps.WorldListsSharedLists.begin_search.Goals as goal
 
@@ -7,9 +7,7 @@ bounds-as_slice-table g c =
     table_within c.args.session c.self.invariant c.self.view_is c.args.table c.args.plan c.requires.there c.as_slice.ensures c.tables.ensures
 
 pub sight_by-requires : goal.sight_by-requires
-sight_by-requires g c =
-    λ as_view.
-    view_there c.args.session c.self.invariant c.self.view_is c.requires.is_open (c.requires.view as_view)
+sight_by-requires g c = λ as_view. view_there c.args.session c.self.invariant c.self.view_is c.requires.is_open (c.requires.view as_view)
 
 pub invariant_of-self : goal.invariant_of-self
 invariant_of-self g c =

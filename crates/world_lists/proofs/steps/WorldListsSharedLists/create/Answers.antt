@@ -3,20 +3,17 @@ use Rattle.world_lists.proofs.Tabled.{has_txn, has_id, few_ids, table_kept, tabl
 use Rattle.world_lists.proofs.steps.WorldListsSharedLists.create.Goals as goal
 
 pub add_table-requires-clause-may : goal.add_table-requires-clause-may
-add_table-requires-clause-may g c =
-    its_work c.args.session c.self.invariant c.self.view_is c.requires.joined c.requires.may.0
+add_table-requires-clause-may g c = its_work c.args.session c.self.invariant c.self.view_is c.requires.joined c.requires.may.0
 
 pub give_first_id-requires-clause-there : goal.give_first_id-requires-clause-there
-give_first_id-requires-clause-there g c =
-    has_txn c.args.session c.self.invariant c.self.view_is c.in_ok-add_table.ensures.ok c.txn_of-txn.ensures
+give_first_id-requires-clause-there g c = has_txn c.args.session c.self.invariant c.self.view_is c.in_ok-add_table.ensures.ok c.txn_of-txn.ensures
 
 pub give_first_id-requires-clause-id : goal.give_first_id-requires-clause-id
 give_first_id-requires-clause-id g c =
     has_id c.args.session c.self.invariant c.self.view_is c.in_ok-add_table.ensures.ok c.txn_of-txn.ensures c.session-id.ensures
 
 pub give_first_id-requires-clause-few : goal.give_first_id-requires-clause-few
-give_first_id-requires-clause-few g c =
-    few_ids c.args.session c.self.invariant c.self.view_is c.in_ok-add_table.ensures.ok c.txn_of-txn.ensures
+give_first_id-requires-clause-few g c = few_ids c.args.session c.self.invariant c.self.view_is c.in_ok-add_table.ensures.ok c.txn_of-txn.ensures
 
 pub invariant_of-self-2 : goal.invariant_of-self-2
 invariant_of-self-2 g c =

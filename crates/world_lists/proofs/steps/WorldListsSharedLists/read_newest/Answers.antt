@@ -7,8 +7,7 @@ bounds-as_slice-table g c =
     table_within c.args.session c.self.invariant c.self.view_is c.args.table c.args.plan c.requires.there c.as_slice.ensures c.tables.ensures
 
 pub is_quiet-requires : goal.is_quiet-requires
-is_quiet-requires g c =
-    rw c.deref.ensures.value (writer_within c.args.session c.self.invariant c.self.view_is)
+is_quiet-requires g c = rw c.deref.ensures.value (writer_within c.args.session c.self.invariant c.self.view_is)
 
 pub newest_rows-found-requires : goal.newest_rows-found-requires
 newest_rows-found-requires g c =

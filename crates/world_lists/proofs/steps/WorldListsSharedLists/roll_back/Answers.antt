@@ -4,8 +4,7 @@ use Rattle.world_lists.proofs.{Calls.may_end, Made.closes, Made.same_rows, Made.
 use Rattle.world_lists.proofs.steps.WorldListsSharedLists.roll_back.Goals as goal
 
 pub roll_back-requires : goal.roll_back-requires
-roll_back-requires g c =
-    may_end c.args.session c.self.invariant c.self.view_is c.requires.joined c.requires.may.0
+roll_back-requires g c = may_end c.args.session c.self.invariant c.self.view_is c.requires.joined c.requires.may.0
 
 pub invariant_of-self : goal.invariant_of-self
 invariant_of-self g c =
@@ -17,9 +16,7 @@ returns-clause-closes g c =
     closes c.args.session c.self.invariant c.self.view_is (RolledBack c.args.session) c.without-self-inside.ensures c.in-Done.ensures.rest refl refl refl refl
 
 pub returns-clause-settings : goal.returns-clause-settings
-returns-clause-settings g c =
-    rolled_back_reset c.args.session c.self.invariant c.self.view_is c.in-Done.ensures
+returns-clause-settings g c = rolled_back_reset c.args.session c.self.invariant c.self.view_is c.in-Done.ensures
 
 pub returns-clause-rows : goal.returns-clause-rows
-returns-clause-rows g c =
-    same_rows c.args.session c.self.invariant c.self.view_is c.in-Done.ensures.rest refl
+returns-clause-rows g c = same_rows c.args.session c.self.invariant c.self.view_is c.in-Done.ensures.rest refl

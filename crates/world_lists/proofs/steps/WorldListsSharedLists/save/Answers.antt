@@ -22,6 +22,5 @@ returns-clause-same g c =
 
 pub returns-clause-ok : goal.returns-clause-ok
 returns-clause-ok g c =
-    when_ok c.savepoint.result c.savepoint.ensures.ok
-    (saved_reset c.args.session c.self.invariant c.self.view_is c.requires.joined c.requires.is_open c.args.name.now c.txn_of-txn.ensures
-    c.session-made.ensures _)
+    when_ok c.savepoint.result c.savepoint.ensures.ok (saved_reset c.args.session c.self.invariant c.self.view_is c.requires.joined c.requires.is_open
+    c.args.name.now c.txn_of-txn.ensures c.session-made.ensures _)

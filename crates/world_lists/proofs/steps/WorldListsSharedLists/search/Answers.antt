@@ -18,14 +18,12 @@ invariant_of-self g c =
 
 pub returns-in-Went-clause-searches : goal.returns-in-Went-clause-searches
 returns-in-Went-clause-searches g c =
-    λ table plan reading task.
-    went_seen c.args.session c.self.invariant c.self.view_is c.in-Searching.ensures.was c.take_up.ensures.as_it_was c.take_up.ensures.anew
-    (g.met.W.EngineWorld.tells c.advance.new.world).told c.in-Went.ensures c.take_doing.ensures.is c.give_doing.ensures
+    λ table plan reading task. went_seen c.args.session c.self.invariant c.self.view_is c.in-Searching.ensures.was c.take_up.ensures.as_it_was
+    c.take_up.ensures.anew (g.met.W.EngineWorld.tells c.advance.new.world).told c.in-Went.ensures c.take_doing.ensures.is c.give_doing.ensures
 
 pub returns-in-Went-clause-nears : goal.returns-in-Went-clause-nears
 returns-in-Went-clause-nears g c =
-    λ went.
-    went_nears c.args.session c.self.invariant c.self.view_is c.in-Searching.ensures.was c.take_up.ensures.as_it_was c.take_up.ensures.anew
+    λ went. went_nears c.args.session c.self.invariant c.self.view_is c.in-Searching.ensures.was c.take_up.ensures.as_it_was c.take_up.ensures.anew
     (g.met.W.EngineWorld.tells c.advance.new.world).told c.in-Went.ensures c.take_doing.ensures.is c.give_doing.ensures
 
 pub invariant_of-self-in-Done : goal.invariant_of-self-in-Done
@@ -46,7 +44,6 @@ invariant_of-self-in-Hindered g c =
 
 pub returns-in-Hindered-clause-searches : goal.returns-in-Hindered-clause-searches
 returns-in-Hindered-clause-searches g c =
-    λ table plan reading task.
-    hindered_seen c.args.session c.self.invariant c.self.view_is c.in-Searching.ensures.was c.take_up.ensures.as_it_was c.take_up.ensures.anew
-    (g.met.W.EngineWorld.tells c.advance.new.world).told c.take_doing.ensures.is c.in-Hindered.ensures c.give_up.ensures
+    λ table plan reading task. hindered_seen c.args.session c.self.invariant c.self.view_is c.in-Searching.ensures.was c.take_up.ensures.as_it_was
+    c.take_up.ensures.anew (g.met.W.EngineWorld.tells c.advance.new.world).told c.take_doing.ensures.is c.in-Hindered.ensures c.give_up.ensures
     (g.met.W.EngineWorld.tells c.give_up.new.world).told

@@ -7,13 +7,10 @@ invariant_of-self g c =
     (g.met.W.EngineWorld.tells c.self.inside.world).told
 
 pub returns-clause-same : goal.returns-clause-same
-returns-clause-same g c =
-    set_stays c.args.session c.self.invariant c.self.view_is c.requires.joined c.args.stmt.now c.set.ensures
+returns-clause-same g c = set_stays c.args.session c.self.invariant c.self.view_is c.requires.joined c.args.stmt.now c.set.ensures
 
 pub returns-clause-settings : goal.returns-clause-settings
-returns-clause-settings g c =
-    set_reset c.args.session c.self.invariant c.self.view_is c.requires.joined c.args.stmt.now c.set.ensures
+returns-clause-settings g c = set_reset c.args.session c.self.invariant c.self.view_is c.requires.joined c.args.stmt.now c.set.ensures
 
 pub returns-clause-rows : goal.returns-clause-rows
-returns-clause-rows g c =
-    set_rows c.args.session c.self.invariant c.self.view_is c.requires.joined c.args.stmt.now c.set.ensures
+returns-clause-rows g c = set_rows c.args.session c.self.invariant c.self.view_is c.requires.joined c.args.stmt.now c.set.ensures

@@ -4,8 +4,7 @@ use Rattle.world_lists.proofs.Made.{on_err, stays_same, adds, unset_as, same_row
 use Rattle.world_lists.proofs.steps.WorldListsSharedLists.signal.Goals as goal
 
 pub returns-in_err-add_signal-clause-err : goal.returns-in_err-add_signal-clause-err
-returns-in_err-add_signal-clause-err g c =
-    on_err _ (stays_same c.args._session c.self.invariant c.self.view_is c.in_err-add_signal.ensures.err)
+returns-in_err-add_signal-clause-err g c = on_err _ (stays_same c.args._session c.self.invariant c.self.view_is c.in_err-add_signal.ensures.err)
 
 pub invariant_of-self-2 : goal.invariant_of-self-2
 invariant_of-self-2 g c =
@@ -13,13 +12,10 @@ invariant_of-self-2 g c =
     (g.met.W.EngineWorld.tells c.self.inside.world).told c.is_short.ensures.few
 
 pub returns-clause-ok : goal.returns-clause-ok
-returns-clause-ok g c =
-    adds c.args._session c.self.invariant c.self.view_is (Signal c.args.name) c.in_ok-add_signal.ensures.ok refl refl refl refl
+returns-clause-ok g c = adds c.args._session c.self.invariant c.self.view_is (Signal c.args.name) c.in_ok-add_signal.ensures.ok refl refl refl refl
 
 pub returns-clause-settings : goal.returns-clause-settings
-returns-clause-settings g c =
-    unset_as c.args._session c.self.invariant c.self.view_is c.in_ok-add_signal.ensures.ok refl
+returns-clause-settings g c = unset_as c.args._session c.self.invariant c.self.view_is c.in_ok-add_signal.ensures.ok refl
 
 pub returns-clause-rows : goal.returns-clause-rows
-returns-clause-rows g c =
-    same_rows c.args._session c.self.invariant c.self.view_is c.in_ok-add_signal.ensures.ok refl
+returns-clause-rows g c = same_rows c.args._session c.self.invariant c.self.view_is c.in_ok-add_signal.ensures.ok refl

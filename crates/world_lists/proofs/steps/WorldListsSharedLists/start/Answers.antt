@@ -4,8 +4,7 @@ use Rattle.world_lists.proofs.Made.{on_err, stays_same, started_kept, started_ad
 use Rattle.world_lists.proofs.steps.WorldListsSharedLists.start.Goals as goal
 
 pub returns-in_err-start-clause-err : goal.returns-in_err-start-clause-err
-returns-in_err-start-clause-err g c =
-    on_err c.from_residual.result (stays_same c.args.session c.self.invariant c.self.view_is c.in_err-start.ensures.err)
+returns-in_err-start-clause-err g c = on_err c.from_residual.result (stays_same c.args.session c.self.invariant c.self.view_is c.in_err-start.ensures.err)
 
 pub invariant_of-self-2 : goal.invariant_of-self-2
 invariant_of-self-2 g c =

@@ -3,12 +3,10 @@ use Rattle.world_lists.proofs.Made.{on_err, stays_same, viewed_kept, viewed_adds
 use Rattle.world_lists.proofs.steps.WorldListsSharedLists.take_view.Goals as goal
 
 pub add_view-requires : goal.add_view-requires
-add_view-requires g c =
-    its_work c.args.session c.self.invariant c.self.view_is c.requires.joined c.requires.is_open
+add_view-requires g c = its_work c.args.session c.self.invariant c.self.view_is c.requires.joined c.requires.is_open
 
 pub returns-in_err-add_view-clause-err : goal.returns-in_err-add_view-clause-err
-returns-in_err-add_view-clause-err g c =
-    on_err _ (stays_same c.args.session c.self.invariant c.self.view_is c.in_err-add_view.ensures.err)
+returns-in_err-add_view-clause-err g c = on_err _ (stays_same c.args.session c.self.invariant c.self.view_is c.in_err-add_view.ensures.err)
 
 pub invariant_of-self-2 : goal.invariant_of-self-2
 invariant_of-self-2 g c =
