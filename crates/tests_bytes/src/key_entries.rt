@@ -58,34 +58,36 @@ fn has_entry(alloc: Global, which: u8, value: &[u8], entry: &[u8]) -> Result<boo
     Ok(out.as_slice() == entry)
 }
 
+/// A key, a record, and the record's entry in that key.
+const WANTED: [(u8, &[u8], &[u8]); 5] = [
+    (
+        1,
+        &RECORD,
+        &[1, b'a', b'b', 0, 2, 0x80, 0, 0, 0, 0, 0, 0, 1],
+    ),
+    (
+        2,
+        &RECORD,
+        &[1, 0x80, 0, 0, 0, 0, 0, 0, 1, 0x80, 0, 0, 0, 0, 0, 0, 1],
+    ),
+    (
+        3,
+        &RECORD,
+        &[
+            1, 0x7f, 0xff, 0xff, 0xff, 0xff, 0xff, 0xff, 0xff, 0x80, 0, 0, 0, 0, 0, 0, 1,
+        ],
+    ),
+    (1, &NULLS, &[0, 0, 0, 0, 0, 0x80, 0, 0, 0, 0, 0, 0, 1]),
+    (
+        3,
+        &NULLS,
+        &[0, 0, 0, 0, 0, 0, 0, 0, 0, 0x80, 0, 0, 0, 0, 0, 0, 1],
+    ),
+];
+
 #[test]
 fn entries_of_records(rt: HostRuntime) -> Result<(), Fail> {
-    let wanted: [(u8, &[u8], &[u8]); 5] = [
-        (
-            1,
-            &RECORD,
-            &[1, b'a', b'b', 0, 2, 0x80, 0, 0, 0, 0, 0, 0, 1],
-        ),
-        (
-            2,
-            &RECORD,
-            &[1, 0x80, 0, 0, 0, 0, 0, 0, 1, 0x80, 0, 0, 0, 0, 0, 0, 1],
-        ),
-        (
-            3,
-            &RECORD,
-            &[
-                1, 0x7f, 0xff, 0xff, 0xff, 0xff, 0xff, 0xff, 0xff, 0x80, 0, 0, 0, 0, 0, 0, 1,
-            ],
-        ),
-        (1, &NULLS, &[0, 0, 0, 0, 0, 0x80, 0, 0, 0, 0, 0, 0, 1]),
-        (
-            3,
-            &NULLS,
-            &[0, 0, 0, 0, 0, 0, 0, 0, 0, 0x80, 0, 0, 0, 0, 0, 0, 1],
-        ),
-    ];
-    for (which, value, entry) in wanted {
+    for (which, value, entry) in WANTED {
         assert!(rt; has_entry(rt.alloc(), which, value, entry)?, "key {which}");
     }
     assert!(rt; !has_entry(rt.alloc(), 4, &RECORD, &[])?);

@@ -9,8 +9,6 @@ mod key_entries;
 #[cfg(test)]
 mod keys;
 #[cfg(test)]
-mod mini_transactions;
-#[cfg(test)]
 mod pages;
 #[cfg(test)]
 mod records;

@@ -4,7 +4,7 @@ ghost use Rattle.std.specs.Prelude.{◌≡◌, length, IfOk};
 ghost use Rattle.page_format.specs.Shape.{HasTreeFields, AreRising};
 ghost use Rattle.page_format.specs.Words.{records_of};
 
-use page_format::{Found, Page, PageBad};
+use page_format::{Page, PageBad};
 use std::test::Fail;
 use sum64::fnv;
 
@@ -57,40 +57,6 @@ fn room_of_full_leaves(rt: HostRuntime) -> Result<(), Fail> {
             "{count} records of {record_len} bytes"
         );
     }
-    Ok(())
-}
-
-#[test]
-fn refused(rt: HostRuntime) {
-    let good = leaf(3, 4, 1);
-    let mut changed = good;
-    changed[300] = 1;
-    match Page::read(&changed, 7) {
-        Err(PageBad::Sum { stored, computed }) => assert_ne!(rt; stored, computed),
-        _ => assert!(rt; false),
-    }
-    assert!(rt; matches!(Page::read(&good, 8), Err(PageBad::Number { found: 7 })));
-    let twice = leaf(3, 4, 0);
-    assert!(rt; matches!(Page::read(&twice, 7), Err(PageBad::Shape { rule: 2 })));
-    let too_many = leaf(217, 18, 1);
-    assert!(rt; matches!(Page::read(&too_many, 7), Err(PageBad::Shape { rule: 1 })));
-}
-
-/// Where keys are found before and after a record is removed.
-fn found() -> Result<(Found, Found, Found), Fail> {
-    let mut page = tree_of(&leaf(3, 4, 1), 7)?;
-    if page.record_len() != 4 || page.count() != 3 {
-        return Err("another page")?;
-    }
-    let (there, last) = (page.find(&[1]), page.find(&[9]));
-    page.remove_at(1);
-    Ok((there, last, page.find(&[1])))
-}
-
-#[test]
-fn keys_are_found(rt: HostRuntime) -> Result<(), Fail> {
-    let wanted = (Found::At(1), Found::Before(3), Found::Before(1));
-    assert_eq!(rt; found()?, wanted);
     Ok(())
 }
 

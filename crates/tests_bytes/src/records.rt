@@ -1,9 +1,9 @@
-//! Records whose bytes are known from outside, and bytes that are none.
+//! Records whose bytes are known from outside.
 
 ghost use Rattle.std.specs.Prelude.{◌≡◌};
 
 use inno_types::{Bytes, Column, Columns, Keys, Kind, Row, Schema, Value};
-use row_codec::{RowBad, decode, encode};
+use row_codec::{decode, encode};
 use std::alloc::{AllocError, Global};
 use std::test::Fail;
 use store_api::Version;
@@ -66,32 +66,6 @@ fn reads_two_numbers(alloc: Global) -> Result<bool, Fail> {
 fn two_numbers(rt: HostRuntime) -> Result<(), Fail> {
     assert!(rt; reads_two_numbers(rt.alloc())?);
     assert_eq!(rt; KEY.len() + RECORD.len(), 34);
-    Ok(())
-}
-
-fn is_refused(alloc: Global, key: &[u8], value: &[u8]) -> Result<bool, Fail> {
-    let schema = table(alloc, &[Kind::BigInt, Kind::BigInt])?;
-    let answer = decode(alloc, &schema, key, value);
-    Ok(matches!(answer, Err(RowBad::Shape)))
-}
-
-#[test]
-fn refused(rt: HostRuntime) -> Result<(), Fail> {
-    let mut marked_twice = RECORD;
-    marked_twice[0] = 2;
-    let mut padded_null = RECORD;
-    padded_null[17] = 0;
-    let values: [&[u8]; 5] = [
-        &marked_twice,
-        &padded_null,
-        &RECORD[..25],
-        &RECORD[..17],
-        b"",
-    ];
-    for value in values {
-        assert!(rt; is_refused(rt.alloc(), &KEY, value)?, "{value:?}");
-    }
-    assert!(rt; is_refused(rt.alloc(), &KEY[..7], &RECORD)?);
     Ok(())
 }
 

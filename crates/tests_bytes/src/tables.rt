@@ -194,87 +194,36 @@ fn made_and_told(rt: HostRuntime) -> Result<(), Fail> {
     Ok(())
 }
 
-fn named(alloc: Global, letter: u8) -> Result<Schema, AllocError> {
-    let mut schema = wide_table(alloc, "t")?;
-    schema.name = Bytes::from_vec(Vec::from_slice(alloc, &[letter])?);
-    Ok(schema)
-}
-
-/// Makes a table of each name, and tells how many got their number.
-fn make_all(alloc: Global, m: &mut ListedPages, names: &[u8]) -> Result<usize, Fail> {
-    let mut count = 0;
-    for letter in names {
-        let schema = named(alloc, *letter)?;
-        if made(alloc, m, &schema)?.map(usize::from) != Some(count) {
-            return Ok(count);
-        }
-        count += 1;
-    }
-    Ok(count)
-}
-
-/// Whether the last of sixteen tables has these roots.
-fn is_last_of_sixteen(alloc: Global, m: &mut ListedPages, roots: &[u32]) -> Result<bool, FindBad> {
-    let told = tables(alloc, m)?;
-    Ok(match told.as_slice().last() {
-        Some(held) => told.len() == 16 && held.roots.as_slice() == roots,
-        None => false,
-    })
-}
-
-#[test]
-fn sixteen_tables(rt: HostRuntime) -> Result<(), Fail> {
-    let alloc = rt.alloc();
-    let mut m = ListedPages::new(alloc, new_pages(alloc, 101)?, 10_000)?;
-    let count = make_all(alloc, &mut m, "abcdefghijklmnop".as_bytes());
-    let is_last = is_last_of_sixteen(alloc, &mut m, &[96, 97, 98, 99, 100]);
-    drop(m);
-    assert_eq!(rt; count?, 16);
-    assert!(rt; is_last?);
-    Ok(())
-}
-
-#[test]
-fn no_page_left(rt: HostRuntime) -> Result<(), Fail> {
-    let alloc = rt.alloc();
-    let mut m = ListedPages::new(alloc, new_pages(alloc, 25)?, 10_000)?;
-    let wide = make_wide(alloc, &mut m);
-    let count = count_tables(alloc, &mut m);
-    drop(m);
-    assert_eq!(rt; wide?, (0, None, false));
-    assert_eq!(rt; count?, 0);
-    Ok(())
-}
-
 /// What is told of two tables once one byte of their file is changed.
 fn told_with(alloc: Global, page: u8, at: usize, byte: u8) -> Result<(u32, u8), Fail> {
     let mut m = ListedPages::new(alloc, changed_pages(alloc, page, at, byte)?, 0)?;
-    match tables(alloc, &mut m) {
+    let told = count_tables(alloc, &mut m);
+    drop(m);
+    match told {
         Err(FindBad::Malformed { page, rule }) => Ok((page, rule)),
         Err(_) => Err("another fault")?,
         Ok(_) => Ok((0, 0)),
     }
 }
 
+/// A page, a place on it, the byte there, and the page and the rule that are told then.
+const CHANGED: [(u8, usize, u8, u32, u8); 9] = [
+    (5, 4000, 1, 0, 0),
+    (6, 32, 2, 6, 1),
+    (6, 20, 1, 6, 1),
+    (20, 20, 7, 20, 1),
+    (5, 60, 40, 5, 1),
+    (5, 41, 0, 5, 6),
+    (5, 45, 33, 5, 6),
+    (6, 34, 117, 6, 6),
+    (5, 32, 0, 6, 6),
+];
+
 #[test]
 fn pages_that_break_a_rule(rt: HostRuntime) -> Result<(), Fail> {
-    let alloc = rt.alloc();
-    for (page, at, byte, broken, rule) in [
-        (5, 4000, 1, 0, 0),
-        (6, 32, 2, 6, 1),
-        (6, 20, 1, 6, 1),
-        (20, 20, 7, 20, 1),
-        (5, 60, 40, 5, 1),
-        (5, 41, 0, 5, 6),
-        (5, 45, 33, 5, 6),
-        (6, 34, 117, 6, 6),
-        (5, 32, 0, 6, 6),
-    ] {
-        assert_eq!(rt;
-            told_with(alloc, page, at, byte)?,
-            (broken, rule),
-            "{page} {at}"
-        );
+    for (page, at, byte, broken, rule) in CHANGED {
+        let told = told_with(rt.alloc(), page, at, byte)?;
+        assert_eq!(rt; told, (broken, rule), "{page} {at}");
     }
     Ok(())
 }
