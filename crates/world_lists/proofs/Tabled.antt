@@ -46,7 +46,7 @@ module _ {s : ℕ} {schema : Schema} {old mid : WorldState} (makes : MakesTable 
   elsewhere : (u : ℕ) → u ≢ s → slice_get mid.sessions u ≡ slice_get old.sessions u
   elsewhere u differ = ap (λ (w : WorldState). slice_get w.sessions u) makes.rest ∙ set_other old.sessions s u session1 differ
 
-  txns_same : mid.txns ≡ old.txns
+  pub txns_same : mid.txns ≡ old.txns
   txns_same = ap (λ (w : WorldState). w.txns) makes.rest
 
   pub listed1 : IsListed s work1 mid
@@ -85,10 +85,10 @@ module _ {s : ℕ} {schema : Schema} {old mid : WorldState} (makes : MakesTable 
     pub rows_are : new.rows ≡ old.rows
     rows_are = ap (λ (w : WorldState). w.rows) gives.rest ∙ ap (λ (w : WorldState). w.rows) makes.rest
 
-    same_else : (u : ℕ) → u ≢ s → slice_get new.sessions u ≡ slice_get old.sessions u
+    pub same_else : (u : ℕ) → u ≢ s → slice_get new.sessions u ≡ slice_get old.sessions u
     same_else u differ = gives.others u differ ∙ elsewhere u differ
 
-    same_count : length new.sessions ≡ length old.sessions
+    pub same_count : length new.sessions ≡ length old.sessions
     same_count = gives.count ∙ ap (λ (w : WorldState). length w.sessions) makes.rest ∙ length-set old.sessions s session1
 
     abbrev pub changed_by : IsChangedBy s (Create schema) (old.schemas ++ schema ∷ []) old new
