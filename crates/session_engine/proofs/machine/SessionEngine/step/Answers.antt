@@ -26,21 +26,24 @@ returns-then-is_busy-clause-steps g c =
     let engine = c.self.inside in
     let joined : c.args.s < length engine.lists.names = subst (λ st. c.args.s < length st.lists.names) (sym c.self.view_is) c.requires.joined in
     let seat = c.step.ensures.0 in
-    rw (← c.self.view_is, c.step.ensures.1) (stepped_does engine.lists c.step.new.lists engine.seats c.args.s c.self.invariant joined seat c.step.result c.step.ensures.2)
+    rw (← c.self.view_is, c.step.ensures.1)
+    (stepped_does engine.lists c.step.new.lists engine.seats c.args.s c.self.invariant joined seat c.step.result c.step.ensures.2)
 
 pub returns-then-is_busy-clause-nears : goal.returns-then-is_busy-clause-nears
 returns-then-is_busy-clause-nears g c =
     let engine = c.self.inside in
     let joined : c.args.s < length engine.lists.names = subst (λ st. c.args.s < length st.lists.names) (sym c.self.view_is) c.requires.joined in
     let seat = c.step.ensures.0 in
-    rw (← c.self.view_is, c.step.ensures.1) (stepped_nears engine.lists c.step.new.lists engine.seats c.args.s c.self.invariant joined seat c.step.result c.step.ensures.2)
+    rw (← c.self.view_is, c.step.ensures.1)
+    (stepped_nears engine.lists c.step.new.lists engine.seats c.args.s c.self.invariant joined seat c.step.result c.step.ensures.2)
 
 pub returns-then-is_busy-clause-lacks : goal.returns-then-is_busy-clause-lacks
 returns-then-is_busy-clause-lacks g c =
     let engine = c.self.inside in
     let joined : c.args.s < length engine.lists.names = subst (λ st. c.args.s < length st.lists.names) (sym c.self.view_is) c.requires.joined in
     let seat = c.step.ensures.0 in
-    rw (← c.self.view_is, c.step.ensures.1) (stepped_lacks engine.lists c.step.new.lists engine.seats c.args.s c.self.invariant joined seat c.step.result c.step.ensures.2)
+    rw (← c.self.view_is, c.step.ensures.1)
+    (stepped_lacks engine.lists c.step.new.lists engine.seats c.args.s c.self.invariant joined seat c.step.result c.step.ensures.2)
 
 pub returns-then-is_busy-clause-quiet : goal.returns-then-is_busy-clause-quiet
 returns-then-is_busy-clause-quiet g c =
