@@ -1,10 +1,10 @@
-//! The pool of pages over a disk in memory, mini-transactions over it and the flusher, each public call once with ample memory.
-//! There is nothing here but tests.
+//! Mini-transactions over a pool that is smaller than its file, the flusher, recovery after a crash, and checkpoints, over a disk in
+//! memory. There is nothing here but tests.
 #![tactic(auto)]
 
 #[cfg(test)]
-mod flushed_pages;
+mod checkpoints;
 #[cfg(test)]
-mod mini_transactions;
+mod file;
 #[cfg(test)]
-mod pooled_pages;
+mod many_pages;
