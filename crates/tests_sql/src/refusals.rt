@@ -1,181 +1,176 @@
-//! Texts that spell no statement, each with the length of its longest prefix that begins one.
+//! Texts that spell no statement, each with the end of its longest prefix that begins one: a bar stands there. Then a text that is
+//! cut off at each of its bytes, and one with brackets as deep as a text has room for.
 
 use sql_prefix::{ParseBad, parse};
 use std::alloc::{AllocError, Global};
-use std::process::Abort;
 use std::test::Fail;
 
-/// The byte of a refusal; None for a statement.
-fn refusal(alloc: Global, bytes: &[u8]) -> Result<Option<u32>, AllocError> {
+/// What comes of the bytes.
+#[derive(Clone, Copy, Debug, PartialEq)]
+enum Judged {
+    Statement,
+    Refused(u32),
+    NoMemory,
+}
+
+fn judge(alloc: Global, bytes: &[u8]) -> Judged {
     match parse(alloc, bytes) {
         Ok(stmt) => {
             drop(stmt);
-            Ok(None)
+            Judged::Statement
         }
-        Err(ParseBad::Syntax { at }) => Ok(Some(at)),
-        Err(ParseBad::NoMemory) => Err(AllocError),
+        Err(ParseBad::Syntax { at }) => Judged::Refused(at),
+        Err(ParseBad::NoMemory) => Judged::NoMemory,
     }
 }
 
-/// Each text is refused at the byte beside it.
-fn expect_refusals(
-    rt: &impl Abort,
-    alloc: Global,
-    texts: &[(&str, u32)],
-) -> Result<(), AllocError> {
-    for (text, at) in texts {
-        let place = refusal(alloc, text.as_bytes())?;
-        assert_eq!(rt; place, Some(*at), "{text}");
+/// No reserved word is a bare name.
+const RESERVED: &str = "SAVEPOINT AND|
+SAVEPOINT BETWEEN|
+SAVEPOINT BIGINT|
+SAVEPOINT CREATE|
+SAVEPOINT DELETE|
+SAVEPOINT EXISTS|
+SAVEPOINT FOR|
+SAVEPOINT FROM|
+SAVEPOINT IF|
+SAVEPOINT IN|
+SAVEPOINT INDEX|
+SAVEPOINT INSERT|
+SAVEPOINT INTO|
+SAVEPOINT IS|
+SAVEPOINT KEY|
+SAVEPOINT lock|
+SAVEPOINT not|
+SAVEPOINT null|
+SAVEPOINT or|
+SAVEPOINT primary|
+SAVEPOINT select|
+SAVEPOINT set|
+SAVEPOINT table|
+SAVEPOINT to|
+SAVEPOINT update|
+SAVEPOINT values|
+SAVEPOINT varbinary|
+SAVEPOINT where|
+SAVEPOINT with|
+SELECT a, key| FROM t
+SELECT * FROM table|
+INSERT INTO values| VALUES (1)
+INSERT INTO t (a, index|) VALUES (1, 2)
+UPDATE set| SET a = 1
+UPDATE t SET to| = 1
+UPDATE t SET a = in|
+DELETE FROM where|
+CREATE TABLE t (lock| BIGINT)
+SELECT * FROM t WHERE a = exists|
+ROLLBACK TO with|";
+
+/// Statements that end too soon, or go on otherwise.
+const TOO_SOON: &str = "|
+ -- x|
+SELEC|
+SELECT * FROM t WHERE|
+SELECT * FROM t WHERE a|
+SELECT * FROM t WHERE NOT|
+SELECT * FROM t WHERE a BETWEEN 1 AND|
+SELECT * FROM t WHERE (a = 1|
+SELECT * FROM t FOR|
+SELECT * FROM t LOCK IN SHARE|
+UPDATE t SET a = -- x|
+UPDATE t SET a = -|
+SET autocommit =|
+INSERT INTO t VALUES (1|
+SELECT *|, a FROM t
+SELECT * FROM t |AS u
+SELECT * FROM t WHERE a = 1 |2
+SELECT * FROM t WHERE a = 1 |= 2
+SELECT * FROM t WHERE a |+ 1 = 2
+SELECT * FROM t WHERE a = -|b
+SELECT * FROM t WHERE a = --|5
+SELECT * FROM t WHERE a IN (|)
+SELECT * FROM t WHERE a BETWEEN |b AND 2
+SELECT * FROM t WHERE 1 |BETWEEN 1 AND 2
+SELECT * FROM t WHERE a NOT |NULL
+SELECT * FROM t WHERE a = 1|)
+INSERT INTO t (|) VALUES (1)
+INSERT INTO t VALUES (--|5)
+INSERT INTO t VALUES (|DEFAULT)
+INSERT INTO t VALUES (1 |+ 2)
+INSERT INTO t VALUES (|a)
+UPDATE t SET a |+ 1
+CREATE TABLE t (|)
+SET autocommit = |2
+SET SESSION |autocommit = 0
+BEGIN |TRANSACTION
+COMMIT|;
+SAVEPOINT a |b
+INSERT INTO t VALUES ('a)|
+SELECT * FROM `t|
+SELECT * FROM t /* x|
+SELECT ``| FROM t";
+
+/// Names, literals and comments that are none.
+const OTHERS: &str = "SELECT * F|ORM t
+SELECT a |b FROM t
+SELECT * FROM ``|
+SELECT * FROM ``| 
+SELECT * FROM t WHERE (a|) = 1
+SELECT * FROM t WHERE a = 'x|
+INSERT INTO t VALUES (1 |2)
+SET autocommit = 0|0
+DELETE FROM t --|x
+DELETE FROM t /| * x */
+SELECT * FROM t |%
+COMMIT|; ";
+
+/// Whether the text without its bar is refused where that stands.
+fn is_refused(alloc: Global, case: &str) -> Result<bool, AllocError> {
+    let Some((front, rest)) = case.split_once("|") else {
+        return Ok(false);
+    };
+    let mut text = Vec::from_slice(alloc, front.as_bytes())?;
+    text.extend_from_slice(rest.as_bytes())?;
+    let found = judge(alloc, &text);
+    Ok(u32::try_from(front.len()).is_ok_and(|at| found == Judged::Refused(at)))
+}
+
+#[test]
+fn each_text_is_refused_at_its_byte(rt: HostRuntime) -> Result<(), Fail> {
+    for cases in [RESERVED, TOO_SOON, OTHERS] {
+        for case in cases.split("\n") {
+            assert!(rt; is_refused(rt.alloc(), case)?, "{case}");
+        }
     }
     Ok(())
 }
 
-#[test]
-fn no_reserved_word_is_a_bare_name(rt: HostRuntime) -> Result<(), Fail> {
-    let texts = [
-        ("SAVEPOINT AND", 13),
-        ("SAVEPOINT BETWEEN", 17),
-        ("SAVEPOINT BIGINT", 16),
-        ("SAVEPOINT CREATE", 16),
-        ("SAVEPOINT DELETE", 16),
-        ("SAVEPOINT EXISTS", 16),
-        ("SAVEPOINT FOR", 13),
-        ("SAVEPOINT FROM", 14),
-        ("SAVEPOINT IF", 12),
-        ("SAVEPOINT IN", 12),
-        ("SAVEPOINT INDEX", 15),
-        ("SAVEPOINT INSERT", 16),
-        ("SAVEPOINT INTO", 14),
-        ("SAVEPOINT IS", 12),
-        ("SAVEPOINT KEY", 13),
-    ];
-    expect_refusals(&rt, rt.alloc(), &texts)?;
-    Ok(())
+const CUT: &str =
+    "CREATE TABLE IF NOT EXISTS `acct` (`id` bigint NOT NULL, `bal` bigint, PRIMARY KEY (`id`)) ENGINE=InnoDB";
+
+/// The first length at which the text that is cut off there is refused before its end.
+fn refused_early(alloc: Global) -> Option<u32> {
+    for (len, _) in (0..).zip(CUT.as_bytes()) {
+        let found = judge(alloc, CUT.as_bytes().get(..len as usize)?);
+        if found != Judged::Statement && found != Judged::Refused(len) {
+            return Some(len);
+        }
+    }
+    None
+}
+
+/// What comes of 2,034 brackets round a condition.
+fn brackets(alloc: Global) -> Result<(usize, Judged), AllocError> {
+    let mut text = Vec::from_slice(alloc, b"SELECT * FROM t WHERE ")?;
+    text.extend_from_slice(&[b'('; 2034])?;
+    text.extend_from_slice(b"a = 12")?;
+    text.extend_from_slice(&[b')'; 2034])?;
+    Ok((text.len(), judge(alloc, &text)))
 }
 
 #[test]
-fn no_other_reserved_word_is_a_bare_name(rt: HostRuntime) -> Result<(), Fail> {
-    let texts = [
-        ("SAVEPOINT lock", 14),
-        ("SAVEPOINT not", 13),
-        ("SAVEPOINT null", 14),
-        ("SAVEPOINT or", 12),
-        ("SAVEPOINT primary", 17),
-        ("SAVEPOINT select", 16),
-        ("SAVEPOINT set", 13),
-        ("SAVEPOINT table", 15),
-        ("SAVEPOINT to", 12),
-        ("SAVEPOINT update", 16),
-        ("SAVEPOINT values", 16),
-        ("SAVEPOINT varbinary", 19),
-        ("SAVEPOINT where", 15),
-        ("SAVEPOINT with", 14),
-    ];
-    expect_refusals(&rt, rt.alloc(), &texts)?;
-    Ok(())
-}
-
-#[test]
-fn reserved_words_stand_in_no_place_of_a_name(rt: HostRuntime) -> Result<(), Fail> {
-    let texts = [
-        ("SELECT a, key FROM t", 13),
-        ("SELECT * FROM table", 19),
-        ("INSERT INTO values VALUES (1)", 18),
-        ("INSERT INTO t (a, index) VALUES (1, 2)", 23),
-        ("UPDATE set SET a = 1", 10),
-        ("UPDATE t SET to = 1", 15),
-        ("UPDATE t SET a = in", 19),
-        ("DELETE FROM where", 17),
-        ("CREATE TABLE t (lock BIGINT)", 20),
-        ("SELECT * FROM t WHERE a = exists", 32),
-        ("ROLLBACK TO with", 16),
-    ];
-    expect_refusals(&rt, rt.alloc(), &texts)?;
-    Ok(())
-}
-
-#[test]
-fn statements_that_end_too_soon(rt: HostRuntime) -> Result<(), Fail> {
-    let texts = [
-        ("", 0),
-        (" -- x", 5),
-        ("SELEC", 5),
-        ("SELECT * FROM t WHERE", 21),
-        ("SELECT * FROM t WHERE a", 23),
-        ("SELECT * FROM t WHERE NOT", 25),
-        ("SELECT * FROM t WHERE a BETWEEN 1 AND", 37),
-        ("SELECT * FROM t WHERE (a = 1", 28),
-        ("SELECT * FROM t FOR", 19),
-        ("SELECT * FROM t LOCK IN SHARE", 29),
-        ("UPDATE t SET a = -- x", 21),
-        ("UPDATE t SET a = -", 18),
-        ("SET autocommit =", 16),
-        ("INSERT INTO t VALUES (1", 23),
-    ];
-    expect_refusals(&rt, rt.alloc(), &texts)?;
-    Ok(())
-}
-
-#[test]
-fn statements_that_go_on_otherwise(rt: HostRuntime) -> Result<(), Fail> {
-    let texts = [
-        ("SELECT *, a FROM t", 8),
-        ("SELECT * FROM t AS u", 16),
-        ("SELECT * FROM t WHERE a = 1 2", 28),
-        ("SELECT * FROM t WHERE a = 1 = 2", 28),
-        ("SELECT * FROM t WHERE a + 1 = 2", 24),
-        ("SELECT * FROM t WHERE a = -b", 27),
-        ("SELECT * FROM t WHERE a = --5", 28),
-        ("SELECT * FROM t WHERE a IN ()", 28),
-        ("SELECT * FROM t WHERE a BETWEEN b AND 2", 32),
-        ("SELECT * FROM t WHERE 1 BETWEEN 1 AND 2", 24),
-        ("SELECT * FROM t WHERE a NOT NULL", 28),
-        ("SELECT * FROM t WHERE a = 1)", 27),
-    ];
-    expect_refusals(&rt, rt.alloc(), &texts)?;
-    Ok(())
-}
-
-#[test]
-fn other_statements_that_go_on_otherwise(rt: HostRuntime) -> Result<(), Fail> {
-    let texts = [
-        ("INSERT INTO t () VALUES (1)", 15),
-        ("INSERT INTO t VALUES (--5)", 24),
-        ("INSERT INTO t VALUES (DEFAULT)", 22),
-        ("INSERT INTO t VALUES (1 + 2)", 24),
-        ("INSERT INTO t VALUES (a)", 22),
-        ("UPDATE t SET a + 1", 15),
-        ("CREATE TABLE t ()", 16),
-        ("SET autocommit = 2", 17),
-        ("SET SESSION autocommit = 0", 12),
-        ("BEGIN TRANSACTION", 6),
-        ("COMMIT;", 6),
-        ("SAVEPOINT a b", 12),
-        ("INSERT INTO t VALUES ('a)", 25),
-        ("SELECT * FROM `t", 16),
-        ("SELECT * FROM t /* x", 20),
-        ("SELECT `` FROM t", 9),
-    ];
-    expect_refusals(&rt, rt.alloc(), &texts)?;
-    Ok(())
-}
-
-#[test]
-fn names_literals_and_comments_that_are_none(rt: HostRuntime) -> Result<(), Fail> {
-    let texts = [
-        ("SELECT * FORM t", 10),
-        ("SELECT a b FROM t", 9),
-        ("SELECT * FROM ``", 16),
-        ("SELECT * FROM `` ", 16),
-        ("SELECT * FROM t WHERE (a) = 1", 24),
-        ("SELECT * FROM t WHERE a = 'x", 28),
-        ("INSERT INTO t VALUES (1 2)", 24),
-        ("SET autocommit = 00", 18),
-        ("DELETE FROM t --x", 16),
-        ("DELETE FROM t / * x */", 15),
-        ("SELECT * FROM t %", 16),
-        ("COMMIT; ", 6),
-    ];
-    expect_refusals(&rt, rt.alloc(), &texts)?;
+fn fronts_go_to_their_end_and_brackets_nest(rt: HostRuntime) -> Result<(), Fail> {
+    assert_eq!(rt; refused_early(rt.alloc()), None);
+    assert_eq!(rt; brackets(rt.alloc())?, (4096, Judged::Statement));
     Ok(())
 }
