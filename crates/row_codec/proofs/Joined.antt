@@ -54,9 +54,6 @@ length-fields_code (column ∷ columns) (value ∷ row) is =
 
 -- ---- reading
 
-pub Reads-none : (bytes : List ℕ) → Reads [] bytes [] bytes
-Reads-none bytes = record { fits = tt; spelled = refl }
-
 pub Reads-then : (columns others : List Column) (bytes rest behind : List ℕ) (row more : List Value) → Reads columns bytes row rest → Reads others rest more behind → Reads (columns ++ others) bytes (row ++ more) behind
 Reads-then columns others bytes rest behind row more first second = record {
   fits = IsRowOf-append columns others row more first.fits second.fits;

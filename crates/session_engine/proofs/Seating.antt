@@ -690,25 +690,6 @@ module _ (old new : Lists) (seats : List Seat) (s : ℕ) (are : AreSeats old sea
         (may_go.may.rests, goes.2, goes.3))) (exact_still (ap (λ l. l.past) goes.1))
     out_keeps seat other goes = elim goes [ ]
 
-    pub out_does : (seat : Seat) (answer : Progress) → GoesOut s old new seat answer
-        → StepsBy s answer (record { lists = old; seats = seats }) (record { lists = new; seats = set (set seats s Idle) s seat })
-    out_does seat progress.Went goes = (steps_on seat (of_statement s old new goes.0), goes.1, ap is_working (is_at seat ∙ goes.3))
-    out_does seat (progress.Done reply) goes =
-        (steps_on seat (of_statement s old new (moves_is old new s goes.1)), inr (leaving, goes.0, goes.1, is_at seat ∙ goes.4))
-    out_does seat other goes = elim goes [ ]
-
-    pub out_nears : (seat : Seat) (answer : Progress) → GoesOut s old new seat answer → NearsEnding s old new answer
-        → Nears s answer (record { lists = old; seats = seats }) (record { lists = new; seats = set (set seats s Idle) s seat })
-    out_nears seat progress.Went goes nears = rw (is_at seat, goes.3, leaving) (inr (refl, nears))
-    out_nears seat (progress.Done reply) goes nears = tt
-    out_nears seat other goes nears = elim goes [ ]
-
-    pub out_lacks : (seat : Seat) (answer : Progress) → GoesOut s old new seat answer
-        → NearsLacking s answer (record { lists = old; seats = seats }) (record { lists = new; seats = set (set seats s Idle) s seat })
-    out_lacks seat progress.Went goes = tt
-    out_lacks seat (progress.Done reply) goes = tt
-    out_lacks seat other goes = elim goes [ ]
-
 -- an item that gives a signal or awaits one doesn't go on where it finds no memory
 pub signalling_lacks : (s now : ℕ) (item : SignalItem) (lists after : Lists) (seat : Seat) (answer : Progress) → Signals s now item lists after seat answer
     → (old new : State) → NearsLacking s answer old new

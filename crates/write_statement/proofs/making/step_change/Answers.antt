@@ -27,11 +27,11 @@ returns-in-Entered-clause-steps g c =
 
 pub returns-in-Done-clause-steps : goal.returns-in-Done-clause-steps
 returns-in-Done-clause-steps g c =
-    change_done c.args.session c.args.lists.now c.change.new.self c.args.statement.now c.change.result c.parts-part-in-Done.result.0 c.parts-part-in-Done.result.1
-    c.parts-part-in-Done.ensures c.requires.running c.in-Done.is c.change.ensures.changes
+    change_done c.args.session c.args.lists.now c.change.new.self c.args.statement.now c.change.result
+    c.parts-part-in-Done.result.0 c.parts-part-in-Done.result.1 c.parts-part-in-Done.ensures c.requires.running c.in-Done.is c.change.ensures.changes
 
 pub returns-in-NoMemory-clause-steps : goal.returns-in-NoMemory-clause-steps
 returns-in-NoMemory-clause-steps g c =
-    change_fails c.args.session c.args.lists.now c.change.new.self c.args.statement.now c.change.result c.parts-part-in-NoMemory.result.0 c.parts-part-in-NoMemory.result.1
-    c.give_up-next.result.0 c.give_up-next.result.1 c.parts-part-in-NoMemory.ensures c.requires.running c.in-NoMemory.is c.change.ensures.changes
-    c.give_up-next.ensures.state c.give_up-next.ensures.answer
+    change_fails c.args.session c.args.lists.now c.change.new.self c.args.statement.now c.change.result
+    c.parts-part-in-NoMemory.result.0 c.parts-part-in-NoMemory.result.1 c.give_up-next.result.0 c.give_up-next.result.1
+    c.parts-part-in-NoMemory.ensures c.requires.running c.in-NoMemory.is c.change.ensures.changes c.give_up-next.ensures.state c.give_up-next.ensures.answer
