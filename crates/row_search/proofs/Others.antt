@@ -3,7 +3,7 @@ use Rattle.std.proofs.Common.{◌≡◌, ◌∙◌, sym, ap, subst, refl, ℕ, z
 use Rattle.std.proofs.Common.{arith}
 use Rattle.std.specs.Prelude.{IsTrue, is_some, All}
 use Rattle.std.specs.List.{list_any}
-use Rattle.std.proofs.lemmas.Bool.{or_left, or_right}
+use Rattle.std.proofs.lemmas.Bool.{or_left, or_right, cond_both}
 use Rattle.std.proofs.lemmas.List.Elements.{All-head, All-tail}
 use Rattle.inno_types.specs.{declared.value.Value.Value, declared.value.Kind.Kind, declared.value.Key.Key, declared.value.Schema.Schema}
 use Rattle.key_codec.specs.Keys.{HasKey, HasEntry, Has64Bits, key_code, entry_code}
@@ -11,32 +11,27 @@ use Rattle.entries.specs.Pairs.{Pair, value_of}
 use Rattle.row_versions.specs.{declared.kept.Kept.Kept, declared.version.Version.Version, Chains.first_seen, Chains.newest}
 use Rattle.law_stored_rows.specs.{Entries.value_in, Entries.has_value, Entries.HasEntries, Records.IsRecordWith, Records.IsClustered, Records.KeepsMore}
 use Rattle.law_stored_rows.proofs.{Values.value_itself, RowRecords.leads_still, RowRecords.no_record}
-use Rattle.sql_plan.specs.Visits.{kind_at, index_key}
+use Rattle.sql_plan.specs.Visits.{kind_if, kind_at, index_key}
 use Rattle.world.specs.State.{WorldState}
 use Rattle.row_search.specs.{declared.sight.Sight.Sight, declared.scan.Scan.Scan, declared.phase.Phase.Phase, declared.search.RowSearch.RowSearch}
 use Rattle.row_search.specs.{Sights.sees_by, Sights.rows_seen, Ranges.primary_part, Tables.HaveKeys, Others.KeepsWay, Others.KeepsFound}
 use Rattle.row_search.specs.{Others.KeepsSearching, Others.NeedsNoVersion, Visits.phase_anew}
-use Rattle.row_search.specs.declared.phase.Phase.TheVariants.{Seek, Follow, Fetch, Look, Walk, Keep, Sort, Leave}
+use Rattle.row_search.specs.declared.phase.Phase.TheVariants.{Seek, Follow, Fetch, Look, Walk, Keep}
 use Rattle.row_search.specs.Searches.{IsSearching, PhaseHolds, PhaseFinds, Finds, place_in}
-use Rattle.row_search.proofs.Keys.{home, kind_is, key_is_value, keyed_is, fits_in}
+use Rattle.row_search.proofs.Keys.{home, key_is_value, keyed_is, fits_in}
 use Rattle.entries.specs.Calls.{HasKey as IsAtKey}
 
 -- ---- what was found
 
 way_on : (schema : Schema) (scan : Scan) (row_at : Value → Option (List Value)) (old new : ℕ → Option Kept) (place : Option Pair) (phase : Phase)
     → KeepsWay schema scan.sight old new phase → PhaseFinds schema scan row_at old place phase → PhaseFinds schema scan row_at new place phase
-way_on schema scan row_at old new place Seek keeps f = f
-way_on schema scan row_at old new place Follow keeps f = f
-way_on schema scan row_at old new place (Fetch entry) keeps f = f
 way_on schema scan row_at old new place (Look entry bytes) keeps f =
     let k = keeps f.1 f.2 in
     (f.0, k.0, k.1, record { value = f.3.value; has_key = f.3.has_key; key_is = f.3.key_is; seen = f.3.seen ∙ sym k.2 })
 way_on schema scan row_at old new place (Walk entry pointer) keeps f =
     let k = keeps f.1 f.2 in
     (f.0, k.0, k.1, record { value = f.3.value; has_key = f.3.has_key; key_is = f.3.key_is; seen = f.3.seen ∙ sym k.2 })
-way_on schema scan row_at old new place (Keep entry row) keeps f = f
-way_on schema scan row_at old new place Sort keeps f = f
-way_on schema scan row_at old new place Leave keeps f = f
+way_on schema scan row_at old new place other keeps f = f
 
 pub found_still : (schema : Schema) (old new : ℕ → Option Kept) (place : Option Pair) (was now : Value → List Version) (search : RowSearch)
     → ((value : Value) → rows_seen search.scan.sight now value ≡ rows_seen search.scan.sight was value)
@@ -46,33 +41,25 @@ found_still schema old new place was now search same keeps found =
     subst (λ (row_at : Value → Option (List Value)). PhaseFinds schema search.scan row_at new place search.phase) seen
     (way_on schema search.scan (rows_seen search.scan.sight was) old new place search.phase keeps found)
 
-record_still : (schema : Schema) (key : List ℕ) (old new : ℕ → Option Kept) (found : Option (List ℕ)) (versions : List Version) → KeepsMore old new
-    → IsRecordWith schema key old found versions → IsRecordWith schema key new found versions
-record_still schema key old new None [] more is = is
-record_still schema key old new None (version ∷ versions) more is = is
-record_still schema key old new (Some bytes) [] more is = is
-record_still schema key old new (Some bytes) (version ∷ versions) more is = (is.0, is.1, is.2, leads_still schema key old new is.0.pointer versions more is.3)
+record_still : (schema : Schema) (key : List ℕ) (old new : ℕ → Option Kept) (bytes : List ℕ) (versions : List Version) → KeepsMore old new
+    → IsRecordWith schema key old (Some bytes) versions → IsRecordWith schema key new (Some bytes) versions
+record_still schema key old new bytes [] more is = is
+record_still schema key old new bytes (version ∷ versions) more is = (is.0, is.1, is.2, leads_still schema key old new is.0.pointer versions more is.3)
 
 pub way_still : (schema : Schema) (sight : Sight) (old new : ℕ → Option Kept) (phase : Phase) → KeepsMore old new → KeepsWay schema sight old new phase
-way_still schema sight old new Seek more = tt
-way_still schema sight old new Follow more = tt
-way_still schema sight old new (Fetch entry) more = tt
 way_still schema sight old new (Look entry bytes) more =
-    λ versions is. (versions, record_still schema (primary_part schema entry) old new (Some bytes) versions more is, refl, omega arith)
+    λ versions is. (versions, record_still schema (primary_part schema entry) old new bytes versions more is, refl, omega arith)
 way_still schema sight old new (Walk entry pointer) more =
     λ versions is. (versions, leads_still schema (primary_part schema entry) old new pointer versions more is, refl, omega arith)
-way_still schema sight old new (Keep entry row) more = tt
-way_still schema sight old new Sort more = tt
-way_still schema sight old new Leave more = tt
+way_still schema sight old new other more = tt
 
 fewer : {a b c : ℕ} → a ≤ b → b ≤ c → a ≤ c
 fewer p q = omega (arith, p, q)
 
-holds_still : (actor : ℕ) (schema : Schema) (scan : Scan) (old new : WorldState) → place_in actor scan new ≡ place_in actor scan old
+pub holds_still : (actor : ℕ) (schema : Schema) (scan : Scan) (old new : WorldState) → place_in actor scan new ≡ place_in actor scan old
     → (IsTrue new.versions.told → IsTrue old.versions.told) → (phase : Phase)
-    → (IsTrue new.versions.told → KeepsWay schema scan.sight old.versions.kept_at new.versions.kept_at phase) → PhaseHolds actor schema scan old phase →
-    PhaseHolds actor schema scan new phase
-holds_still actor schema scan old new place told Seek keeps h = tt
+    → (IsTrue new.versions.told → KeepsWay schema scan.sight old.versions.kept_at new.versions.kept_at phase) → PhaseHolds actor schema scan old phase
+    → PhaseHolds actor schema scan new phase
 holds_still actor schema scan old new place told Follow keeps h = ap is_some place ∙ h
 holds_still actor schema scan old new place told (Fetch entry) keeps h = subst (λ (o : Option Pair). IsAtKey entry o) (sym place) h
 holds_still actor schema scan old new place told (Look entry bytes) keeps h = (
@@ -84,48 +71,37 @@ holds_still actor schema scan old new place told (Walk entry pointer) keeps h = 
   λ t. let was = h.1 (told t) in let k = keeps t was.0 was.1 in (k.0, k.1, fewer k.3 was.2),
 )
 holds_still actor schema scan old new place told (Keep entry row) keeps h = subst (λ (o : Option Pair). IsAtKey entry o) (sym place) h
-holds_still actor schema scan old new place told Sort keeps h = tt
-holds_still actor schema scan old new place told Leave keeps h = tt
+holds_still actor schema scan old new place told other keeps h = tt
 
 pub searching_still : (actor : ℕ) (schema : Schema) (old new : WorldState) (search : RowSearch) → IsSearching actor schema old search
     → slice_get new.schemas search.scan.table ≡ Some schema → place_in actor search.scan new ≡ place_in actor search.scan old
-    → (IsTrue new.versions.told → IsTrue old.versions.told) →
-    (IsTrue new.versions.told → KeepsWay schema search.scan.sight old.versions.kept_at new.versions.kept_at search.phase) → IsSearching actor schema new
-    search
+    → (IsTrue new.versions.told → IsTrue old.versions.told)
+    → (IsTrue new.versions.told → KeepsWay schema search.scan.sight old.versions.kept_at new.versions.kept_at search.phase)
+    → IsSearching actor schema new search
 searching_still actor schema old new search is there place told keeps =
     record { there = there; key = is.key; few = is.few; phase = holds_still actor schema search.scan old new place told search.phase keeps is.phase }
 
 -- ---- keys of rows that are seen
 
-none_some : (row : List Value) → None ≡ Some row → ⊥
-none_some row e = cc
-
-some_there : (found : Option (List ℕ)) → (found ≡ None → ⊥) → is_some found ≡ true
-some_there None h = absurd (h refl)
-some_there (Some bytes) h = refl
-
 pub in_clustered : (schema : Schema) (kept : ℕ → Option Kept) (pairs : List Pair) (versions_at : Value → List Version) (sight : Sight)
     → IsClustered schema kept pairs versions_at → HaveKeys schema 0 pairs (rows_seen sight versions_at)
 in_clustered schema kept pairs versions_at sight is value row seen =
     let h = home schema kept pairs versions_at (sees_by sight) value row is seen in
-    let kind : kind_at schema.columns schema.primary ≡ is.primary.kind = kind_is schema is.primary is.primary_is in
+    let kind : kind_at schema.columns schema.primary ≡ is.primary.kind = ap kind_if is.primary_is in
     let key : index_key schema 0 row ≡ key_code is.primary.kind value = key_is_value schema value row h ∙ ap (λ (k : Kind). key_code k value) kind in
     let has : HasKey is.primary.kind value = subst (λ (k : Kind). HasKey k value) kind h.has_key in
-    ap (λ k. is_some (value_of k pairs)) key
-    ∙ some_there (value_of (key_code is.primary.kind value) pairs)
-    (λ none. none_some row (sym (ap (first_seen (sees_by sight)) (no_record schema (key_code is.primary.kind value) kept (versions_at value)
-    (subst (λ (o : Option (List ℕ)). IsRecordWith schema (key_code is.primary.kind value) kept o (versions_at value)) none (is.records value has)))) ∙ seen))
+    ap (λ k. is_some (value_of k pairs)) key ∙ there (value_of (key_code is.primary.kind value) pairs) (is.records value has) where
+      there : (o : Option (List ℕ)) → IsRecordWith schema (key_code is.primary.kind value) kept o (versions_at value) → is_some o ≡ true
+      there None held =
+          let empty : first_seen (sees_by sight) (versions_at value) ≡ None =
+          ap (first_seen (sees_by sight)) (no_record schema (key_code is.primary.kind value) kept (versions_at value) held) in
+          cc
+      there (Some bytes) held = refl
 
 pub bits_in : (row : List Value) (at : ℕ) → All Has64Bits row → Has64Bits (value_in at row)
 bits_in [] at all = tt
 bits_in (value ∷ row) zero all = All-head Has64Bits value row all
 bits_in (value ∷ row) (suc at) all = bits_in row at (All-tail Has64Bits value row all)
-
-told_some : (some : Bool) (mark : List ℕ) → some ≡ true → is_some (cond some (Some mark) None) ≡ true
-told_some some mark is = rw is refl
-
-one_plus : (n : ℕ) → 1 + n ≡ suc n
-one_plus n = omega arith
 
 pub in_keyed : (schema : Schema) (kept : ℕ → Option Kept) (pairs entries : List Pair) (versions_at said : Value → List Version) (sight : Sight) (at : ℕ)
     (key : Key) → IsClustered schema kept pairs versions_at → slice_get schema.keys at ≡ Some key
@@ -134,30 +110,27 @@ pub in_keyed : (schema : Schema) (kept : ℕ → Option Kept) (pairs entries : L
     (λ told. has_value key.column (value_in key.column row) told.row) (said value) ≡ true) → HaveKeys schema (1 + at) entries (rows_seen sight versions_at)
 in_keyed schema kept pairs entries versions_at said sight at key is there e says value row seen =
     let h = home schema kept pairs versions_at (sees_by sight) value row is seen in
-    let kind : kind_at schema.columns schema.primary ≡ e.primary.kind = kind_is schema e.primary e.primary_is in
+    let kind : kind_at schema.columns schema.primary ≡ e.primary.kind = ap kind_if e.primary_is in
     let has : HasKey e.primary.kind value = subst (λ (k : Kind). HasKey k value) kind h.has_key in
     let has_entry : HasEntry e.indexed.kind (value_in key.column row) =
     (fits_in schema.columns row key.column e.indexed h.at.fits e.indexed_is, bits_in row key.column h.at.bits) in
     let code : index_key schema (1 + at) row ≡ entry_code e.indexed.kind (value_in key.column row) (key_code e.primary.kind value)
-    = ap (λ n. index_key schema n row) (one_plus at)
+    =
+    (let one : 1 + at ≡ suc at = omega arith in ap (λ n. index_key schema n row) one)
     ∙ (keyed_is schema at row key e.indexed there e.indexed_is
     ∙ ap (entry_code e.indexed.kind (value_in key.column row)) (key_is_value schema value row h ∙ ap (λ (k : Kind). key_code k value) kind)) in
     ap (λ k. is_some (value_of k entries)) code
-    ∙ (ap is_some (e.marks value (value_in key.column row) has has_entry)
-    ∙ told_some (list_any (λ told. has_value key.column (value_in key.column row) told.row) (said value)) _ (says value row seen))
+    ∙ (ap is_some (e.marks value (value_in key.column row) has has_entry) ∙ rw (says value row seen))
 
 pub seen_among : (column : ℕ) (sight : Sight) (versions : List Version) (row : List Value) → first_seen (sees_by sight) versions ≡ Some row
     → list_any (λ told. has_value column (value_in column row) told.row) versions ≡ true
 seen_among column sight [] row is = cc
-seen_among column sight (version ∷ versions) row is = go (sees_by sight version.writer) is (seen_among column sight versions row) where
-  go : (b : Bool) → cond b version.row (first_seen (sees_by sight) versions) ≡ Some row
-      → (first_seen (sees_by sight) versions ≡ Some row → list_any (λ told. has_value column (value_in column row) told.row) versions ≡ true)
-      → list_any (λ told. has_value column (value_in column row) told.row) (version ∷ versions) ≡ true
-  go true e later =
-      or_left (has_value column (value_in column row) version.row) (list_any (λ told. has_value column (value_in column row) told.row) versions)
-      (ap (has_value column (value_in column row)) e ∙ value_itself (value_in column row))
-  go false e later =
-      or_right (has_value column (value_in column row) version.row) (list_any (λ told. has_value column (value_in column row) told.row) versions) (later e)
+seen_among column sight (version ∷ versions) row is =
+    let has = λ (told : Version). has_value column (value_in column row) told.row in
+    cond_both (sees_by sight version.writer) version.row (first_seen (sees_by sight) versions)
+    (λ (o : Option (List Value)). o ≡ Some row → list_any has (version ∷ versions) ≡ true)
+    (λ own e. or_left (has version) (list_any has versions) (ap (has_value column (value_in column row)) e ∙ value_itself (value_in column row)))
+    (λ own e. or_right (has version) (list_any has versions) (seen_among column sight versions row e)) is
 
 pub newest_seen : (versions : List Version) → first_seen (λ id. true) versions ≡ newest versions
 newest_seen [] = refl
@@ -168,24 +141,13 @@ newest_seen (version ∷ versions) = refl
 -- a search that comes to its pair anew has found what it had found, needs no version, and may go on where it might
 pub anew_finds : (scan : Scan) (phase : Phase)
     → KeepsFound (record { scan = scan; phase = phase }) (record { scan = scan; phase = phase_anew phase })
-anew_finds scan Seek = λ schema kept place versions_at found. found
-anew_finds scan Follow = λ schema kept place versions_at found. found
-anew_finds scan (Fetch entry) = λ schema kept place versions_at found. found
 anew_finds scan (Look entry bytes) = λ schema kept place versions_at found. found.0
 anew_finds scan (Walk entry pointer) = λ schema kept place versions_at found. found.0
-anew_finds scan (Keep entry row) = λ schema kept place versions_at found. found
-anew_finds scan Sort = λ schema kept place versions_at found. found
-anew_finds scan Leave = λ schema kept place versions_at found. found
+anew_finds scan other = λ schema kept place versions_at found. found
 
 pub anew_needs_none : (scan : Scan) (phase : Phase) → NeedsNoVersion (record { scan = scan; phase = phase_anew phase })
 anew_needs_none scan Seek = λ schema old new. tt
-anew_needs_none scan Follow = λ schema old new. tt
-anew_needs_none scan (Fetch entry) = λ schema old new. tt
-anew_needs_none scan (Look entry bytes) = λ schema old new. tt
-anew_needs_none scan (Walk entry pointer) = λ schema old new. tt
-anew_needs_none scan (Keep entry row) = λ schema old new. tt
-anew_needs_none scan Sort = λ schema old new. tt
-anew_needs_none scan Leave = λ schema old new. tt
+anew_needs_none scan other = λ schema old new. tt
 
 pub anew_holds : (scan : Scan) (phase : Phase)
     → KeepsSearching (record { scan = scan; phase = phase }) (record { scan = scan; phase = phase_anew phase })
@@ -193,22 +155,12 @@ anew_holds scan phase = λ actor schema state is. record { there = is.there; key
   where
     still : (actor : ℕ) (schema : Schema) (state : WorldState) (at : Phase) → PhaseHolds actor schema scan state at
         → PhaseHolds actor schema scan state (phase_anew at)
-    still actor schema state Seek is = tt
-    still actor schema state Follow is = is
-    still actor schema state (Fetch entry) is = is
     still actor schema state (Look entry bytes) is = is.0
     still actor schema state (Walk entry pointer) is = is.0
-    still actor schema state (Keep entry row) is = is
-    still actor schema state Sort is = tt
-    still actor schema state Leave is = tt
+    still actor schema state other is = is
 
 pub comes_as_it_was : (phase : Phase) → ((entry bytes : List ℕ) → phase ≡ Look entry bytes → ⊥)
     → ((entry : List ℕ) (pointer : ℕ) → phase ≡ Walk entry pointer → ⊥) → phase ≡ phase_anew phase
-comes_as_it_was Seek no_look no_walk = refl
-comes_as_it_was Follow no_look no_walk = refl
-comes_as_it_was (Fetch entry) no_look no_walk = refl
 comes_as_it_was (Look entry bytes) no_look no_walk = absurd (no_look entry bytes refl)
 comes_as_it_was (Walk entry pointer) no_look no_walk = absurd (no_walk entry pointer refl)
-comes_as_it_was (Keep entry row) no_look no_walk = refl
-comes_as_it_was Sort no_look no_walk = refl
-comes_as_it_was Leave no_look no_walk = refl
+comes_as_it_was other no_look no_walk = refl

@@ -1,24 +1,17 @@
 -- What the bytes of an entry tell of a value.
 use Rattle.std.proofs.Common.{◌≡◌, ◌∙◌, sym, ap, refl, ℕ, ◌^◌, ◌<◌, Bool, true, false, nat_eq, List, [], ◌∷◌, ◌++◌, length, arith}
 use Rattle.std.specs.Bool.{Decides}
-use Rattle.std.proofs.lemmas.Bool.{true≢false}
-use Rattle.std.proofs.lemmas.Bool.Decides.{nat_tests}
+use Rattle.std.proofs.lemmas.Bool.{true≢false, eqb-true, eqb-false}
 use Rattle.std.proofs.lemmas.List.{append_cancel_right, same_from_push}
 use Rattle.key_codec.specs.{Keys.padded, Numbers.u64_bytes}
 use Rattle.key_codec.proofs.Once.{same_u64, same_padded}
 use Rattle.row_search.specs.Owners.{TellsSame}
 
-same_so : (m n : ℕ) → true ≡ nat_eq m n → m ≡ n
-same_so m n e = grind (arith, nat_tests)
-
-other_so : (m n : ℕ) → false ≡ nat_eq m n → m ≡ n → ⊥
-other_so m n e same = grind (arith, nat_tests)
-
 -- a number that was read beside the one that is sought
 pub number_told : (found n : ℕ) (key : List ℕ) (own : Bool) → found < 2 ^ 64 → n < 2 ^ 64 → key ≡ u64_bytes found → own ≡ nat_eq found n
     → TellsSame (u64_bytes n) key own
-number_told found n key true found_fits fits is tests = ap u64_bytes (sym (same_so found n tests)) ∙ sym is
-number_told found n key false found_fits fits is tests = λ e. other_so found n tests (sym (same_u64 n found fits found_fits (e ∙ is)))
+number_told found n key true found_fits fits is tests = ap u64_bytes (sym (eqb-true found n (sym tests))) ∙ sym is
+number_told found n key false found_fits fits is tests = λ e. eqb-false found n (sym tests) (sym (same_u64 n found fits found_fits (e ∙ is)))
 
 -- a text that was read beside the one that is sought
 pub text_told : (size len : ℕ) (text found front key : List ℕ) (own : Bool) → key ≡ front ++ len ∷ [] → front ≡ padded size found → length found ≡ len

@@ -1,0 +1,113 @@
+-- How a step goes on, or is to be made again, by what it leaves of the world.
+use Rattle.std.proofs.Common.{Vec, Global, ◌≡◌, ◌∙◌, sym, ap, subst, refl, ℕ, List, Option, Some, slice_get}
+use Rattle.inno_types.specs.{declared.value.Value.Value, declared.value.Schema.Schema, Order.IsBelow}
+use Rattle.store_api.specs.declared.moves.Move.{Move}
+use Rattle.entries.specs.Pairs.{Pair, value_of}
+use Rattle.row_versions.specs.{declared.kept.Kept.Kept, declared.version.Version.Version}
+use Rattle.law_stored_rows.specs.Records.{IsRecordWith}
+use Rattle.world.specs.{State.WorldState, State.index_of, Undoing.IsUnchanged}
+use Rattle.row_search.specs.{declared.found.FoundRow.FoundRow, declared.scan.Scan.Scan, declared.phase.Phase.Phase, Sights.rows_seen}
+use Rattle.row_search.specs.{Others.KeepsWay, Tables.ShowsTable, Tables.HoldsTable, Tables.ShowsRows}
+use Rattle.row_search.specs.Steps.{OnlyMoves, GoesOn, Waits, PhaseWaits}
+use Rattle.row_search.specs.Searches.{place_in, PhaseHolds, IsSearching, IsRecordKept, IsSeenAmong, PhaseFinds, HasToGo}
+use Rattle.row_search.proofs.{Worlds.moves_unchanged, Ways.at_key, Others.way_still, Others.holds_still}
+
+module _ {actor : ℕ} {schema : Schema} {old : WorldState} {scan : Scan} {phase : Phase}
+    (is : IsSearching actor schema old (record { scan = scan; phase = phase })) where
+  abbrev pub index : ℕ
+  index = index_of scan.table scan.which
+
+  abbrev pub at_old : Option Pair
+  at_old = place_in actor scan old
+
+  -- the step goes on, and leaves these rows and this phase
+  abbrev pub Goes : WorldState → Vec FoundRow Global → Phase → Type 0
+  Goes new rows next = GoesOn actor schema old new (record { scan = scan; phase = phase }) (record { scan = record scan { rows = rows }; phase = next })
+
+  -- what has been found by the actor's place, the rows and the phase
+  abbrev pub FindsAt : Option Pair → Vec FoundRow Global → Phase → (Value → List Version) → Type 0
+  FindsAt place rows next versions_at =
+      PhaseFinds schema (record scan { rows = rows }) (rows_seen scan.sight versions_at) old.versions.kept_at place next
+
+  abbrev pub GoesFinding : Option Pair → Vec FoundRow Global → Phase → Type 0
+  GoesFinding place rows next =
+      (versions_at : Value → List Version) → ShowsRows schema scan old versions_at → FindsAt at_old scan.rows phase versions_at
+      → FindsAt place rows next versions_at
+
+  -- less is left than before
+  abbrev pub GoesNearer : Option Pair → Phase → Type 0
+  GoesNearer place next =
+      (versions_at : Value → List Version) (shows : ShowsRows schema scan old versions_at) (n : List ℕ) → FindsAt at_old scan.rows phase versions_at
+      → HasToGo schema old.versions.kept_at at_old shows.searched phase n
+      → (m : List ℕ) × HasToGo schema old.versions.kept_at place shows.searched next m × IsBelow m n
+
+  searching : {new : WorldState} → OnlyMoves actor index old new → (rows : Vec FoundRow Global) (next : Phase)
+      → PhaseHolds actor schema (record scan { rows = rows }) new next
+      → IsSearching actor schema new (record { scan = record scan { rows = rows }; phase = next })
+  searching moves rows next holds =
+      record { there = ap (λ (s : WorldState). slice_get s.schemas scan.table) moves.rest ∙ is.there; key = is.key; few = is.few; phase = holds }
+
+  -- by the actor's place behind the step
+  pub goes_to : {new : WorldState} → OnlyMoves actor index old new → (place : Option Pair) → place_in actor scan new ≡ place
+      → (rows : Vec FoundRow Global) (next : Phase) → PhaseHolds actor schema (record scan { rows = rows }) new next → GoesFinding place rows next
+      → GoesNearer place next → Goes new rows next
+  goes_to moves place there rows next holds finds nears =
+      record {
+        moves = moves;
+        same = record { table = refl; which = refl; range = refl; sight = refl };
+        holds = searching moves rows next holds;
+        finds = λ versions_at shows was. subst (λ (o : Option Pair). FindsAt o rows next versions_at) (sym there) (finds versions_at shows was);
+        nears = λ versions_at shows n was to_go.
+            subst (λ (o : Option Pair). (m : List ℕ) × HasToGo schema old.versions.kept_at o shows.searched next m × IsBelow m n) (sym there)
+            (nears versions_at shows n was to_go);
+      }
+
+  -- ---- nothing has changed
+
+  module _ {new : WorldState} (unchanged : IsUnchanged old new) where
+    place_stays : place_in actor scan new ≡ at_old
+    place_stays = ap (λ (f : ℕ → Option Pair). f actor) (unchanged.indexes index).place
+
+    holds_on : (rows : Vec FoundRow Global) (next : Phase) → PhaseHolds actor schema (record scan { rows = rows }) old next
+        → PhaseHolds actor schema (record scan { rows = rows }) new next
+    holds_on rows next =
+        holds_still actor schema (record scan { rows = rows }) old new place_stays unchanged.versions.told next
+        (λ told. subst (λ (kept : ℕ → Option Kept). KeepsWay schema scan.sight old.versions.kept_at kept next) (sym (unchanged.versions.kept told))
+        (way_still schema scan.sight old.versions.kept_at old.versions.kept_at next (λ pointer found there. there)))
+
+    pub goes : (rows : Vec FoundRow Global) (next : Phase) → PhaseHolds actor schema (record scan { rows = rows }) old next → GoesFinding at_old rows next
+        → GoesNearer at_old next → Goes new rows next
+    goes rows next holds finds nears =
+        goes_to (moves_unchanged actor index old new unchanged) at_old place_stays rows next (holds_on rows next holds) finds nears
+
+    -- a step that was put off is to be made again
+    pub waits : (why : Move) → PhaseWaits actor old new scan phase why
+        → Waits actor schema old new (record { scan = scan; phase = phase }) (record { scan = scan; phase = phase }) why
+    waits why cause =
+        record {
+          unchanged = unchanged;
+          scan_is = record { table = refl; which = refl; range = refl; sight = refl };
+          rows_are = refl;
+          phase_is = refl;
+          holds = searching (moves_unchanged actor index old new unchanged) scan.rows phase (holds_on scan.rows phase is.phase);
+          finds = λ versions_at was. subst (λ (o : Option Pair). FindsAt o scan.rows phase versions_at) (sym place_stays) was;
+          cause = cause;
+        }
+
+  -- ---- a record was found at a key of the clustered index
+
+  module _ (key bytes : List ℕ) (there : (versions_at : Value → List Version) (shows : ShowsTable schema scan.table old versions_at)
+      → value_of key shows.pairs ≡ Some bytes) where
+    recorded : (versions_at : Value → List Version) → ShowsTable schema scan.table old versions_at
+        → (value : Value) × IsRecordWith schema key old.versions.kept_at (Some bytes) (versions_at value)
+        × IsSeenAmong schema scan (rows_seen scan.sight versions_at) key (versions_at value)
+    recorded versions_at shows =
+        at_key schema scan old.versions.kept_at shows.pairs versions_at key bytes shows.clustered (there versions_at shows)
+
+    pub record_found : (versions_at : Value → List Version) → ShowsTable schema scan.table old versions_at
+        → (versions : List Version) × IsRecordWith schema key old.versions.kept_at (Some bytes) versions
+        × IsSeenAmong schema scan (rows_seen scan.sight versions_at) key versions
+    record_found versions_at shows = let r = recorded versions_at shows in (versions_at r.0, r.1, r.2)
+
+    pub record_kept : HoldsTable schema scan.table old → IsRecordKept schema old key bytes
+    record_kept holds told = let shows = holds told in let r = recorded shows.0 shows.1 in (shows.0 r.0, r.1, shows.2 r.0)
