@@ -1,5 +1,5 @@
 -- What was found stays found as others step; and where the keys of rows are.
-use Rattle.std.proofs.Common.{◌≡◌, ◌∙◌, sym, ap, subst, refl, ℕ, zero, suc, ◌+◌, ◌≤◌, Bool, true, false, cond, List, [], ◌∷◌, Option, None, Some, slice_get}
+use Rattle.std.proofs.Common.{◌≡◌, ◌∙◌, sym, ap, subst, refl, ℕ, zero, suc, ◌+◌, ◌≤◌, true, List, [], ◌∷◌, Option, None, Some, slice_get}
 use Rattle.std.proofs.Common.{arith}
 use Rattle.std.specs.Prelude.{IsTrue, is_some, All}
 use Rattle.std.specs.List.{list_any}
@@ -14,9 +14,8 @@ use Rattle.law_stored_rows.proofs.{Values.value_itself, RowRecords.leads_still, 
 use Rattle.sql_plan.specs.Visits.{kind_if, kind_at, index_key}
 use Rattle.world.specs.State.{WorldState}
 use Rattle.row_search.specs.{declared.sight.Sight.Sight, declared.scan.Scan.Scan, declared.phase.Phase.Phase, declared.search.RowSearch.RowSearch}
-use Rattle.row_search.specs.{Sights.sees_by, Sights.rows_seen, Ranges.primary_part, Tables.HaveKeys, Others.KeepsWay, Others.KeepsFound}
-use Rattle.row_search.specs.{Others.KeepsSearching, Others.NeedsNoVersion, Visits.phase_anew}
-use Rattle.row_search.specs.declared.phase.Phase.TheVariants.{Seek, Follow, Fetch, Look, Walk, Keep}
+use Rattle.row_search.specs.{Sights.sees_by, Sights.rows_seen, Ranges.primary_part, Tables.HaveKeys, Others.KeepsWay}
+use Rattle.row_search.specs.declared.phase.Phase.TheVariants.{Follow, Fetch, Look, Walk, Keep}
 use Rattle.row_search.specs.Searches.{IsSearching, PhaseHolds, PhaseFinds, Finds, place_in}
 use Rattle.row_search.proofs.Keys.{home, key_is_value, keyed_is, fits_in}
 use Rattle.entries.specs.Calls.{HasKey as IsAtKey}
@@ -135,32 +134,3 @@ seen_among column sight (version ∷ versions) row is =
 pub newest_seen : (versions : List Version) → first_seen (λ id. true) versions ≡ newest versions
 newest_seen [] = refl
 newest_seen (version ∷ versions) = refl
-
--- ---- a search that comes to its pair anew
-
--- a search that comes to its pair anew has found what it had found, needs no version, and may go on where it might
-pub anew_finds : (scan : Scan) (phase : Phase)
-    → KeepsFound (record { scan = scan; phase = phase }) (record { scan = scan; phase = phase_anew phase })
-anew_finds scan (Look entry bytes) = λ schema kept place versions_at found. found.0
-anew_finds scan (Walk entry pointer) = λ schema kept place versions_at found. found.0
-anew_finds scan other = λ schema kept place versions_at found. found
-
-pub anew_needs_none : (scan : Scan) (phase : Phase) → NeedsNoVersion (record { scan = scan; phase = phase_anew phase })
-anew_needs_none scan Seek = λ schema old new. tt
-anew_needs_none scan other = λ schema old new. tt
-
-pub anew_holds : (scan : Scan) (phase : Phase)
-    → KeepsSearching (record { scan = scan; phase = phase }) (record { scan = scan; phase = phase_anew phase })
-anew_holds scan phase = λ actor schema state is. record { there = is.there; key = is.key; few = is.few; phase = still actor schema state phase is.phase }
-  where
-    still : (actor : ℕ) (schema : Schema) (state : WorldState) (at : Phase) → PhaseHolds actor schema scan state at
-        → PhaseHolds actor schema scan state (phase_anew at)
-    still actor schema state (Look entry bytes) is = is.0
-    still actor schema state (Walk entry pointer) is = is.0
-    still actor schema state other is = is
-
-pub comes_as_it_was : (phase : Phase) → ((entry bytes : List ℕ) → phase ≡ Look entry bytes → ⊥)
-    → ((entry : List ℕ) (pointer : ℕ) → phase ≡ Walk entry pointer → ⊥) → phase ≡ phase_anew phase
-comes_as_it_was (Look entry bytes) no_look no_walk = absurd (no_look entry bytes refl)
-comes_as_it_was (Walk entry pointer) no_look no_walk = absurd (no_walk entry pointer refl)
-comes_as_it_was other no_look no_walk = refl
