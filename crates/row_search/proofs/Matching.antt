@@ -1,6 +1,6 @@
 -- Of two searches that see the same rows, those found that meet a condition are the same, where both ranges hold them.
 use Rattle.std.proofs.Common.{◌≡◌, ◌∙◌, sym, ap, subst, refl, ℕ, ◌+◌, ◌≤◌, Bool, true, false, cond, ◌&&◌, T, List, [], ◌∷◌, map, Option, None, Some, arith}
-use Rattle.std.specs.Prelude.{filter}
+use Rattle.std.specs.Prelude.{filter, MatchOption}
 use Rattle.std.specs.List.{AllByRecursion}
 use Rattle.std.specs.Ordering.{is_lt, is_eq}
 use Rattle.std.specs.FinMap.{find, is_sorted}
@@ -16,7 +16,7 @@ use Rattle.law_stored_rows.proofs.{Values.value_total, Values.same_value, FirstP
 use Rattle.sql_plan.specs.{declared.choice.Plan.Plan, Visits.kind_at, Visits.primary_key, Visits.index_key, Covers.CoversMatches}
 use Rattle.row_search.specs.declared.found.FoundRow.{FoundRow}
 use Rattle.row_search.specs.FoundRows.{IsSeenRow, times_found, once_if, RiseByKey, AreFound}
-use Rattle.row_search.proofs.{Rows.counted, Keys.IsHome, Keys.fits_in, Others.bits_in}
+use Rattle.row_search.proofs.{Rows.counted, Rows.once_passes, Keys.IsHome, Keys.fits_in, Others.bits_in}
 
 -- the rows behind their primary values
 abbrev placed : Schema → List FoundRow → List (Value × List Value)
@@ -40,13 +40,22 @@ rows_back schema [] = refl
 rows_back schema (f ∷ rows) = ap (λ (later : List (List Value)). f.row ∷ later) (rows_back schema rows)
 
 module _ (schema : Schema) (row_at : Value → Option (List Value)) where
-  -- what stands in the list at a value is what is seen there
-  is_seen : (value : Value) (rows : List FoundRow) (row : List Value) → AllByRecursion (IsSeenRow schema row_at) rows
-      → found_at schema value rows ≡ Some row → row_at value ≡ Some row
-  is_seen value [] row seen is = cc
-  is_seen value (f ∷ rows) row seen is =
-      cond_both (is_same_value value (key_of schema f.row)) (Some f.row) (found_at schema value rows) (λ o. o ≡ Some row → row_at value ≡ Some row)
-      (λ same e. ap row_at (same_value value (key_of schema f.row) same) ∙ (seen.0.seen ∙ e)) (λ apart e. is_seen value rows row seen.1 e) is
+  -- what stands in the list at a value is what is seen there, and was counted
+  abbrev Counted : Value → List FoundRow → Option (List Value) → Type 0
+  Counted value rows found =
+      MatchOption found (times_found schema value rows ≡ 0) (λ row. (row_at value ≡ Some row) × (1 ≤ times_found schema value rows))
+
+  stands : (value : Value) (rows : List FoundRow) → AllByRecursion (IsSeenRow schema row_at) rows → Counted value rows (found_at schema value rows)
+  stands value [] seen = refl
+  stands value (f ∷ rows) seen = go (is_same_value value (key_of schema f.row)) refl (found_at schema value rows) (stands value rows seen.1) where
+    go : (b : Bool) → is_same_value value (key_of schema f.row) ≡ b → (o : Option (List Value)) → Counted value rows o
+        → Counted value (f ∷ rows) (cond b (Some f.row) o)
+    go true same o later = (
+      ap row_at (same_value value (key_of schema f.row) same) ∙ seen.0.seen,
+      omega (arith, counted schema value f rows ∙ ap (λ b. cond b 1 0 + times_found schema value rows) same),
+    )
+    go false apart None later = counted schema value f rows ∙ (ap (λ b. cond b 1 0 + times_found schema value rows) apart ∙ omega arith)
+    go false apart (Some row) later = (later.0, omega (arith, counted schema value f rows, later.1))
 
   -- the rows that pass a test, by what stands at each value
   find_passing : (m : List Value → Bool) (value : Value) (rows : List FoundRow) → AllByRecursion (IsSeenRow schema row_at) rows
@@ -64,50 +73,24 @@ module _ (schema : Schema) (row_at : Value → Option (List Value)) where
       gone None is = refl
       gone (Some row) is =
           let here : row_at value ≡ Some f.row = ap row_at (same_value value (key_of schema f.row) s) ∙ seen.0.seen in
-          let same_row : row ≡ f.row = cc (is_seen value rows row seen.1 is, here) in
+          let same_row : row ≡ f.row = cc (here, (subst (Counted value rows) is (stands value rows seen.1)).0) in
           ap (λ b. cond b (Some row) None) (ap m same_row ∙ p)
-
-  -- ---- what stands at each value is what was found once
-
-  none_counts : (value : Value) (rows : List FoundRow) → found_at schema value rows ≡ None → times_found schema value rows ≡ 0
-  none_counts value [] is = refl
-  none_counts value (f ∷ rows) is =
-      cond_both (is_same_value value (key_of schema f.row)) (Some f.row) (found_at schema value rows)
-      (λ o. o ≡ None → times_found schema value (f ∷ rows) ≡ 0) (λ same e. cc)
-      (λ apart e.
-      let n : times_found schema value (f ∷ rows) ≡ 0 + times_found schema value rows
-      = counted schema value f rows ∙ ap (λ b. cond b 1 0 + times_found schema value rows) apart in
-      omega (arith, n, none_counts value rows e)) is
-
-  some_counts : (value : Value) (rows : List FoundRow) (row : List Value) → found_at schema value rows ≡ Some row → 1 ≤ times_found schema value rows
-  some_counts value [] row is = cc
-  some_counts value (f ∷ rows) row is =
-      cond_both (is_same_value value (key_of schema f.row)) (Some f.row) (found_at schema value rows)
-      (λ o. o ≡ Some row → 1 ≤ times_found schema value (f ∷ rows))
-      (λ same e.
-      let n : times_found schema value (f ∷ rows) ≡ 1 + times_found schema value rows
-      = counted schema value f rows ∙ ap (λ b. cond b 1 0 + times_found schema value rows) same in
-      omega arith)
-      (λ apart e. omega (arith, counted schema value f rows, some_counts value rows row e)) is
 
   found_is : (which : ℕ) (p : List Value → Bool) (rows : List FoundRow) (value : Value) → AreFound schema which row_at p rows
       → found_at schema value rows ≡ kept_if p (row_at value)
-  found_is which p rows value is = go (found_at schema value rows) refl where
-    none_of : (o : Option (List Value)) → once_if p o ≡ 0 → kept_if p o ≡ None
+  found_is which p rows value is = go (found_at schema value rows) (stands value rows is.seen) where
+    none_of : (o : Option (List Value)) → once_if p o ≡ 0 → None ≡ kept_if p o
     none_of None z = refl
     none_of (Some row) z =
-        cond_both (p row) 1 0 (λ n. n ≡ 0 → kept_if p (Some row) ≡ None) (λ passes z. absurd (omega arith)) (λ fails z. rw fails) z
+        cond_both (p row) 1 0 (λ n. n ≡ 0 → None ≡ kept_if p (Some row)) (λ passes z. absurd (omega arith))
+        (λ fails z. sym (ap (λ b. cond b (Some row) None) fails)) z
 
-    passes_of : (row : List Value) → 1 ≤ once_if p (Some row) → kept_if p (Some row) ≡ Some row
-    passes_of row le =
-        cond_both (p row) 1 0 (λ n. 1 ≤ n → kept_if p (Some row) ≡ Some row) (λ passes le. rw passes) (λ fails le. absurd (omega arith)) le
-
-    go : (o : Option (List Value)) → found_at schema value rows ≡ o → found_at schema value rows ≡ kept_if p (row_at value)
-    go None is_none = is_none ∙ sym (none_of (row_at value) (sym (is.once value) ∙ none_counts value rows is_none))
-    go (Some row) is_some =
-        let seen = is_seen value rows row is.seen is_some in
-        is_some ∙ (sym (passes_of row (subst (λ (o : Option (List Value)). 1 ≤ once_if p o) seen
-        (subst (λ n. 1 ≤ n) (is.once value) (some_counts value rows row is_some)))) ∙ ap (kept_if p) (sym seen))
+    go : (o : Option (List Value)) → Counted value rows o → o ≡ kept_if p (row_at value)
+    go None zero = none_of (row_at value) (sym (is.once value) ∙ zero)
+    go (Some row) both =
+        let passes : p row ≡ true =
+        once_passes p row (subst (λ o. 1 ≤ once_if p o) both.0 (subst (λ n. 1 ≤ n) (is.once value) both.1)) in
+        rw (both.0, passes)
 
   -- ---- in order
 

@@ -32,6 +32,12 @@ all_with : {X : Type 0} (P Q R : X → Type 0) → ((x : X) → P x → Q x → 
 all_with P Q R f [] p q = p
 all_with P Q R f (x ∷ xs) p q = (f x p.0 q.0, all_with P Q R f xs p.1 q.1)
 
+pub once_passes : (p : List Value → Bool) (row : List Value) → 1 ≤ once_if p (Some row) → p row ≡ true
+once_passes p row some = go (p row) some where
+  go : (b : Bool) → 1 ≤ cond b 1 0 → b ≡ true
+  go true some = refl
+  go false some = absurd (omega arith)
+
 module _ (schema : Schema) where
   pub counted : (value : Value) (found : FoundRow) (rows : List FoundRow)
       → times_found schema value (found ∷ rows) ≡ cond (is_same_value value (key_of schema found.row)) 1 0 + times_found schema value rows
@@ -65,12 +71,6 @@ module _ (schema : Schema) where
           omega (arith, once_more value found rows refl, within value),
           each_counts all rows (λ other. omega (arith, counted other found rows, within other)),
         )
-
-    once_passes : (p : List Value → Bool) (row : List Value) → 1 ≤ once_if p (Some row) → p row ≡ true
-    once_passes p row some = go (p row) some where
-      go : (b : Bool) → 1 ≤ cond b 1 0 → b ≡ true
-      go true some = refl
-      go false some = absurd (omega arith)
 
     pub found_pass : {which : ℕ} (p : List Value → Bool) (rows : List FoundRow) → AreFound schema which row_at p rows
         → AllByRecursion (λ found. (p found.row ≡ true) × IsSeenRow schema row_at found) rows
