@@ -357,4 +357,4 @@ module _ {actor : ℕ} {schema : Schema} {old : WorldState} {scan : Scan} {entry
       let off =
       fetch_put_off actor (primary_part schema entry) read (old.indexes (index_of scan.table 0)) (new.indexes (index_of scan.table 0)) why c.index_is.here
       not_done not_end in
-      waits is (call_unchanged c off.as_before) why off.waits
+      waits is (call_unchanged c off.0) why off.1

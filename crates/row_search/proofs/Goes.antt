@@ -1,16 +1,18 @@
 -- How a step goes on, or is to be made again, by what it leaves of the world.
 use Rattle.std.proofs.Common.{Vec, Global, ◌≡◌, ◌∙◌, sym, ap, subst, refl, ℕ, List, Option, Some, slice_get}
+use Rattle.std.specs.Prelude.{is_some}
 use Rattle.inno_types.specs.{declared.value.Value.Value, declared.value.Schema.Schema, Order.IsBelow}
 use Rattle.store_api.specs.declared.moves.Move.{Move}
 use Rattle.entries.specs.Pairs.{Pair, value_of}
 use Rattle.row_versions.specs.{declared.kept.Kept.Kept, declared.version.Version.Version}
 use Rattle.law_stored_rows.specs.Records.{IsRecordWith}
+use Rattle.sql_plan.specs.Visits.{kind_if, kind_at}
 use Rattle.world.specs.{State.WorldState, State.index_of, Undoing.IsUnchanged}
 use Rattle.row_search.specs.{declared.found.FoundRow.FoundRow, declared.scan.Scan.Scan, declared.phase.Phase.Phase, Sights.rows_seen}
 use Rattle.row_search.specs.{Others.KeepsWay, Tables.ShowsTable, Tables.HoldsTable, Tables.ShowsRows}
 use Rattle.row_search.specs.Steps.{OnlyMoves, GoesOn, Waits, PhaseWaits}
 use Rattle.row_search.specs.Searches.{place_in, PhaseHolds, IsSearching, IsRecordKept, IsSeenAmong, PhaseFinds, HasToGo}
-use Rattle.row_search.proofs.{Worlds.moves_unchanged, Ways.at_key, Others.way_still, Others.holds_still}
+use Rattle.row_search.proofs.{Worlds.moves_unchanged, Others.way_still, Others.holds_still}
 
 module _ {actor : ℕ} {schema : Schema} {old : WorldState} {scan : Scan} {phase : Phase}
     (is : IsSearching actor schema old (record { scan = scan; phase = phase })) where
@@ -98,11 +100,20 @@ module _ {actor : ℕ} {schema : Schema} {old : WorldState} {scan : Scan} {phase
 
   module _ (key bytes : List ℕ) (there : (versions_at : Value → List Version) (shows : ShowsTable schema scan.table old versions_at)
       → value_of key shows.pairs ≡ Some bytes) where
+    -- it has the versions of its row
     recorded : (versions_at : Value → List Version) → ShowsTable schema scan.table old versions_at
         → (value : Value) × IsRecordWith schema key old.versions.kept_at (Some bytes) (versions_at value)
         × IsSeenAmong schema scan (rows_seen scan.sight versions_at) key (versions_at value)
     recorded versions_at shows =
-        at_key schema scan old.versions.kept_at shows.pairs versions_at key bytes shows.clustered (there versions_at shows)
+        let is = shows.clustered in
+        let some = is.keys key (ap is_some (there versions_at shows)) in
+        let kind : kind_at schema.columns schema.primary ≡ is.primary.kind = ap kind_if is.primary_is in
+        let held : IsRecordWith schema key old.versions.kept_at (value_of key shows.pairs) (versions_at some.0) =
+        subst (λ k. IsRecordWith schema k old.versions.kept_at (value_of k shows.pairs) (versions_at some.0)) (sym some.2) (is.records some.0 some.1) in (
+          some.0,
+          subst (λ (o : Option (List ℕ)). IsRecordWith schema key old.versions.kept_at o (versions_at some.0)) (there versions_at shows) held,
+          record { value = some.0; has_key = rw kind some.1; key_is = rw kind some.2; seen = refl },
+        )
 
     pub record_found : (versions_at : Value → List Version) → ShowsTable schema scan.table old versions_at
         → (versions : List Version) × IsRecordWith schema key old.versions.kept_at (Some bytes) versions

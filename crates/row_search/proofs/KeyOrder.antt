@@ -13,6 +13,7 @@ use Rattle.inno_types.specs.{declared.stmt.Bound.Bound, declared.stmt.Bound.TheV
 use Rattle.inno_types.specs.{declared.stmt.Bound.TheVariants.Without, Ranges.beside, Ranges.is_from, Ranges.is_up_to}
 use Rattle.entries.specs.Pairs.{Pair, key_cmp, value_of}
 use Rattle.entries.proofs.Order.{key_cmp_total, same_key, key_itself}
+use Rattle.sql_plan.proofs.Order.{equal_is}
 use Rattle.row_search.specs.{Ranges.bound_bytes, Searches.pairs_behind}
 
 -- ---- any total order
@@ -102,10 +103,6 @@ up_to_below (Without bound) key other le up =
     le_lt (slice_cmp nat_cmp) nat_list_cmp_total (take (length bound) other) (take (length bound) key) bound (firsts_rise (length bound) other key le) up
 
 -- ---- how many pairs are left as a search comes to another one
-
-equal_is : (r : Ordering) → is_eq r ≡ true → r ≡ Equal
-equal_is Equal h = refl
-equal_is other h = cc
 
 one_if : (b c : Bool) → (b ≡ true → c ≡ true) → cond b 1 0 ≤ cond c 1 0
 one_if true c h = rw (h refl) (omega arith)

@@ -1,5 +1,5 @@
 -- What was found stays found as others step; and where the keys of rows are.
-use Rattle.std.proofs.Common.{◌≡◌, ◌∙◌, sym, ap, subst, refl, ℕ, zero, suc, ◌+◌, ◌≤◌, true, List, [], ◌∷◌, Option, None, Some, slice_get, arith}
+use Rattle.std.proofs.Common.{◌≡◌, ◌∙◌, sym, ap, subst, refl, ℕ, zero, suc, ◌+◌, true, List, [], ◌∷◌, Option, None, Some, slice_get, arith}
 use Rattle.std.specs.Prelude.{IsTrue, is_some, All}
 use Rattle.std.specs.List.{list_any}
 use Rattle.std.proofs.lemmas.Bool.{or_left, or_right, cond_both}
@@ -51,9 +51,6 @@ way_still schema sight old new (Walk entry pointer) more =
     λ versions is. (versions, leads_still schema (primary_part schema entry) old new pointer versions more is, refl, omega arith)
 way_still schema sight old new other more = tt
 
-fewer : {a b c : ℕ} → a ≤ b → b ≤ c → a ≤ c
-fewer p q = omega (arith, p, q)
-
 pub holds_still : (actor : ℕ) (schema : Schema) (scan : Scan) (old new : WorldState) → place_in actor scan new ≡ place_in actor scan old
     → (IsTrue new.versions.told → IsTrue old.versions.told) → (phase : Phase)
     → (IsTrue new.versions.told → KeepsWay schema scan.sight old.versions.kept_at new.versions.kept_at phase) → PhaseHolds actor schema scan old phase
@@ -62,11 +59,11 @@ holds_still actor schema scan old new place told Follow keeps h = ap is_some pla
 holds_still actor schema scan old new place told (Fetch entry) keeps h = subst (λ (o : Option Pair). IsAtKey entry o) (sym place) h
 holds_still actor schema scan old new place told (Look entry bytes) keeps h = (
   subst (λ (o : Option Pair). IsAtKey entry o) (sym place) h.0,
-  λ t. let was = h.1 (told t) in let k = keeps t was.0 was.1 in (k.0, k.1, fewer k.3 was.2),
+  λ t. let was = h.1 (told t) in let k = keeps t was.0 was.1 in (k.0, k.1, omega (arith, k.3, was.2)),
 )
 holds_still actor schema scan old new place told (Walk entry pointer) keeps h = (
   subst (λ (o : Option Pair). IsAtKey entry o) (sym place) h.0,
-  λ t. let was = h.1 (told t) in let k = keeps t was.0 was.1 in (k.0, k.1, fewer k.3 was.2),
+  λ t. let was = h.1 (told t) in let k = keeps t was.0 was.1 in (k.0, k.1, omega (arith, k.3, was.2)),
 )
 holds_still actor schema scan old new place told (Keep entry row) keeps h = subst (λ (o : Option Pair). IsAtKey entry o) (sym place) h
 holds_still actor schema scan old new place told other keeps h = tt

@@ -179,7 +179,7 @@ module _ {actor : ℕ} {schema : Schema} {old : WorldState} {scan : Scan} (is : 
   seek_waits {new} why c not_at not_end =
       let off =
       seek_put_off actor (bound_bytes scan.range.low) (old.indexes (index is)) (new.indexes (index is)) why c.index_is.here not_at not_end in
-      waits is (call_unchanged c off.as_before) why off.waits
+      waits is (call_unchanged c off.0) why off.1
 
 -- ---- follow
 

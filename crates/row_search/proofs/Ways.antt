@@ -2,15 +2,14 @@
 use Rattle.std.proofs.Common.{◌≡◌, ◌≢◌, ◌∙◌, sym, ap, subst, refl, ℕ, ◌==◌, true, false, cond, List, [], ◌∷◌, Option, None, Some}
 use Rattle.std.specs.Prelude.{option_map, is_some}
 use Rattle.std.proofs.lemmas.Bool.{or_left, or_right}
-use Rattle.inno_types.specs.{declared.value.Value.Value, declared.value.Kind.Kind, declared.value.Schema.Schema}
+use Rattle.inno_types.specs.{declared.value.Value.Value, declared.value.Schema.Schema}
 use Rattle.store_api.specs.declared.answers.Version.{Version as Coded}
 use Rattle.key_codec.specs.Keys.{HasKey, key_code}
-use Rattle.entries.specs.Pairs.{Pair, value_of}
 use Rattle.row_versions.specs.{declared.kept.Kept.Kept, Versions.Versions, Versions.leads, declared.version.Version.Version, Chains.first_seen, Chains.older}
-use Rattle.law_stored_rows.specs.Records.{shown, row_shown, IsCodeOf, LeadTo, IsRecordWith, IsClustered}
+use Rattle.law_stored_rows.specs.Records.{shown, row_shown, IsCodeOf, LeadTo, IsRecordWith}
 use Rattle.law_stored_rows.proofs.RowRecords.{record_read, pointer_leads, pointer_followed}
-use Rattle.sql_plan.specs.Visits.{kind_if, kind_at}
-use Rattle.row_search.specs.{declared.scan.Scan.Scan, Sights.sees_by, Sights.rows_seen, Searches.IsSeenAmong, Searches.IsSeenAt}
+use Rattle.sql_plan.specs.Visits.{kind_at}
+use Rattle.row_search.specs.{declared.scan.Scan.Scan, Sights.sees_by, Searches.IsSeenAmong, Searches.IsSeenAt}
 use Rattle.row_search.proofs.Keys.{IsHome}
 
 -- These bytes are the record of a version behind which these versions are kept.
@@ -78,25 +77,3 @@ module _ {schema : Schema} {scan : Scan} {row_at : Value → Option (List Value)
         has_key = subst (HasKey (kind_at schema.columns schema.primary)) (sym h.at.key_is) h.has_key;
         key_is = among.key_is ∙ ap (key_code (kind_at schema.columns schema.primary)) (sym h.at.key_is);
       }
-
--- ---- records of the clustered index
-
--- the record that stands at a key has the versions of its row
-pub at_key : (schema : Schema) (scan : Scan) (kept : ℕ → Option Kept) (pairs : List Pair) (versions_at : Value → List Version) (key bytes : List ℕ)
-    → IsClustered schema kept pairs versions_at → value_of key pairs ≡ Some bytes
-    → (value : Value) × IsRecordWith schema key kept (Some bytes) (versions_at value)
-    × IsSeenAmong schema scan (rows_seen scan.sight versions_at) key (versions_at value)
-at_key schema scan kept pairs versions_at key bytes is there =
-    let some = is.keys key (ap is_some there) in
-    let kind : kind_at schema.columns schema.primary ≡ is.primary.kind = ap kind_if is.primary_is in
-    let held : IsRecordWith schema key kept (value_of key pairs) (versions_at some.0) =
-    subst (λ k. IsRecordWith schema k kept (value_of k pairs) (versions_at some.0)) (sym some.2) (is.records some.0 some.1) in (
-      some.0,
-      subst (λ (o : Option (List ℕ)). IsRecordWith schema key kept o (versions_at some.0)) there held,
-      record {
-        value = some.0;
-        has_key = subst (λ (k : Kind). HasKey k some.0) (sym kind) some.1;
-        key_is = some.2 ∙ ap (λ (k : Kind). key_code k some.0) (sym kind);
-        seen = refl;
-      },
-    )

@@ -10,32 +10,24 @@ use Rattle.row_search.specs.Steps.{OnlyMoves, MayWait}
 
 -- ---- delays
 
-delay_as_before : (actor : ℕ) (old new : Index) (move : Move) → Delays actor old new move → IsAsBefore old new
-delay_as_before actor old new Failed h = record { pairs = h.pairs; place = h.place; awaited = h.awaited }
-delay_as_before actor old new Step h = h.all
-delay_as_before actor old new (Latch by) h = h.all
-delay_as_before actor old new Again h = h.all
-delay_as_before actor old new (Bad page rule) h = h.all
-delay_as_before actor old new other h = absurd h
-
 -- the call has not ended, and its index is as it was
-pub record IsPutOff (actor : ℕ) (old new : Index) (move : Move) : Type 0 where
-  pub as_before : IsAsBefore old new
-  pub waits : MayWait actor old new move
-
-put_off : (actor : ℕ) (old new : Index) (move : Move) → Delays actor old new move → IsPutOff actor old new move
-put_off actor old new NoMemory h = absurd h
-put_off actor old new move h = record { as_before = delay_as_before actor old new move h; waits = h }
+put_off : (actor : ℕ) (old new : Index) (move : Move) → Delays actor old new move → IsAsBefore old new × MayWait actor old new move
+put_off actor old new Failed h = (record { pairs = h.pairs; place = h.place; awaited = h.awaited }, h)
+put_off actor old new Step h = (h.all, h)
+put_off actor old new (Latch by) h = (h.all, h)
+put_off actor old new Again h = (h.all, h)
+put_off actor old new (Bad page rule) h = (h.all, h)
+put_off actor old new other h = absurd h
 
 pub seek_put_off : (actor : ℕ) (from : List ℕ) (old new : Index) (move : Move) → Seeks actor from old new move
-    → ((key value : List ℕ) → move ≢ At key value) → move ≢ End → IsPutOff actor old new move
+    → ((key value : List ℕ) → move ≢ At key value) → move ≢ End → IsAsBefore old new × MayWait actor old new move
 seek_put_off actor from old new (At key value) h not_at not_end = absurd (not_at key value refl)
 seek_put_off actor from old new End h not_at not_end = absurd (not_end refl)
-seek_put_off actor from old new NoMemory h not_at not_end = record { as_before = h; waits = tt }
+seek_put_off actor from old new NoMemory h not_at not_end = (h, tt)
 seek_put_off actor from old new move h not_at not_end = put_off actor old new move h
 
 pub fetch_put_off : (actor : ℕ) (key read : List ℕ) (old new : Index) (move : Move) → Fetches actor key read old new move → move ≢ Done → move ≢ End
-    → IsPutOff actor old new move
+    → IsAsBefore old new × MayWait actor old new move
 fetch_put_off actor key read old new Done h not_done not_end = absurd (not_done refl)
 fetch_put_off actor key read old new End h not_done not_end = absurd (not_end refl)
 fetch_put_off actor key read old new move h not_done not_end = put_off actor old new move h
