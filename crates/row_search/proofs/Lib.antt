@@ -1,9 +1,7 @@
 pub mod KeyOrder
 pub mod Rows
-pub mod Worlds
 pub mod Keys
 pub mod Coming
-pub mod Ways
 pub mod Others
 pub mod Goes
 pub mod Walking

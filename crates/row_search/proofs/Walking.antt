@@ -22,7 +22,7 @@ use Rattle.row_search.specs.Ranges.{bound_bytes, primary_part, lies_in, lies_up_
 use Rattle.row_search.specs.Searches.{place_in, PhaseHolds, IsSearching, IsComing, HasToGo, pairs_behind}
 use Rattle.row_search.specs.Steps.{OnlyMoves, Waits}
 use Rattle.row_search.proofs.KeyOrder.{le_is, not_lt, le_lt, begins_before, fewer_behind_first, fewer_behind_next}
-use Rattle.row_search.proofs.{Rows.found_same, Worlds.call_moves, Worlds.call_unchanged, Worlds.seek_put_off, Keys.whole_key}
+use Rattle.row_search.proofs.{Rows.found_same, Goes.call_moves, Goes.call_unchanged, Goes.seek_put_off, Keys.whole_key}
 use Rattle.row_search.proofs.Coming.{never, lies_before, bounds_of, comes_next, none_next, comes_behind, comes_before}
 use Rattle.row_search.proofs.Goes.{index, at_old, Goes, FindsAt, goes_to, goes, waits, record_found, record_kept}
 
