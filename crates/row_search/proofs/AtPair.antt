@@ -1,39 +1,31 @@
 -- How the steps end that are at one pair, where the search goes along the versions of a row; and the last ones.
 use Rattle.std.proofs.Common.{Vec, Global, zero, suc, ◌≡◌, ◌≢◌, ◌∙◌, sym, ap, subst, refl, ℕ, ◌<◌, ◌≤◌, ◌+◌, Bool, true, false, cond, not, List, [], ◌∷◌}
-use Rattle.std.proofs.Common.{◌++◌, length, Option, None, Some, ◌⊎◌, inl, inr, arith}
-use Rattle.std.specs.Prelude.{IfSome, IsTrue, is_some, option_map}
-use Rattle.std.specs.Ordering.{is_lt}
-use Rattle.std.specs.List.Sorted.{IsPermutation, IsSortedBy}
-use Rattle.std.proofs.lemmas.Bool.{and_parts, not-true, false≢true}
+use Rattle.std.proofs.Common.{◌++◌, length, Option, None, Some, ◌⊎◌, inl, inr, arith, ◌==◌}
+use Rattle.std.specs.{Prelude.IfSome, Prelude.IsTrue, Prelude.is_some, Prelude.option_map, Ordering.is_lt, List.Sorted.IsPermutation, List.Sorted.IsSortedBy}
+use Rattle.std.proofs.lemmas.Bool.{and_parts, not-true, false≢true, or_left, or_right}
 use Rattle.inno_types.specs.{declared.value.Value.Value, declared.value.Schema.Schema, Order.IsBelow}
 use Rattle.inno_db.specs.Database.{key_of}
 use Rattle.store_api.specs.{declared.answers.Version.Version as Coded, declared.moves.Move.Move, declared.moves.Move.TheVariants.End}
-use Rattle.store_api.specs.declared.moves.Move.TheVariants.{Done}
-use Rattle.key_codec.specs.Keys.{entry_code}
+use Rattle.store_api.specs.{declared.moves.Move.TheVariants.Done}
+use Rattle.key_codec.specs.Keys.{entry_code, HasKey, key_code}
 use Rattle.row_codec.specs.Rows.{IsRecordOf, IsVersion}
-use Rattle.entries.specs.{Pairs.Pair, Pairs.key_cmp, Pairs.value_of, Index.Told}
-use Rattle.entries.specs.Calls.{HasKey as IsAtKey, Fetches}
-use Rattle.row_versions.specs.{declared.kept.Kept.Kept, Versions.IsPointer, declared.version.Version.Version, Chains.first_seen, Chains.older}
-use Rattle.row_versions.specs.{Versions.Versions, Versions.leads}
-use Rattle.law_stored_rows.specs.{Records.IsCodeOf, Records.LeadTo, Records.IsRecordWith, Entries.value_in}
+use Rattle.entries.specs.{Pairs.Pair, Pairs.key_cmp, Pairs.value_of, Index.Told, Calls.HasKey as IsAtKey, Calls.Fetches}
+use Rattle.row_versions.specs.{declared.kept.Kept.Kept, Versions.IsPointer, Versions.Versions, Versions.leads, declared.version.Version.Version}
+use Rattle.row_versions.specs.{Chains.first_seen, Chains.older}
+use Rattle.law_stored_rows.specs.{Records.IsCodeOf, Records.LeadTo, Records.IsRecordWith, Records.shown, Records.row_shown, Entries.value_in}
 use Rattle.law_stored_rows.proofs.RowRecords.{leads_nowhere, record_read, pointer_leads, pointer_followed}
 use Rattle.sql_plan.specs.Visits.{primary_key, index_key, kind_at}
 use Rattle.world.specs.{State.WorldState, State.index_of, Indexes.Calls, Undoing.IsUnchanged}
+use Rattle.row_search.specs.declared.phase.Phase.TheVariants.{Follow, Fetch, Look, Walk, Keep, Sort, Leave}
 use Rattle.row_search.specs.{declared.found.FoundRow.FoundRow, declared.scan.Scan.Scan, declared.phase.Phase.Phase, Sights.sees_by, Sights.rows_seen}
 use Rattle.row_search.specs.{FoundRows.AreFound, Ranges.primary_part, Ranges.lies_in, Ranges.lies_up_to, Tables.most_versions, Tables.ShowsTable}
 use Rattle.row_search.specs.{Tables.HoldsTable, Tables.ShowsRows, Visits.glance_at, Visits.phase_after, Owners.TellsSame, Owners.IsOwner, Steps.Waits}
-use Rattle.row_search.specs.declared.phase.Phase.TheVariants.{Follow, Fetch, Look, Walk, Keep, Sort, Leave}
 use Rattle.row_search.specs.{declared.glance.Glance.Glance, declared.glance.Glance.TheVariants.Older, declared.glance.Glance.TheVariants.Deleted}
-use Rattle.row_search.specs.{declared.glance.Glance.TheVariants.Row}
-use Rattle.row_search.specs.Searches.{PhaseHolds, IsSearching, IsComing, IsSeenAmong, IsSeenAt, HasToGo, pairs_behind}
-use Rattle.row_search.proofs.{Goes.unchanged_itself, Goes.call_unchanged, Goes.fetch_put_off, Rows.permuted, Rows.rises, Others.in_clustered}
-use Rattle.row_search.proofs.Keys.{IsHome, home, key_is_value, fits_in, keyed_is, key_there_at, part_is}
-use Rattle.row_search.proofs.Coming.{passes_by, is_passed, other_entry, row_kept}
-use Rattle.row_search.proofs.Goes.{at_old, Goes, FindsAt, goes, waits, record_found, record_kept}
-use Rattle.std.proofs.Common.{◌==◌}
-use Rattle.std.proofs.lemmas.Bool.{or_left, or_right}
-use Rattle.key_codec.specs.Keys.{HasKey, key_code}
-use Rattle.law_stored_rows.specs.Records.{shown, row_shown}
+use Rattle.row_search.specs.{declared.glance.Glance.TheVariants.Row, Searches.PhaseHolds, Searches.IsSearching, Searches.IsComing, Searches.IsSeenAmong}
+use Rattle.row_search.specs.{Searches.IsSeenAt, Searches.HasToGo, Searches.pairs_behind}
+use Rattle.row_search.proofs.Goes.{unchanged_itself, call_unchanged, fetch_put_off, at_old, Goes, FindsAt, goes, waits, record_found, record_kept}
+use Rattle.row_search.proofs.{Rows.permuted, Rows.rises, Others.in_clustered, Keys.IsHome, Keys.home, Keys.key_is_value, Keys.fits_in, Keys.keyed_is}
+use Rattle.row_search.proofs.{Keys.key_there_at, Keys.part_is, Coming.passes_by, Coming.is_passed, Coming.other_entry, Coming.row_kept}
 
 -- ---- the versions of a row along its pointers
 

@@ -1,8 +1,6 @@
 -- What was found as the search comes from pair to pair.
 use Rattle.std.proofs.Common.{◌≡◌, ◌≢◌, ◌∙◌, sym, ap, subst, refl, ⊎_elim, ℕ, ◌≤◌, Bool, true, false, ◌&&◌, not, List, [], ◌∷◌, ◌++◌, length, Option, Some}
-use Rattle.std.specs.List.{AllByRecursion}
-use Rattle.std.specs.Ordering.{is_le, is_lt}
-use Rattle.std.specs.declared.cmp.Ordering.TheVariants.{Less, Equal}
+use Rattle.std.specs.{List.AllByRecursion, Ordering.is_le, Ordering.is_lt, declared.cmp.Ordering.TheVariants.Less, declared.cmp.Ordering.TheVariants.Equal}
 use Rattle.std.proofs.lemmas.Bool.{true≢false, cases_Bool, both_ways, and_parts, and_from, true_from_ne_false}
 use Rattle.inno_types.specs.{declared.value.Value.Value, declared.value.Schema.Schema, Ranges.is_from, Ranges.is_up_to, Ranges.is_within}
 use Rattle.inno_db.specs.Database.{key_of}
@@ -14,8 +12,8 @@ use Rattle.law_stored_rows.proofs.Values.{value_itself, one_key}
 use Rattle.sql_plan.specs.Visits.{kind_at, index_key}
 use Rattle.row_search.specs.{declared.found.FoundRow.FoundRow, declared.scan.Scan.Scan, FoundRows.IsSeenRow, FoundRows.AreFound, Tables.HaveKeys}
 use Rattle.row_search.specs.{Searches.IsComing, Searches.IsSeenAt, Ranges.primary_part, Ranges.lies_in, Ranges.lies_up_to, Ranges.lies_below}
-use Rattle.row_search.proofs.KeyOrder.{not_lt, le_not, lt_less, le_apart, up_to_below}
-use Rattle.row_search.proofs.{Keys.IsHome, Keys.one_place, Keys.part_is, Rows.all_each, Rows.found_same, Rows.found_pass, Rows.found_push}
+use Rattle.row_search.proofs.{KeyOrder.not_lt, KeyOrder.le_not, KeyOrder.lt_less, KeyOrder.le_apart, KeyOrder.up_to_below, Keys.IsHome, Keys.one_place}
+use Rattle.row_search.proofs.{Keys.part_is, Rows.all_each, Rows.found_same, Rows.found_pass, Rows.found_push}
 
 -- of two tests the second is alike wherever the first one holds
 under : (a b c : Bool) → (a ≡ true → b ≡ c) → (a && b) ≡ (a && c)

@@ -2,20 +2,19 @@
 use Rattle.std.proofs.Common.{Vec, Global, ◌≡◌, ◌∙◌, sym, ap, subst, refl, ℕ, List, Option, Some, slice_get, ◌≢◌, ⊎_elim, None}
 use Rattle.std.specs.Prelude.{is_some}
 use Rattle.inno_types.specs.{declared.value.Value.Value, declared.value.Schema.Schema, Order.IsBelow}
+use Rattle.store_api.specs.declared.moves.Move.TheVariants.{At, End, Done, Step, Latch, Again, Failed, Bad, NoMemory}
 use Rattle.store_api.specs.declared.moves.Move.{Move}
-use Rattle.entries.specs.Pairs.{Pair, value_of}
+use Rattle.entries.specs.{Pairs.Pair, Pairs.value_of, Index.Index, Index.AreKept, Index.IsAsBefore, Index.IsGiven, Calls.Delays, Calls.Seeks, Calls.Fetches}
 use Rattle.row_versions.specs.{declared.kept.Kept.Kept, declared.version.Version.Version}
 use Rattle.law_stored_rows.specs.Records.{IsRecordWith}
 use Rattle.sql_plan.specs.Visits.{kind_if, kind_at}
 use Rattle.world.specs.{State.WorldState, State.index_of, Undoing.IsUnchanged, Indexes.Calls}
 use Rattle.row_search.specs.{declared.found.FoundRow.FoundRow, declared.scan.Scan.Scan, declared.phase.Phase.Phase, Sights.rows_seen, Others.KeepsWay}
-use Rattle.row_search.specs.{Tables.ShowsTable, Tables.HoldsTable, Tables.ShowsRows}
-use Rattle.row_search.specs.Steps.{OnlyMoves, GoesOn, Waits, PhaseWaits, MayWait}
-use Rattle.row_search.specs.Searches.{place_in, PhaseHolds, IsSearching, IsRecordKept, IsSeenAmong, PhaseFinds, HasToGo}
-use Rattle.row_search.proofs.{Others.way_still, Others.holds_still}
+use Rattle.row_search.specs.{Tables.ShowsTable, Tables.HoldsTable, Tables.ShowsRows, Steps.OnlyMoves, Steps.GoesOn, Steps.Waits, Steps.PhaseWaits}
+use Rattle.row_search.specs.{Steps.MayWait, Searches.place_in, Searches.PhaseHolds, Searches.IsSearching, Searches.IsRecordKept, Searches.IsSeenAmong}
+use Rattle.row_search.specs.{Searches.PhaseFinds, Searches.HasToGo}
+use Rattle.row_search.proofs.Others.{way_still, holds_still}
 use Rattle.std.proofs.lemmas.Bool.{cases_eq}
-use Rattle.store_api.specs.declared.moves.Move.TheVariants.{At, End, Done, Step, Latch, Again, Failed, Bad, NoMemory}
-use Rattle.entries.specs.{Index.Index, Index.AreKept, Index.IsAsBefore, Index.IsGiven, Calls.Delays, Calls.Seeks, Calls.Fetches}
 use Rattle.world.proofs.Stores.{store_stays}
 
 -- ---- delays

@@ -1,14 +1,11 @@
 -- The order of keys beside bounds, which are compared with their first bytes alone; and how many pairs stand behind a key.
-use Rattle.std.proofs.Common.{◌≡◌, ◌≢◌, ◌∙◌, sym, ap, refl, ℕ, zero, suc, ◌+◌, ◌≤◌, ◌<◌, Bool, true, false, cond, not, List, [], ◌∷◌, length, take, Some, arith}
-use Rattle.std.specs.List.{count_by}
-use Rattle.std.specs.Ordering.{is_le, is_lt, is_ge, is_gt, is_eq, nat_cmp, ordering_then, ordering_reverse}
-use Rattle.std.specs.Cmp.{IsTotalOrder, nat_cmp_total}
-use Rattle.std.specs.Cmp.Lexicographic.{slice_cmp}
-use Rattle.std.specs.declared.cmp.Ordering.{Ordering}
-use Rattle.std.specs.declared.cmp.Ordering.TheVariants.{Less, Equal, Greater}
-use Rattle.std.proofs.lemmas.Bool.{both_ways, false_from_ne_true, not-true}
-use Rattle.std.proofs.lemmas.Cmp.{nat_list_cmp_total}
-use Rattle.std.proofs.lemmas.List.Sums.{sum_by-cons, sum_by-le-sum_by, count_by-le-length}
+use Rattle.std.proofs.Common.{◌≡◌, ◌≢◌, ◌∙◌, sym, ap, refl, ℕ, zero, suc, ◌+◌, ◌≤◌, ◌<◌, Bool, true, false, cond, not, List, [], ◌∷◌, length, take, Some}
+use Rattle.std.proofs.Common.{arith}
+use Rattle.std.specs.{List.count_by, Ordering.is_le, Ordering.is_lt, Ordering.is_ge, Ordering.is_gt, Ordering.is_eq, Ordering.nat_cmp, Ordering.ordering_then}
+use Rattle.std.specs.{Ordering.ordering_reverse, Cmp.IsTotalOrder, Cmp.nat_cmp_total, Cmp.Lexicographic.slice_cmp, declared.cmp.Ordering.Ordering}
+use Rattle.std.specs.{declared.cmp.Ordering.TheVariants.Less, declared.cmp.Ordering.TheVariants.Equal, declared.cmp.Ordering.TheVariants.Greater}
+use Rattle.std.proofs.{lemmas.Bool.both_ways, lemmas.Bool.false_from_ne_true, lemmas.Bool.not-true, lemmas.Cmp.nat_list_cmp_total}
+use Rattle.std.proofs.{lemmas.List.Sums.sum_by-cons, lemmas.List.Sums.sum_by-le-sum_by, lemmas.List.Sums.count_by-le-length}
 use Rattle.inno_types.specs.{declared.stmt.Bound.Bound, declared.stmt.Bound.TheVariants.Open, declared.stmt.Bound.TheVariants.With}
 use Rattle.inno_types.specs.{declared.stmt.Bound.TheVariants.Without, Ranges.beside, Ranges.is_from, Ranges.is_up_to}
 use Rattle.entries.specs.Pairs.{Pair, key_cmp, value_of}

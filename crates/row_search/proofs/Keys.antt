@@ -1,12 +1,8 @@
 -- Keys of rows in the indexes of their table.
 use Rattle.std.proofs.Common.{◌≡◌, ◌∙◌, sym, ap, subst, ℕ, zero, suc, ◌+◌, ◌-◌, ◌==◌, ◌≤◌, ◌<◌, Bool, false, List, [], ◌∷◌, ◌++◌, length, slice_get, refl}
 use Rattle.std.proofs.Common.{Option, None, Some, arith, length-append}
-use Rattle.std.specs.Prelude.{IfSome}
-use Rattle.std.specs.List.{AllByRecursion}
-use Rattle.std.proofs.lemmas.Bool.{cond_both}
-use Rattle.std.proofs.lemmas.Bool.Decides.{nat_tests}
-use Rattle.std.proofs.lemmas.List.{drop_at}
-use Rattle.std.proofs.lemmas.List.Elements.{recursion_from_All}
+use Rattle.std.specs.{Prelude.IfSome, List.AllByRecursion}
+use Rattle.std.proofs.{lemmas.Bool.cond_both, lemmas.Bool.Decides.nat_tests, lemmas.List.drop_at, lemmas.List.Elements.recursion_from_All}
 use Rattle.inno_types.specs.{declared.value.Value.Value, declared.value.Column.Column, declared.value.Key.Key, declared.value.Kind.Kind}
 use Rattle.inno_types.specs.{declared.value.Schema.Schema, declared.value.Value.TheVariants.Null}
 use Rattle.key_codec.specs.Keys.{HasKey, IsOfKindOrNull, key_code, key_width, entry_front, entry_code}

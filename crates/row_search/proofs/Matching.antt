@@ -1,11 +1,7 @@
 -- Of two searches that see the same rows, those found that meet a condition are the same, where both ranges hold them.
 use Rattle.std.proofs.Common.{◌≡◌, ◌∙◌, sym, ap, subst, refl, ℕ, ◌+◌, ◌≤◌, Bool, true, false, cond, ◌&&◌, T, List, [], ◌∷◌, map, Option, None, Some, arith}
-use Rattle.std.specs.Prelude.{filter, MatchOption}
-use Rattle.std.specs.List.{AllByRecursion}
-use Rattle.std.specs.Ordering.{is_lt, is_eq}
-use Rattle.std.specs.FinMap.{find, is_sorted}
-use Rattle.std.specs.FinMap.Entries.{below_all, same_entries}
-use Rattle.std.specs.declared.cmp.Ordering.TheVariants.{Less}
+use Rattle.std.specs.{Prelude.filter, Prelude.MatchOption, List.AllByRecursion, Ordering.is_lt, Ordering.is_eq, FinMap.find, FinMap.is_sorted}
+use Rattle.std.specs.{FinMap.Entries.below_all, FinMap.Entries.same_entries, declared.cmp.Ordering.TheVariants.Less}
 use Rattle.std.proofs.lemmas.Bool.{cond_both}
 use Rattle.inno_types.specs.{declared.value.Value.Value, declared.value.Schema.Schema, declared.stmt.Filter.Filter, Ranges.is_within}
 use Rattle.inno_db.specs.{Database.key_of, Database.value_cmp, Conditions.matches, Conditions.truth_of, Conditions.is_true, declared.truth.Truth.Truth}
@@ -14,8 +10,8 @@ use Rattle.entries.specs.Pairs.{key_cmp}
 use Rattle.law_stored_rows.specs.Entries.{is_same_value}
 use Rattle.law_stored_rows.proofs.{Values.value_total, Values.same_value, FirstPlaces.keys_order}
 use Rattle.sql_plan.specs.{declared.choice.Plan.Plan, Visits.kind_at, Visits.primary_key, Visits.index_key, Covers.CoversMatches}
-use Rattle.row_search.specs.declared.found.FoundRow.{FoundRow}
-use Rattle.row_search.specs.FoundRows.{IsSeenRow, times_found, once_if, RiseByKey, AreFound}
+use Rattle.row_search.specs.{declared.found.FoundRow.FoundRow, FoundRows.IsSeenRow, FoundRows.times_found, FoundRows.once_if, FoundRows.RiseByKey}
+use Rattle.row_search.specs.{FoundRows.AreFound}
 use Rattle.row_search.proofs.{Rows.counted, Rows.once_passes, Keys.IsHome, Keys.fits_in, Others.bits_in}
 
 -- the rows behind their primary values

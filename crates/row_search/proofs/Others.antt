@@ -1,23 +1,20 @@
 -- What was found stays found as others step; and where the keys of rows are.
 use Rattle.std.proofs.Common.{◌≡◌, ◌∙◌, sym, ap, subst, refl, ℕ, zero, suc, ◌+◌, true, List, [], ◌∷◌, Option, None, Some, slice_get, arith}
-use Rattle.std.specs.Prelude.{IsTrue, is_some, All}
-use Rattle.std.specs.List.{list_any}
-use Rattle.std.proofs.lemmas.Bool.{or_left, or_right, cond_both}
-use Rattle.std.proofs.lemmas.List.Elements.{All-head, All-tail}
+use Rattle.std.specs.{Prelude.IsTrue, Prelude.is_some, Prelude.All, List.list_any}
+use Rattle.std.proofs.{lemmas.Bool.or_left, lemmas.Bool.or_right, lemmas.Bool.cond_both, lemmas.List.Elements.All-head, lemmas.List.Elements.All-tail}
 use Rattle.inno_types.specs.{declared.value.Value.Value, declared.value.Kind.Kind, declared.value.Key.Key, declared.value.Schema.Schema}
 use Rattle.key_codec.specs.Keys.{HasKey, HasEntry, Has64Bits, key_code, entry_code}
-use Rattle.entries.specs.Pairs.{Pair, value_of}
+use Rattle.entries.specs.{Pairs.Pair, Pairs.value_of, Calls.HasKey as IsAtKey}
 use Rattle.row_versions.specs.{declared.kept.Kept.Kept, declared.version.Version.Version, Chains.first_seen, Chains.newest}
 use Rattle.law_stored_rows.specs.{Entries.value_in, Entries.has_value, Entries.HasEntries, Records.IsRecordWith, Records.IsClustered, Records.KeepsMore}
 use Rattle.law_stored_rows.proofs.{Values.value_itself, RowRecords.leads_still, RowRecords.no_record}
 use Rattle.sql_plan.specs.Visits.{kind_if, kind_at, index_key}
 use Rattle.world.specs.State.{WorldState}
-use Rattle.row_search.specs.{declared.sight.Sight.Sight, declared.scan.Scan.Scan, declared.phase.Phase.Phase, declared.search.RowSearch.RowSearch}
-use Rattle.row_search.specs.{Sights.sees_by, Sights.rows_seen, Ranges.primary_part, Tables.HaveKeys, Others.KeepsWay}
 use Rattle.row_search.specs.declared.phase.Phase.TheVariants.{Follow, Fetch, Look, Walk, Keep}
-use Rattle.row_search.specs.Searches.{IsSearching, PhaseHolds, PhaseFinds, Finds, place_in}
+use Rattle.row_search.specs.{declared.sight.Sight.Sight, declared.scan.Scan.Scan, declared.phase.Phase.Phase, declared.search.RowSearch.RowSearch}
+use Rattle.row_search.specs.{Sights.sees_by, Sights.rows_seen, Ranges.primary_part, Tables.HaveKeys, Others.KeepsWay, Searches.IsSearching}
+use Rattle.row_search.specs.{Searches.PhaseHolds, Searches.PhaseFinds, Searches.Finds, Searches.place_in}
 use Rattle.row_search.proofs.Keys.{home, key_is_value, keyed_is, fits_in}
-use Rattle.entries.specs.Calls.{HasKey as IsAtKey}
 
 -- ---- what was found
 

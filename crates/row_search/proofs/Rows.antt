@@ -1,14 +1,10 @@
 -- Rows that were found: what stays when the search comes further, when one more is found, and once they are in order.
 use Rattle.std.proofs.Common.{◌≡◌, ◌≢◌, ◌∙◌, sym, ap, subst, refl, ⊎_elim, ℕ, suc, ◌+◌, ◌≤◌, Bool, true, false, cond, not, List, [], ◌∷◌, ◌++◌, length}
 use Rattle.std.proofs.Common.{Option, None, Some, arith, slice_index_or}
-use Rattle.std.proofs.lemmas.Bool.{cases_Bool}
-use Rattle.std.proofs.lemmas.List.Elements.{recursion_from_All, All-from_recursion}
-use Rattle.std.proofs.lemmas.List.Sorted.{All-permutation, sum_by-IsPermutation}
-use Rattle.std.proofs.lemmas.List.Sums.{sum_by-cons, sum_by_push}
-use Rattle.std.specs.List.{AllByRecursion}
-use Rattle.std.specs.List.Sorted.{IsPermutation, IsSortedBy}
-use Rattle.std.specs.Ordering.{is_lt}
-use Rattle.std.specs.declared.cmp.Ordering.TheVariants.{Less}
+use Rattle.std.proofs.{lemmas.Bool.cases_Bool, lemmas.List.Elements.recursion_from_All, lemmas.List.Elements.All-from_recursion}
+use Rattle.std.proofs.{lemmas.List.Sorted.All-permutation, lemmas.List.Sorted.sum_by-IsPermutation, lemmas.List.Sums.sum_by-cons}
+use Rattle.std.proofs.{lemmas.List.Sums.sum_by_push}
+use Rattle.std.specs.{List.AllByRecursion, List.Sorted.IsPermutation, List.Sorted.IsSortedBy, Ordering.is_lt, declared.cmp.Ordering.TheVariants.Less}
 use Rattle.inno_types.specs.{declared.value.Value.Value, declared.value.Schema.Schema}
 use Rattle.inno_db.specs.Database.{key_of}
 use Rattle.entries.specs.Pairs.{key_cmp}
@@ -16,8 +12,8 @@ use Rattle.entries.proofs.Order.{key_cmp_total}
 use Rattle.law_stored_rows.specs.Entries.{is_same_value}
 use Rattle.law_stored_rows.proofs.Values.{same_value, value_itself, one_key}
 use Rattle.sql_plan.specs.Visits.{kind_at}
-use Rattle.row_search.specs.declared.found.FoundRow.{FoundRow}
-use Rattle.row_search.specs.FoundRows.{IsSeenRow, times_found, once_if, RiseByKey, AreFound}
+use Rattle.row_search.specs.{declared.found.FoundRow.FoundRow, FoundRows.IsSeenRow, FoundRows.times_found, FoundRows.once_if, FoundRows.RiseByKey}
+use Rattle.row_search.specs.{FoundRows.AreFound}
 use Rattle.row_search.proofs.{KeyOrder.lt_less, KeyOrder.le_is, KeyOrder.le_apart, Keys.IsHome}
 
 all_push : {X : Type 0} (P : X → Type 0) (xs : List X) (x : X) → AllByRecursion P xs → P x → AllByRecursion P (xs ++ x ∷ [])

@@ -1,8 +1,7 @@
 -- What the bytes of an entry tell of a value.
 use Rattle.std.proofs.Common.{◌≡◌, ◌∙◌, sym, ap, refl, ℕ, ◌^◌, ◌<◌, Bool, true, false, nat_eq, List, [], ◌∷◌, ◌++◌, length}
 use Rattle.std.specs.Bool.{Decides}
-use Rattle.std.proofs.lemmas.Bool.{true≢false, eqb-true, eqb-false}
-use Rattle.std.proofs.lemmas.List.{append_cancel_right, same_from_push}
+use Rattle.std.proofs.{lemmas.Bool.true≢false, lemmas.Bool.eqb-true, lemmas.Bool.eqb-false, lemmas.List.append_cancel_right, lemmas.List.same_from_push}
 use Rattle.key_codec.specs.{Keys.padded, Numbers.u64_bytes}
 use Rattle.key_codec.proofs.Once.{same_u64, same_padded}
 use Rattle.row_search.specs.Owners.{TellsSame}

@@ -1,12 +1,11 @@
 -- How the steps end that walk the searched index.
-use Rattle.std.proofs.Common.{◌≡◌, ◌≢◌, ◌∙◌, sym, ap, subst, refl, ℕ, ◌==◌, ◌<◌, ◌≤◌, Bool, true, false, ◌&&◌, not, List, [], ◌∷◌}
-use Rattle.std.proofs.Common.{length, Option, None, Some, inl, inr, arith}
-use Rattle.std.specs.Prelude.{IfSome, is_some, MatchOption, find}
-use Rattle.std.specs.Ordering.{is_le, is_lt}
+use Rattle.std.proofs.Common.{◌≡◌, ◌≢◌, ◌∙◌, sym, ap, subst, refl, ℕ, ◌==◌, ◌<◌, ◌≤◌, Bool, true, false, ◌&&◌, not, List, [], ◌∷◌, length, Option, None, Some}
+use Rattle.std.proofs.Common.{inl, inr, arith}
+use Rattle.std.specs.{Prelude.IfSome, Prelude.is_some, Prelude.MatchOption, Prelude.find, Ordering.is_le, Ordering.is_lt}
 use Rattle.std.proofs.lemmas.Bool.{both_ways, cond_both, eqb-true, eq-eqb}
 use Rattle.inno_types.specs.{declared.value.Value.Value, declared.value.Schema.Schema, Order.IsBelow, Ranges.is_from, Ranges.is_up_to}
-use Rattle.entries.specs.{Pairs.Pair, Pairs.AreRising, Pairs.key_cmp, Pairs.value_of, Pairs.IsFirstOf, Pairs.NonePasses, Index.Told}
-use Rattle.entries.specs.Calls.{HasKey as IsAtKey, Seeks, Follows, next_of}
+use Rattle.entries.specs.{Pairs.Pair, Pairs.AreRising, Pairs.key_cmp, Pairs.value_of, Pairs.IsFirstOf, Pairs.NonePasses, Index.Told, Calls.HasKey as IsAtKey}
+use Rattle.entries.specs.{Calls.Seeks, Calls.Follows, Calls.next_of}
 use Rattle.entries.proofs.{Found.first_is, Order.key_cmp_total}
 use Rattle.store_api.specs.{declared.moves.Move.Move, declared.moves.Move.TheVariants.At, declared.moves.Move.TheVariants.End}
 use Rattle.row_versions.specs.{declared.kept.Kept.Kept, declared.version.Version.Version}
@@ -14,17 +13,16 @@ use Rattle.law_stored_rows.specs.Records.{IsRecordWith}
 use Rattle.sql_plan.specs.Visits.{index_key}
 use Rattle.world.specs.{State.WorldState, State.index_of, Indexes.Calls, Undoing.IsUnchanged}
 use Rattle.row_search.specs.{declared.side.Side.Side, declared.side.Side.TheVariants.Before, declared.side.Side.TheVariants.Within}
-use Rattle.row_search.specs.{declared.side.Side.TheVariants.Behind, declared.scan.Scan.Scan, declared.phase.Phase.Phase, Sights.rows_seen}
-use Rattle.row_search.specs.{FoundRows.AreFound, Tables.ShowsTable, Tables.HoldsTable, Tables.ShowsRows, Tables.most_versions, Visits.phase_at}
-use Rattle.row_search.specs.{Visits.IsGivenPhase, Ranges.IsOnSide}
-use Rattle.row_search.specs.declared.phase.Phase.TheVariants.{Seek, Follow, Fetch, Look, Sort}
-use Rattle.row_search.specs.Ranges.{bound_bytes, primary_part, lies_in, lies_up_to, lies_below}
-use Rattle.row_search.specs.Searches.{place_in, PhaseHolds, IsSearching, IsComing, HasToGo, pairs_behind}
-use Rattle.row_search.specs.Steps.{OnlyMoves, Waits}
-use Rattle.row_search.proofs.KeyOrder.{le_is, not_lt, le_lt, begins_before, fewer_behind_first, fewer_behind_next}
-use Rattle.row_search.proofs.{Rows.found_same, Goes.call_moves, Goes.call_unchanged, Goes.seek_put_off, Keys.whole_key}
-use Rattle.row_search.proofs.Coming.{never, lies_before, bounds_of, comes_next, none_next, comes_behind, comes_before}
-use Rattle.row_search.proofs.Goes.{index, at_old, Goes, FindsAt, goes_to, goes, waits, record_found, record_kept}
+use Rattle.row_search.specs.{declared.side.Side.TheVariants.Behind, declared.scan.Scan.Scan, declared.phase.Phase.Phase, Sights.rows_seen, FoundRows.AreFound}
+use Rattle.row_search.specs.{Tables.ShowsTable, Tables.HoldsTable, Tables.ShowsRows, Tables.most_versions, Visits.phase_at, Visits.IsGivenPhase}
+use Rattle.row_search.specs.{Ranges.IsOnSide, Ranges.bound_bytes, Ranges.primary_part, Ranges.lies_in, Ranges.lies_up_to, Ranges.lies_below}
+use Rattle.row_search.specs.{declared.phase.Phase.TheVariants.Seek, declared.phase.Phase.TheVariants.Follow, declared.phase.Phase.TheVariants.Fetch}
+use Rattle.row_search.specs.{declared.phase.Phase.TheVariants.Look, declared.phase.Phase.TheVariants.Sort, Searches.place_in, Searches.PhaseHolds}
+use Rattle.row_search.specs.{Searches.IsSearching, Searches.IsComing, Searches.HasToGo, Searches.pairs_behind, Steps.OnlyMoves, Steps.Waits}
+use Rattle.row_search.proofs.{KeyOrder.le_is, KeyOrder.not_lt, KeyOrder.le_lt, KeyOrder.begins_before, KeyOrder.fewer_behind_first}
+use Rattle.row_search.proofs.{KeyOrder.fewer_behind_next, Rows.found_same, Goes.call_moves, Goes.call_unchanged, Goes.seek_put_off, Goes.index, Goes.at_old}
+use Rattle.row_search.proofs.{Goes.Goes, Goes.FindsAt, Goes.goes_to, Goes.goes, Goes.waits, Goes.record_found, Goes.record_kept, Keys.whole_key, Coming.never}
+use Rattle.row_search.proofs.{Coming.lies_before, Coming.bounds_of, Coming.comes_next, Coming.none_next, Coming.comes_behind, Coming.comes_before}
 
 some_of : (o : Option Pair) → is_some o ≡ true → (pair : Pair) × (o ≡ Some pair)
 some_of None h = cc

@@ -1,21 +1,19 @@
 -- How far a search has come.
-use Rattle.std.specs.Prelude.{◌≡◌, ℕ, ◌≤◌, ◌<◌, true, false, IsTrue, List, [], ◌∷◌, length, slice_get, Option, None, Some, IsSome, IfSome}
-use Rattle.std.specs.List.{count_by}
-use Rattle.std.specs.Ordering.{is_lt}
-use Rattle.inno_types.specs.{declared.value.Value.Value, declared.value.Schema.Schema}
+use Rattle.std.specs.Prelude.{◌≡◌, ◌≤◌, ◌<◌, [], ◌∷◌}
+use Rattle.std.specs.{Prelude.ℕ, Prelude.true, Prelude.false, Prelude.IsTrue, Prelude.List, Prelude.length, Prelude.slice_get, Prelude.Option, Prelude.None}
+use Rattle.std.specs.{Prelude.Some, Prelude.IsSome, Prelude.IfSome, List.count_by, Ordering.is_lt}
+use Rattle.inno_types.specs.{declared.value.Value.Value, declared.value.Schema.Schema, Ranges.is_within}
 use Rattle.inno_db.specs.Database.{key_of}
 use Rattle.key_codec.specs.Keys.{HasKey, key_code}
-use Rattle.entries.specs.Pairs.{Pair, key_cmp}
-use Rattle.entries.specs.Calls.{HasKey as IsAtKey}
+use Rattle.entries.specs.{Pairs.Pair, Pairs.key_cmp, Calls.HasKey as IsAtKey}
 use Rattle.row_versions.specs.{declared.kept.Kept.Kept, declared.version.Version.Version, Chains.first_seen}
 use Rattle.law_stored_rows.specs.Records.{LeadTo, IsRecordWith}
-use Rattle.inno_types.specs.Ranges.{is_within}
 use Rattle.sql_plan.specs.Visits.{kind_at, primary_key}
 use Rattle.world.specs.State.{WorldState, index_of}
+use Rattle.row_search.specs.declared.phase.Phase.TheVariants.{Seek, Follow, Fetch, Look, Walk, Keep, Sort, Leave}
 use Rattle.row_search.specs.{declared.scan.Scan.Scan, declared.phase.Phase.Phase, declared.search.RowSearch.RowSearch, Sights.sees_by, Sights.rows_seen}
 use Rattle.row_search.specs.{Tables.most_versions, FoundRows.AreFound, FoundRows.RiseByKey, Ranges.primary_part, Ranges.lies_in, Ranges.lies_up_to}
 use Rattle.row_search.specs.{Ranges.lies_below}
-use Rattle.row_search.specs.declared.phase.Phase.TheVariants.{Seek, Follow, Fetch, Look, Walk, Keep, Sort, Leave}
 
 -- the pair that the actor was given last of the searched index
 abbrev pub place_in : ℕ → Scan → WorldState → Option Pair

@@ -1,19 +1,18 @@
 -- What a step of a search does, and what may keep it from going on.
-use Rattle.std.specs.Prelude.{◌≡◌, ◌≢◌, ℕ, List, IsTrue}
-use Rattle.inno_types.specs.{declared.value.Value.Value, declared.value.Schema.Schema}
-use Rattle.store_api.specs.declared.visits.Visit.TheVariants as unseen
+use Rattle.std.specs.Prelude.{◌≡◌, ◌≢◌}
+use Rattle.std.specs.Prelude.{ℕ, List, IsTrue}
+use Rattle.inno_types.specs.{declared.value.Value.Value, declared.value.Schema.Schema, Order.IsBelow}
 use Rattle.store_api.specs.{declared.moves.Move.Move, declared.moves.Move.TheVariants.Failed, declared.moves.Move.TheVariants.Again}
 use Rattle.store_api.specs.{declared.moves.Move.TheVariants.Bad, declared.moves.Move.TheVariants.NoMemory}
 use Rattle.entries.specs.{Index.Index, Index.AreKept, Calls.Delays, Calls.Leaves}
-use Rattle.inno_types.specs.Order.{IsBelow}
 use Rattle.row_versions.specs.{Versions.Versions, Versions.Stays, Calls.IsUnseen, declared.version.Version.Version}
 use Rattle.world.specs.{State.WorldState, State.index_of, Stores.StoreGoes, Indexes.Calls, Undoing.IsUnchanged}
+use Rattle.row_search.specs.declared.search.Came.TheVariants.{Went, Done, Hindered, Malformed}
 use Rattle.row_search.specs.{declared.scan.Scan.Scan, declared.phase.Phase.Phase, declared.phase.Phase.TheVariants.Seek}
 use Rattle.row_search.specs.{declared.phase.Phase.TheVariants.Follow, declared.phase.Phase.TheVariants.Fetch, declared.phase.Phase.TheVariants.Walk}
-use Rattle.row_search.specs.{declared.search.RowSearch.RowSearch, declared.search.Came.Came, declared.search.Came.TheVariants.Went}
-use Rattle.row_search.specs.{declared.search.Came.TheVariants.Done, declared.search.Came.TheVariants.Hindered, declared.search.Came.TheVariants.Malformed}
-use Rattle.row_search.specs.{Sights.rows_seen, FoundRows.AreFound, FoundRows.RiseByKey, Ranges.lies_in, Tables.ShowsRows, Searches.IsSearching}
-use Rattle.row_search.specs.{Searches.Finds, Searches.HasToGo, Searches.place_in}
+use Rattle.row_search.specs.{declared.search.RowSearch.RowSearch, declared.search.Came.Came, Sights.rows_seen, FoundRows.AreFound, FoundRows.RiseByKey}
+use Rattle.row_search.specs.{Ranges.lies_in, Tables.ShowsRows, Searches.IsSearching, Searches.Finds, Searches.HasToGo, Searches.place_in}
+use Rattle.store_api.specs.declared.visits.Visit.TheVariants as unseen
 
 -- Nothing has changed but the actor's place in one index.
 pub record OnlyMoves (actor index : ℕ) (old new : WorldState) : Type 0 where

@@ -1,6 +1,5 @@
 use Rattle.std.proofs.Common.{sym, Some, None}
-use Rattle.std.proofs.lemmas.Bool.Decides.{Decides-eqb}
-use Rattle.std.proofs.lemmas.Slice.Eq.{strip_suffix_is}
+use Rattle.std.proofs.{lemmas.Bool.Decides.Decides-eqb, lemmas.Slice.Eq.strip_suffix_is}
 use Rattle.key_codec.specs.Keys.{entry_front}
 use Rattle.row_search.proofs.Spelled.{front_told}
 use Rattle.row_search.proofs.entry.is_entry.Goals as goal
