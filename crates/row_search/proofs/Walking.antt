@@ -3,7 +3,7 @@ use Rattle.std.proofs.Common.{◌≡◌, ◌≢◌, ◌∙◌, sym, ap, subst, r
 use Rattle.std.proofs.Common.{inl, inr, arith}
 use Rattle.std.specs.{Prelude.IfSome, Prelude.is_some, Prelude.MatchOption, Prelude.find, Ordering.is_le, Ordering.is_lt}
 use Rattle.std.proofs.lemmas.Bool.{both_ways, cond_both, eqb-true, eq-eqb}
-use Rattle.inno_types.specs.{declared.value.Value.Value, declared.value.Schema.Schema, Order.IsBelow, Ranges.is_from, Ranges.is_up_to}
+use Rattle.inno_types.specs.{declared.value.Value.Value, declared.value.Schema.Schema, Order.IsBelow}
 use Rattle.entries.specs.{Pairs.Pair, Pairs.AreRising, Pairs.key_cmp, Pairs.value_of, Pairs.IsFirstOf, Pairs.NonePasses, Index.Told, Calls.HasKey as IsAtKey}
 use Rattle.entries.specs.{Calls.Seeks, Calls.Follows, Calls.next_of}
 use Rattle.entries.proofs.{Found.first_is, Order.key_cmp_total}
@@ -64,7 +64,11 @@ module _ {actor : ℕ} {schema : Schema} {old : WorldState} {scan : Scan} {phase
     pair_given {new} holds key value told moves placed next given =
         subst (λ (p : Phase). Goes is new scan.rows p) (sym given.next_is)
         (goes_to is moves (Some (key, value)) placed scan.rows (phase_at scan.which key value given.side) (holds_at given.side)
-        (λ versions_at shows was. finds_at versions_at shows (to.came versions_at was) given.side given.is_on)
+        (λ versions_at shows was.
+        let came = to.came versions_at was in
+        let one = first_pair shows.searched shows.rising shows.searched_are in
+        finds_at versions_at shows came.0 (comes_next schema scan (rows_seen scan.sight versions_at) shows.searched shows.keys passes came.1 (key, value) one
+        (λ row lies no. to.below key row one.passes lies no)) given.side given.is_on)
         (λ versions_at shows n was to_go.
         let left = to.left shows.searched n to_go in
         nears_at shows.searched n left.0 left.1 (left.2 (key, value) (first_pair shows.searched shows.rising shows.searched_are)) given.side))
@@ -77,20 +81,13 @@ module _ {actor : ℕ} {schema : Schema} {old : WorldState} {scan : Scan} {phase
 
         -- in the clustered index the pair is the row's record
         own : (scan.which == 0) ≡ true → (versions_at : Value → List Version) (shows : ShowsTable schema scan.table old versions_at)
-            → value_of key shows.pairs ≡ Some value
+            → (primary_part schema key ≡ key) × (value_of (primary_part schema key) shows.pairs ≡ Some value)
         own clustered versions_at shows =
+            let there =
             (first_pair shows.pairs shows.clustered.rising
-            (ap (λ w. (old.indexes (index_of scan.table w)).pairs) (eqb-true scan.which 0 clustered) ∙ shows.pairs_are)).there
-
-        whole : (scan.which == 0) ≡ true → (versions_at : Value → List Version) → ShowsTable schema scan.table old versions_at → primary_part schema key ≡ key
-        whole clustered versions_at shows =
-            whole_key schema shows.clustered.primary key shows.clustered.primary_is
-            (shows.clustered.keys key (ap is_some (own clustered versions_at shows)))
-
-        at_part : (scan.which == 0) ≡ true → (versions_at : Value → List Version) (shows : ShowsTable schema scan.table old versions_at)
-            → value_of (primary_part schema key) shows.pairs ≡ Some value
-        at_part clustered versions_at shows =
-            ap (λ k. value_of k shows.pairs) (whole clustered versions_at shows) ∙ own clustered versions_at shows
+            (ap (λ w. (old.indexes (index_of scan.table w)).pairs) (eqb-true scan.which 0 clustered) ∙ shows.pairs_are)).there in
+            let whole = whole_key schema shows.clustered.primary key shows.clustered.primary_is (shows.clustered.keys key (ap is_some there)) in
+            (whole, ap (λ k. value_of k shows.pairs) whole ∙ there)
 
         holds_at : (side : Side) → PhaseHolds actor schema scan new (phase_at scan.which key value side)
         holds_at Before = ap is_some placed
@@ -101,32 +98,25 @@ module _ {actor : ℕ} {schema : Schema} {old : WorldState} {scan : Scan} {phase
               at,
               λ t. subst (λ (kept : ℕ → Option Kept). (versions : List Version) × IsRecordWith schema (primary_part schema key) kept (Some value) versions ×
                   (length versions ≤ most_versions)) (sym (moves.versions.kept t))
-                  (record_kept is (primary_part schema key) value (at_part clustered) holds (moves.versions.told t)),
+                  (record_kept is (primary_part schema key) value (λ versions_at shows. (own clustered versions_at shows).1) holds
+                  (moves.versions.told t)),
             )) (λ keyed. at)
 
-        finds_at : (versions_at : Value → List Version) → ShowsRows schema scan old versions_at
-            → (scan.range.empty ≡ false) × AreFound schema scan.which (rows_seen scan.sight versions_at) (lies_before schema scan passes) scan.rows.items
-            → (side : Side) → IsOnSide scan.range key side → FindsAt is (Some (key, value)) scan.rows (phase_at scan.which key value side) versions_at
-        finds_at versions_at shows came side on = go side on where
-          below : AreFound schema scan.which (rows_seen scan.sight versions_at) (lies_below schema scan key) scan.rows.items
-          below =
-              let first = first_pair shows.searched shows.rising shows.searched_are in
-              comes_next schema scan (rows_seen scan.sight versions_at) shows.searched shows.keys passes came.1 (key, value) first
-              (λ row lies no. to.below key row first.passes lies no)
-
-          coming : (scan.which ≡ 0 → primary_part schema key ≡ key) → (is_from scan.range.low key ≡ true) × (is_up_to scan.range.high key ≡ true)
-              → IsComing schema scan (rows_seen scan.sight versions_at) key
-          coming whole_if inside = record { below = below; within = rw (came.0, inside.0, inside.1); whole = whole_if }
-
-          go : (side : Side) → IsOnSide scan.range key side → FindsAt is (Some (key, value)) scan.rows (phase_at scan.which key value side) versions_at
-          go Before out = (came.0, comes_before schema scan (rows_seen scan.sight versions_at) shows.searched shows.keys key below out)
-          go Behind out = comes_behind schema scan (rows_seen scan.sight versions_at) shows.searched shows.keys key below out
-          go Within inside =
-              cond_both (scan.which == 0) (Look key value) (Fetch key) (λ (p : Phase). FindsAt is (Some (key, value)) scan.rows p versions_at)
-              (λ clustered.
-              let r = record_found is (primary_part schema key) value (at_part clustered) versions_at shows.table in
-              (coming (λ zero. whole clustered versions_at shows.table) inside, r.0, r.1, r.2))
-              (λ keyed. coming (λ zero. absurd (both_ways (scan.which == 0) keyed (eq-eqb scan.which 0 zero))) inside)
+        finds_at : (versions_at : Value → List Version) → ShowsRows schema scan old versions_at → scan.range.empty ≡ false
+            → AreFound schema scan.which (rows_seen scan.sight versions_at) (lies_below schema scan key) scan.rows.items → (side : Side)
+            → IsOnSide scan.range key side → FindsAt is (Some (key, value)) scan.rows (phase_at scan.which key value side) versions_at
+        finds_at versions_at shows some below Before out =
+            (some, comes_before schema scan (rows_seen scan.sight versions_at) shows.searched shows.keys key below out)
+        finds_at versions_at shows some below Behind out =
+            comes_behind schema scan (rows_seen scan.sight versions_at) shows.searched shows.keys key below out
+        finds_at versions_at shows some below Within inside =
+            cond_both (scan.which == 0) (Look key value) (Fetch key) (λ (p : Phase). FindsAt is (Some (key, value)) scan.rows p versions_at)
+            (λ clustered.
+            let r = record_found is (primary_part schema key) value (λ versions_at shows. (own clustered versions_at shows).1) versions_at shows.table in
+            (coming (λ zero. (own clustered versions_at shows.table).0), r.0, r.1, r.2))
+            (λ keyed. coming (λ zero. absurd (both_ways (scan.which == 0) keyed (eq-eqb scan.which 0 zero)))) where
+              coming : (scan.which ≡ 0 → primary_part schema key ≡ key) → IsComing schema scan (rows_seen scan.sight versions_at) key
+              coming whole_if = record { below = below; within = rw (some, inside.0, inside.1); whole = whole_if }
 
         -- fewer pairs are left
         nears_at : (pairs : List Pair) (n : List ℕ) (k : ℕ) → n ≡ 1 ∷ k ∷ 0 ∷ 0 ∷ [] → pairs_behind (Some (key, value)) pairs < k → (side : Side)
