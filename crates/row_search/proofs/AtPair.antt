@@ -35,37 +35,35 @@ pub record IsOnWay (schema : Schema) (key bytes : List ℕ) (kept : ℕ → Opti
   pub first : versions ≡ shown coded ∷ older versions
   pub rest : LeadTo schema key kept coded.pointer (older versions)
 
-pub from_record : {schema : Schema} {key bytes : List ℕ} {kept : ℕ → Option Kept} {coded : Coded} (versions : List Version)
-    → IsRecordWith schema key kept (Some bytes) versions → IsCodeOf schema key bytes coded → IsOnWay schema key bytes kept coded versions
-from_record {schema} {key} {bytes} {kept} {coded} versions is code =
-    let read = record_read schema key bytes kept versions coded is code in
-    record { code_is = code; first = read.0; rest = read.1 }
-
--- some version has the record
-pub code_recorded : (schema : Schema) (key bytes : List ℕ) (kept : ℕ → Option Kept) (versions : List Version)
-    → IsRecordWith schema key kept (Some bytes) versions → (coded : Coded) × IsCodeOf schema key bytes coded
-code_recorded schema key bytes kept [] is = absurd is
-code_recorded schema key bytes kept (version ∷ rest) is = (is.0, is.1)
+-- some version has the record, and those behind it are kept
+from_record : (schema : Schema) (key bytes : List ℕ) (kept : ℕ → Option Kept) (versions : List Version) → IsRecordWith schema key kept (Some bytes) versions
+    → (coded : Coded) × IsCodeOf schema key bytes coded
+    × ((led : List Version) → IsRecordWith schema key kept (Some bytes) led → IsOnWay schema key bytes kept coded led)
+from_record schema key bytes kept [] is = absurd is
+from_record schema key bytes kept (version ∷ rest) is = (
+  is.0,
+  is.1,
+  λ led also. let read = record_read schema key bytes kept led is.0 also is.1 in record { code_is = is.1; first = read.0; rest = read.1 },
+)
 
 kept_for : (bytes : List ℕ) (found : Option Kept) → option_map (λ (k : Kept). k.bytes) found ≡ Some bytes
     → (one : Kept) × (found ≡ Some one) × (one.bytes ≡ bytes)
 kept_for bytes None are = cc
 kept_for bytes (Some one) are = (one, refl, cc)
 
--- the bytes that are kept for a pointer which leads somewhere are the record of the next version
-pub from_pointer : (schema : Schema) (key bytes : List ℕ) (kept : ℕ → Option Kept) (pointer : ℕ) → pointer ≢ 0
-    → option_map (λ (k : Kept). k.bytes) (kept pointer) ≡ Some bytes
-    → (coded : Coded) × ((versions : List Version) → LeadTo schema key kept pointer versions → IsOnWay schema key bytes kept coded versions)
-from_pointer schema key bytes kept pointer leads are =
-    let one = kept_for bytes (kept pointer) are in (
-      one.0.version,
-      λ versions lead.
-          let next = pointer_followed schema key kept pointer versions one.0 lead leads one.1 in
-          record { code_is = subst (λ (b : List ℕ). IsCodeOf schema key b one.0.version) one.2 next.0; first = next.1; rest = next.2 },
-    )
+-- the bytes that are kept for a pointer which leads somewhere are such a record
+from_pointer : (schema : Schema) (key bytes : List ℕ) (kept : ℕ → Option Kept) (pointer : ℕ) → pointer ≢ 0
+    → option_map (λ (k : Kept). k.bytes) (kept pointer) ≡ Some bytes → (versions : List Version) → LeadTo schema key kept pointer versions
+    → (coded : Coded) × IsCodeOf schema key bytes coded × ((led : List Version) → LeadTo schema key kept pointer led → IsOnWay schema key bytes kept coded led)
+from_pointer schema key bytes kept pointer leads are versions lead =
+    let one = kept_for bytes (kept pointer) are in
+    let way : (led : List Version) → LeadTo schema key kept pointer led → IsOnWay schema key bytes kept one.0.version led = λ led to.
+    let next = pointer_followed schema key kept pointer led one.0 to leads one.1 in
+    record { code_is = subst (λ (b : List ℕ). IsCodeOf schema key b one.0.version) one.2 next.0; first = next.1; rest = next.2 } in
+    (one.0.version, (way versions lead).code_is, way)
 
 -- the pointer may be asked for
-pub may_ask : (schema : Schema) (key : List ℕ) (versions : Versions) (pointer : ℕ) (led : List Version) → LeadTo schema key versions.kept_at pointer led
+may_ask : (schema : Schema) (key : List ℕ) (versions : Versions) (pointer : ℕ) (led : List Version) → LeadTo schema key versions.kept_at pointer led
     → leads pointer versions ≡ true
 may_ask schema key versions pointer [] is = or_left (pointer == 0) (is_some (versions.kept_at pointer)) (rw is refl)
 may_ask schema key versions pointer (version ∷ rest) is =
@@ -77,15 +75,15 @@ module _ {schema : Schema} {scan : Scan} {row_at : Value → Option (List Value)
     (among : IsSeenAmong schema scan row_at key versions) where
   module _ {bytes : List ℕ} {kept : ℕ → Option Kept} {coded : Coded} (way : IsOnWay schema key bytes kept coded versions) where
     -- by whether the reader sees the version, and whether that is marked
-    pub seen_first : row_at among.value
+    seen_first : row_at among.value
         ≡ cond (sees_by scan.sight coded.writer) (row_shown coded.marked coded.row) (first_seen (sees_by scan.sight) (older versions))
     seen_first = among.seen ∙ ap (first_seen (sees_by scan.sight)) way.first
 
     -- the version is not seen: those behind it decide
-    pub passed_over : sees_by scan.sight coded.writer ≡ false → IsSeenAmong schema scan row_at key (older versions)
+    passed_over : sees_by scan.sight coded.writer ≡ false → IsSeenAmong schema scan row_at key (older versions)
     passed_over unseen = record { value = among.value; has_key = among.has_key; key_is = among.key_is; seen = rw unseen at seen_first }
 
-  pub row_there : (homes : (value : Value) (row : List Value) → row_at value ≡ Some row → IsHome schema value row) (row : List Value)
+  row_there : (homes : (value : Value) (row : List Value) → row_at value ≡ Some row → IsHome schema value row) (row : List Value)
       → row_at among.value ≡ Some row → IsSeenAt schema row_at key row
   row_there homes row is =
       let h = homes among.value row is in
@@ -222,8 +220,16 @@ module _ {actor : ℕ} {schema : Schema} {old : WorldState} {scan : Scan} {phase
             below one_more (inr both) = inr (both.0, inl (omega (arith, one_more, both.1)))
 
         -- Where it is told what is kept, the version is known. Else nothing is said of what the search finds.
-        module _ (held : IsTrue old.versions.told → (versions : List Version) × Way versions × (length versions ≤ most_versions)) (glance : Glance)
-            (knows : IsTrue old.versions.told → (version : Coded) × (glance ≡ glance_at scan.sight version) × KnowsWay Way bytes version) where
+        module _ (held : IsTrue old.versions.told → (versions : List Version) × Way versions × (length versions ≤ most_versions))
+            (read : IsTrue old.versions.told → (versions : List Version) → Way versions
+            → (version : Coded) × IsCodeOf schema part bytes version × KnowsWay Way bytes version) (glance : Glance)
+            (tells : OfRecord schema part bytes (λ version. glance ≡ glance_at scan.sight version)) where
+          knows : IsTrue old.versions.told → (version : Coded) × (glance ≡ glance_at scan.sight version) × KnowsWay Way bytes version
+          knows told =
+              let h = held told in
+              let r = read told h.0 h.1 in
+              (r.0, tells r.0 r.1.numbers r.1.record_is, r.2)
+
           holds_after : (seen : Glance) → glance ≡ seen → PhaseHolds actor schema scan old (phase_after entry seen)
           holds_after Deleted same = at_some entry (at_old is) at
           holds_after (Row row) same = at
@@ -262,12 +268,7 @@ module _ {actor : ℕ} {schema : Schema} {state : WorldState} {scan : Scan} {ent
       → Goes is state scan.rows (phase_after entry glance)
   look_goes glance tells =
       glance_goes is entry (unchanged_itself state) is.phase.0 (IsRecordWith schema (primary_part schema entry) state.versions.kept_at (Some bytes)) bytes
-      is.phase.1 glance
-      (λ told.
-      let h = is.phase.1 told in
-      let code = code_recorded schema (primary_part schema entry) bytes state.versions.kept_at h.0 h.1 in
-      (code.0, tells code.0 code.1.numbers code.1.record_is, λ versions way. from_record versions way code.1))
-      (λ versions_at was. was)
+      is.phase.1 (λ told. from_record schema (primary_part schema entry) bytes state.versions.kept_at) glance tells (λ versions_at was. was)
       (λ versions_at pairs n was to_go.
       record { versions = was.1; way = was.2; rank = 3; long = 0; n_is = to_go; ranked = omega arith; shorter = inl (omega arith) })
 
@@ -281,22 +282,17 @@ module _ {actor : ℕ} {schema : Schema} {old : WorldState} {scan : Scan} {entry
   module _ {new : WorldState} (unchanged : IsUnchanged old new) where
     module _ (bytes : List ℕ) (leads : pointer ≢ 0)
         (are : IsTrue old.versions.told → option_map (λ (kept : Kept). kept.bytes) (old.versions.kept_at pointer) ≡ Some bytes) where
-      led : IsTrue old.versions.told → (version : Coded) × IsCodeOf schema (primary_part schema entry) bytes version
-          × ((versions : List Version) → LeadTo schema (primary_part schema entry) old.versions.kept_at pointer versions
-          → IsOnWay schema (primary_part schema entry) bytes old.versions.kept_at version versions)
-      led told =
-          let h = is.phase.1 told in
-          let one = from_pointer schema (primary_part schema entry) bytes old.versions.kept_at pointer leads (are told) in
-          (one.0, (one.1 h.0 h.1).code_is, one.1)
-
       pub walk_reads : OfRecord schema (primary_part schema entry) bytes (λ version. ⊥) → IsTrue old.versions.told → ⊥
-      walk_reads none told = let l = led told in none l.0 l.1.numbers l.1.record_is
+      walk_reads none told =
+          let h = is.phase.1 told in
+          let r = from_pointer schema (primary_part schema entry) bytes old.versions.kept_at pointer leads (are told) h.0 h.1 in
+          none r.0 r.1.numbers r.1.record_is
 
       pub walk_goes : (glance : Glance) → OfRecord schema (primary_part schema entry) bytes (λ version. glance ≡ glance_at scan.sight version)
           → Goes is new scan.rows (phase_after entry glance)
       walk_goes glance tells =
-          glance_goes is entry unchanged is.phase.0 (LeadTo schema (primary_part schema entry) old.versions.kept_at pointer) bytes is.phase.1 glance
-          (λ told. let l = led told in (l.0, tells l.0 l.1.numbers l.1.record_is, l.2)) (λ versions_at was. was)
+          glance_goes is entry unchanged is.phase.0 (LeadTo schema (primary_part schema entry) old.versions.kept_at pointer) bytes is.phase.1
+          (λ told. from_pointer schema (primary_part schema entry) bytes old.versions.kept_at pointer leads (are told)) glance tells (λ versions_at was. was)
           (λ versions_at pairs n was to_go.
           record {
             versions = to_go.0;
