@@ -4,14 +4,14 @@ use Rattle.std.proofs.Common.{Option, None, Some, arith, length-append}
 use Rattle.std.specs.{Prelude.IfSome, List.AllByRecursion}
 use Rattle.std.proofs.{lemmas.Bool.cond_both, lemmas.Bool.Decides.nat_tests, lemmas.List.drop_at, lemmas.List.Elements.recursion_from_All}
 use Rattle.inno_types.specs.{declared.value.Value.Value, declared.value.Column.Column, declared.value.Key.Key, declared.value.Kind.Kind}
-use Rattle.inno_types.specs.{declared.value.Schema.Schema, declared.value.Value.TheVariants.Null}
+use Rattle.inno_types.specs.{declared.value.Schema.Schema}
 use Rattle.key_codec.specs.Keys.{HasKey, IsOfKindOrNull, key_code, key_width, entry_front, entry_code}
-use Rattle.row_codec.specs.Rows.{FitsColumn, IsRowOf}
+use Rattle.row_codec.specs.Rows.{IsRowOf}
 use Rattle.key_codec.proofs.Lengths.{length-key_code}
 use Rattle.entries.specs.Pairs.{Pair}
 use Rattle.row_versions.specs.{declared.kept.Kept.Kept, declared.version.Version.Version, Chains.first_seen}
 use Rattle.law_stored_rows.specs.{Entries.value_in, Records.IsClustered, Records.IsRowAt, Records.IsSomeKey}
-use Rattle.law_stored_rows.proofs.{Values.one_key, Found.rows_at_home}
+use Rattle.law_stored_rows.proofs.{Values.one_key, Found.rows_at_home, Coding.value_in-kind}
 use Rattle.sql_plan.specs.Visits.{kind_if, kind_at, primary_key, index_key}
 use Rattle.row_search.specs.Ranges.{primary_part}
 
@@ -108,13 +108,6 @@ one_place schema which value other row also le h k same =
 
 -- ---- values in columns
 
-fits_or_null : (column : Column) (value : Value) → FitsColumn column value → IsOfKindOrNull column.kind value
-fits_or_null column Null fits = tt
-fits_or_null column value fits = fits
-
 pub fits_in : (columns : List Column) (row : List Value) (at : ℕ) (column : Column) → IsRowOf columns row → slice_get columns at ≡ Some column
     → IsOfKindOrNull column.kind (value_in at row)
-fits_in [] row at column fits is = cc
-fits_in (first ∷ columns) [] at column fits is = absurd fits
-fits_in (first ∷ columns) (value ∷ row) zero column fits is = let same : first ≡ column = cc in rw (sym same) (fits_or_null first value fits.0)
-fits_in (first ∷ columns) (value ∷ row) (suc at) column fits is = fits_in columns row at column fits.1 is
+fits_in = value_in-kind
