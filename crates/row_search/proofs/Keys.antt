@@ -1,8 +1,9 @@
 -- Keys of rows in the indexes of their table.
-use Rattle.std.proofs.Common.{◌≡◌, ◌∙◌, sym, ap, subst, ℕ, zero, suc, ◌+◌, ◌-◌, ◌==◌, ◌≤◌, ◌<◌, Bool, false, List, [], ◌∷◌, ◌++◌, length, slice_get, refl}
+use Rattle.std.proofs.Common.{◌≡◌, ◌∙◌, sym, ap, subst, ⊎_elim, ℕ, zero, suc, ◌+◌, ◌-◌, ◌==◌, ◌≤◌, Bool, false, List, [], ◌∷◌, ◌++◌, length, slice_get, refl}
 use Rattle.std.proofs.Common.{Option, None, Some, arith, length-append}
 use Rattle.std.specs.{Prelude.IfSome, List.AllByRecursion}
 use Rattle.std.proofs.{lemmas.Bool.cond_both, lemmas.Bool.Decides.nat_tests, lemmas.List.drop_at, lemmas.List.Elements.recursion_from_All}
+use Rattle.std.proofs.lemmas.Option.{slice_get_cases}
 use Rattle.inno_types.specs.{declared.value.Value.Value, declared.value.Column.Column, declared.value.Key.Key, declared.value.Kind.Kind}
 use Rattle.inno_types.specs.{declared.value.Schema.Schema}
 use Rattle.key_codec.specs.Keys.{HasKey, IsOfKindOrNull, key_code, key_width, entry_front, entry_code}
@@ -60,13 +61,9 @@ pub whole_key : (schema : Schema) (primary : Column) (key : List ℕ) → slice_
 whole_key schema primary key is some =
     end_of schema [] key (ap length some.2 ∙ (length-key_code primary.kind some.0 some.1.0 ∙ ap key_width (sym (ap kind_if is))))
 
-is_there : (keys : List Key) (n : ℕ) → n < length keys → (key : Key) × (slice_get keys n ≡ Some key)
-is_there [] n lt = absurd (omega arith)
-is_there (key ∷ keys) zero lt = (key, refl)
-is_there (key ∷ keys) (suc n) lt = is_there keys n (omega arith)
-
 pub key_there_at : (schema : Schema) (at : ℕ) → suc at ≤ length schema.keys → (key : Key) × (slice_get schema.keys at ≡ Some key)
-key_there_at schema at le = is_there schema.keys at (omega arith)
+key_there_at schema at le =
+    ⊎_elim (λ some. (some.0, some.2)) (λ none. absurd (omega (arith, none.0))) (slice_get_cases schema.keys at).1
 
 -- the key of a row in the index of its table's key at this place
 entry_is : (schema : Schema) (at : ℕ) (row : List Value) (key : Key) → slice_get schema.keys at ≡ Some key

@@ -1,8 +1,9 @@
 -- Of two searches that see the same rows, those found that meet a condition are the same, where both ranges hold them.
-use Rattle.std.proofs.Common.{◌≡◌, ◌∙◌, sym, ap, subst, refl, ℕ, ◌+◌, ◌≤◌, Bool, true, false, cond, ◌&&◌, T, List, [], ◌∷◌, map, Option, None, Some, arith}
+use Rattle.std.proofs.Common.{◌≡◌, ◌∙◌, sym, ap, subst, refl, ⊎_elim, ℕ, ◌+◌, ◌≤◌, Bool, true, false, cond, ◌&&◌, T, List, [], ◌∷◌, map, Option, None, Some}
+use Rattle.std.proofs.Common.{arith}
 use Rattle.std.specs.{Prelude.filter, Prelude.MatchOption, List.AllByRecursion, Ordering.is_lt, Ordering.is_eq, FinMap.find, FinMap.is_sorted}
 use Rattle.std.specs.{FinMap.Entries.below_all, FinMap.Entries.same_entries, declared.cmp.Ordering.TheVariants.Less}
-use Rattle.std.proofs.lemmas.Bool.{cond_both}
+use Rattle.std.proofs.lemmas.Bool.{cond_both, cases_Bool}
 use Rattle.inno_types.specs.{declared.value.Value.Value, declared.value.Schema.Schema, declared.stmt.Filter.Filter, Ranges.is_within}
 use Rattle.inno_db.specs.{Database.key_of, Database.value_cmp, Conditions.matches, Conditions.truth_of, Conditions.is_true, declared.truth.Truth.Truth}
 use Rattle.inno_db.specs.{declared.truth.Truth.TheVariants.True}
@@ -125,14 +126,13 @@ module _ (schema : Schema) (row_at : Value → Option (List Value)) where
     twice_kept : (m p q : List Value → Bool) (o : Option (List Value)) → ((row : List Value) → o ≡ Some row → m row ≡ true → p row ≡ q row)
         → kept_if m (kept_if p o) ≡ kept_if m (kept_if q o)
     twice_kept m p q None h = refl
-    twice_kept m p q (Some row) h = go (m row) refl where
-      none : (b : Bool) → m row ≡ false → kept_if m (cond b (Some row) None) ≡ None
-      none true fails = ap (λ c. cond c (Some row) None) fails
-      none false fails = refl
-
-      go : (b : Bool) → m row ≡ b → kept_if m (cond (p row) (Some row) None) ≡ kept_if m (cond (q row) (Some row) None)
-      go true passes = ap (λ c. kept_if m (cond c (Some row) None)) (h row refl passes)
-      go false fails = none (p row) fails ∙ sym (none (q row) fails)
+    twice_kept m p q (Some row) h =
+        ⊎_elim (λ passes. ap (λ c. kept_if m (cond c (Some row) None)) (h row refl passes)) (λ fails. none (p row) fails ∙ sym (none (q row) fails))
+        (cases_Bool (m row))
+      where
+        none : (b : Bool) → m row ≡ false → kept_if m (cond b (Some row) None) ≡ None
+        none true fails = ap (λ c. cond c (Some row) None) fails
+        none false fails = refl
 
     pub same_matching : (m p q : List Value → Bool) (which other : ℕ) (xs ys : List FoundRow) → AreFound schema which row_at p xs → RiseByKey xs
         → AreFound schema other row_at q ys → RiseByKey ys

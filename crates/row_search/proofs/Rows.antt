@@ -3,7 +3,7 @@ use Rattle.std.proofs.Common.{◌≡◌, ◌≢◌, ◌∙◌, sym, ap, subst, r
 use Rattle.std.proofs.Common.{Option, None, Some, arith, slice_index_or}
 use Rattle.std.proofs.{lemmas.Bool.cases_Bool, lemmas.List.Elements.recursion_from_All, lemmas.List.Elements.All-from_recursion}
 use Rattle.std.proofs.{lemmas.List.Sorted.All-permutation, lemmas.List.Sorted.sum_by-IsPermutation, lemmas.List.Sums.sum_by-cons}
-use Rattle.std.proofs.{lemmas.List.Sums.sum_by_push}
+use Rattle.std.proofs.{lemmas.List.Sums.sum_by_push, lemmas.Bool.cond_both}
 use Rattle.std.specs.{List.AllByRecursion, List.Sorted.IsPermutation, List.Sorted.IsSortedBy, Ordering.is_lt, declared.cmp.Ordering.TheVariants.Less}
 use Rattle.inno_types.specs.{declared.value.Value.Value, declared.value.Schema.Schema}
 use Rattle.inno_db.specs.Database.{key_of}
@@ -29,10 +29,7 @@ all_with P Q R f [] p q = p
 all_with P Q R f (x ∷ xs) p q = (f x p.0 q.0, all_with P Q R f xs p.1 q.1)
 
 pub once_passes : (p : List Value → Bool) (row : List Value) → 1 ≤ once_if p (Some row) → p row ≡ true
-once_passes p row some = go (p row) some where
-  go : (b : Bool) → 1 ≤ cond b 1 0 → b ≡ true
-  go true some = refl
-  go false some = absurd (omega arith)
+once_passes p row some = cond_both (p row) 1 0 (λ n. 1 ≤ n → p row ≡ true) (λ passes one. passes) (λ fails one. absurd (omega arith)) some
 
 module _ (schema : Schema) where
   pub counted : (value : Value) (found : FoundRow) (rows : List FoundRow)
@@ -170,10 +167,7 @@ module _ (schema : Schema) where
 
       at_most_once : (p : List Value → Bool) (found : Option (List Value)) → once_if p found ≤ 1
       at_most_once p None = omega arith
-      at_most_once p (Some row) = go (p row) where
-        go : (b : Bool) → cond b 1 0 ≤ 1
-        go true = omega arith
-        go false = omega arith
+      at_most_once p (Some row) = cond_both (p row) 1 0 (λ n. n ≤ 1) (λ passes. omega arith) (λ fails. omega arith)
 
       pub rises : {which : ℕ} (p : List Value → Bool) (rows : List FoundRow) → AreFound schema which row_at p rows
           → IsSortedBy (λ (a b : FoundRow). is_lt (key_cmp a.key b.key)) rows → RiseByKey rows
