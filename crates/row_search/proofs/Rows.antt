@@ -24,10 +24,6 @@ pub all_each : {X : Type 0} (P Q : X → Type 0) → ((x : X) → P x → Q x) �
 all_each P Q f [] all = all
 all_each P Q f (x ∷ xs) all = (f x all.0, all_each P Q f xs all.1)
 
-all_with : {X : Type 0} (P Q R : X → Type 0) → ((x : X) → P x → Q x → R x) → (xs : List X) → AllByRecursion P xs → AllByRecursion Q xs → AllByRecursion R xs
-all_with P Q R f [] p q = p
-all_with P Q R f (x ∷ xs) p q = (f x p.0 q.0, all_with P Q R f xs p.1 q.1)
-
 pub once_passes : (p : List Value → Bool) (row : List Value) → 1 ≤ once_if p (Some row) → p row ≡ true
 once_passes p row some = cond_both (p row) 1 0 (λ n. 1 ≤ n → p row ≡ true) (λ passes one. passes) (λ fails one. absurd (omega arith)) some
 
@@ -56,22 +52,19 @@ module _ (schema : Schema) where
 
     -- ---- each row that was found passes
 
-    each_counts : (all rows : List FoundRow) → ((value : Value) → times_found schema value rows ≤ times_found schema value all)
-        → AllByRecursion (λ found. 1 ≤ times_found schema (key_of schema found.row) all) rows
-    each_counts all [] within = tt
-    each_counts all (found ∷ rows) within =
-        let value = key_of schema found.row in (
-          omega (arith, once_more value found rows refl, within value),
-          each_counts all rows (λ other. omega (arith, counted other found rows, within other)),
-        )
-
     pub found_pass : {which : ℕ} (p : List Value → Bool) (rows : List FoundRow) → AreFound schema which row_at p rows
         → AllByRecursion (λ found. (p found.row ≡ true) × IsSeenRow schema row_at found) rows
-    found_pass p rows is =
-        all_with (λ (f : FoundRow). 1 ≤ times_found schema (key_of schema f.row) rows) (IsSeenRow schema row_at)
-        (λ (f : FoundRow). (p f.row ≡ true) × IsSeenRow schema row_at f)
-        (λ f counts seen. (once_passes p f.row (subst (λ o. 1 ≤ once_if p o) seen.seen (subst (λ n. 1 ≤ n) (is.once (key_of schema f.row)) counts)), seen))
-        rows (each_counts rows rows (λ value. omega arith)) is.seen
+    found_pass p rows is = passes_each rows is.seen (λ value. omega arith) where
+      passes_each : (some : List FoundRow) → AllByRecursion (IsSeenRow schema row_at) some
+          → ((value : Value) → times_found schema value some ≤ times_found schema value rows)
+          → AllByRecursion (λ found. (p found.row ≡ true) × IsSeenRow schema row_at found) some
+      passes_each [] seen within = tt
+      passes_each (found ∷ some) seen within =
+          let value = key_of schema found.row in
+          let one : 1 ≤ times_found schema value rows = omega (arith, once_more value found some refl, within value) in (
+            (once_passes p found.row (subst (λ o. 1 ≤ once_if p o) seen.0.seen (subst (λ n. 1 ≤ n) (is.once value) one)), seen.0),
+            passes_each some seen.1 (λ other. omega (arith, counted other found some, within other)),
+          )
 
     -- ---- one more is found
 
