@@ -293,16 +293,8 @@ module _ {actor : ℕ} {schema : Schema} {old : WorldState} {scan : Scan} {entry
       walk_goes glance tells =
           glance_goes is entry unchanged is.phase.0 (LeadTo schema (primary_part schema entry) old.versions.kept_at pointer) bytes is.phase.1
           (λ told. from_pointer schema (primary_part schema entry) bytes old.versions.kept_at pointer leads (are told)) glance tells (λ versions_at was. was)
-          (λ versions_at pairs n was to_go.
-          record {
-            versions = to_go.0;
-            way = to_go.1;
-            rank = 2;
-            long = length to_go.0;
-            n_is = to_go.2;
-            ranked = omega arith;
-            shorter = inr (refl, omega arith);
-          })
+          (λ versions_at pairs n was left.
+          record { versions = left.0; way = left.1; rank = 2; long = length left.0; n_is = left.2; ranked = omega arith; shorter = inr (refl, omega arith) })
 
     pub walk_ends : pointer ≡ 0 → Goes is new scan.rows Follow
     walk_ends none =

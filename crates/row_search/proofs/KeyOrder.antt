@@ -103,8 +103,7 @@ up_to_below (Without bound) key other le up =
 
 one_if : (b c : Bool) → (b ≡ true → c ≡ true) → cond b 1 0 ≤ cond c 1 0
 one_if true c h = rw (h refl) (omega arith)
-one_if false true h = omega arith
-one_if false false h = omega arith
+one_if false c h = omega arith
 
 abbrev count : (List ℕ → Bool) → List Pair → ℕ
 count test pairs = count_by (λ (pair : Pair). test pair.0) pairs
