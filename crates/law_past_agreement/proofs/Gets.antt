@@ -1,6 +1,6 @@
 -- The row of a place after changes is the one that they leave there.
 use Rattle.std.proofs.Common.{◌≡◌, ℕ, ◌<◌, cond, Some, None, List, [], ◌∷◌, ◌++◌, length, refl, sym, ap, ◌∙◌}
-use Rattle.std.proofs.lemmas.List.{append-nil}
+use Rattle.std.proofs.lemmas.List.{append-nil, append_assoc}
 use Rattle.std.specs.List.{AllByRecursion}
 use Rattle.std.specs.Ordering.{eq_by_cmp}
 use Rattle.std.specs.FinMap.{get, get-insert, get-remove}
@@ -11,29 +11,22 @@ use Rattle.inno_model.specs.{declared.event.Event.Event, Past.changed, Past.own,
 use Rattle.row_versions.specs.{declared.place.Place.Place, Chains.in_model, Chains.is_same_place, Laws.same_place_equiv}
 use Rattle.law_past_agreement.specs.{Order.created, Order.IsTabled, Order.IsOrdered, Rows.is_at, Rows.row_at, Rows.seen, Rows.row_seen}
 use Rattle.law_past_agreement.specs.{DatabaseTables.with_all_tables}
-use Rattle.law_past_agreement.proofs.Tables.{key_stays, own_tabled, committed_tabled}
-
-grouped : {X : Type 0} (xs ys zs : List X) → (xs ++ ys) ++ zs ≡ xs ++ (ys ++ zs)
-grouped [] ys zs = refl
-grouped (x ∷ xs) ys zs = ap (λ l. x ∷ l) (grouped xs ys zs)
-
--- changes leave the tables, and add some
-tables_after : (db : Database) (changes : List Change) → (made : List Schema) × ((changed db changes).schemas ≡ db.schemas ++ made)
-tables_after db [] = ([], sym (append-nil db.schemas))
-tables_after db (Create schema ∷ changes) =
-    let before = tables_after db changes in (
-      before.0 ++ schema ∷ [],
-      ap (λ (l : List Schema). l ++ schema ∷ []) before.1 ∙ grouped db.schemas before.0
-          (schema ∷ []),
-    )
-tables_after db (Put table row ∷ changes) = tables_after db changes
-tables_after db (Remove table key ∷ changes) = tables_after db changes
+use Rattle.law_past_agreement.proofs.Tables.{key_stays, all_joined, own_tabled, committed_tabled}
 
 module _ (db : Database) where
+  -- changes leave the tables, and add some
+  tables_after : (changes : List Change) → (made : List Schema) × ((changed db changes).schemas ≡ db.schemas ++ made)
+  tables_after [] = ([], sym (append-nil db.schemas))
+  tables_after (Create schema ∷ changes) =
+      let before = tables_after changes in
+      (before.0 ++ schema ∷ [], ap (λ (l : List Schema). l ++ schema ∷ []) before.1 ∙ append_assoc db.schemas before.0 (schema ∷ []))
+  tables_after (Put table row ∷ changes) = tables_after changes
+  tables_after (Remove table key ∷ changes) = tables_after changes
+
   key_after : (changes : List Change) (table : ℕ) (row : List Value) → table < length db.schemas
       → key_in (changed db changes).schemas table row ≡ key_in db.schemas table row
   key_after changes table row lt =
-      let made = tables_after db changes in ap (λ (l : List Schema). key_in l table row) made.1 ∙ key_stays db.schemas made.0 table row lt
+      let made = tables_after changes in ap (λ (l : List Schema). key_in l table row) made.1 ∙ key_stays db.schemas made.0 table row lt
 
   pub get_is : (changes : List Change) → AllByRecursion (IsTabled (length db.schemas)) changes → (p : Place)
       → get (changed db changes).rows (in_model p) ≡ row_at (get db.rows (in_model p)) (is_at db.schemas p) changes
@@ -51,10 +44,6 @@ module _ (db : Database) where
       get-remove place_cmp_total (changed db changes).rows (table, key) (in_model p)
       ∙ (ap (λ b. cond b None (get (changed db changes).rows (in_model p))) (same_place_equiv.symm p at)
       ∙ ap (cond (is_same_place at p) None) (get_is changes all.1 p))
-
-all_joined : (P : Change → Type 0) (xs ys : List Change) → AllByRecursion P xs → AllByRecursion P ys → AllByRecursion P (xs ++ ys)
-all_joined P [] ys all other = other
-all_joined P (x ∷ xs) ys all other = (all.0, all_joined P xs ys all.1 other)
 
 pub seen_is : (h : List Event) (s n : ℕ) (place : Place) → IsOrdered h
     → get (changed (with_all_tables h) (seen h s n)).rows (in_model place) ≡ row_seen h s n place

@@ -1,6 +1,5 @@
 pub mod Order
 pub mod Rows
-pub mod Changes
 pub mod Slots
 pub mod Ids
 pub mod Agreement
