@@ -1,8 +1,7 @@
 -- What becomes of the agreement of rows, transactions and writers with the past, and what readers find.
-use Rattle.std.proofs.Common.{◌≡◌, ◌≢◌, ℕ, ◌+◌, ◌<◌, true, false, cond, Option, Some, None, List, [], ◌∷◌, ◌++◌, ◌==◌, length}
-use Rattle.std.proofs.Common.{refl, sym, ap, subst, ◌∙◌, inl, inr, arith}
+use Rattle.std.proofs.Common.{◌≡◌, ◌≢◌, ℕ, ◌+◌, true, false, cond, Option, None, List, [], ◌∷◌, ◌++◌, ◌==◌, length}
+use Rattle.std.proofs.Common.{refl, sym, ap, ◌∙◌, inl, inr, arith}
 use Rattle.std.proofs.lemmas.Bool.Decides.{nat_tests, eqb_tells}
-use Rattle.std.proofs.lemmas.Bool.{false≢true}
 use Rattle.std.specs.List.{AllByRecursion, list_any}
 use Rattle.std.specs.FinMap.{get}
 use Rattle.inno_types.specs.{declared.value.Schema.Schema}
@@ -14,7 +13,7 @@ use Rattle.read_view.specs.Sight.{Sight}
 use Rattle.txn_table.specs.Txns.{ids_of as active_of, with_id as with_txn_id}
 use Rattle.row_versions.specs.{declared.place.Place.Place, declared.version.Version.Version}
 use Rattle.row_versions.specs.Chains.{Chains, in_model, versions_at, first_seen, newest, sees, IsFirstFrom, IsNoneFrom, IsNext, IsLast}
-use Rattle.law_past_agreement.specs.{Slots.id_for, Slots.writer_without, Ids.given, Ids.id_of, Ids.is_among, Ids.is_settled, Ids.opens, Ids.txns_of}
+use Rattle.law_past_agreement.specs.{Slots.id_for, Slots.writer_without, Ids.given, Ids.id_of, Ids.is_settled, Ids.opens, Ids.txns_of}
 use Rattle.law_past_agreement.specs.{Order.created, Order.IsOrdered, Order.IsTabled}
 use Rattle.law_past_agreement.specs.Rows.{is_at, row_at, row_opened, seen, row_seen, IsUnseen, IsFirstSeen, IsNoneSeen, IsNextSeen, IsLastSeen, IsNewestSeen}
 use Rattle.law_past_agreement.specs.Agreement.{IsSettled, IsOpenedWith, IsViewOf, versions_of, AreVersions, WriterAgrees}
@@ -27,19 +26,12 @@ use Rattle.law_past_agreement.proofs.Rows as versions
 -- who had no changes has none
 pub fewer : (h g : List Event) → ((s : ℕ) → own s h ≡ [] → own s g ≡ []) → ((s : ℕ) → IsOpen s h → IsOpen s g) → (writer : Option ℕ) → WriterAgrees h writer
     → WriterAgrees g writer
-fewer h g f o None agrees = λ s. f s (agrees s)
-fewer h g f o (Some w) agrees = (o w agrees.0, λ s differ. f s (agrees.1 s differ))
+fewer h g f o writer agrees = grind (arith, f, o, agrees)
 
 -- the session that lets go has no changes left
 pub let_go : (h g : List Event) (t : ℕ) → ((s : ℕ) → own s h ≡ [] → own s g ≡ []) → ((s : ℕ) → s ≢ t → IsOpen s h → IsOpen s g) → own t g ≡ []
     → (writer : Option ℕ) → WriterAgrees h writer → WriterAgrees g (writer_without writer t)
-let_go h g t f o none None agrees = λ s. f s (agrees s)
-let_go h g t f o none (Some w) agrees =
-    elim (eqb_tells w t) [
-      | inl same ↦ rw same.0 (λ s. elim (eqb_tells s t)
-          [ inl me ↦ subst (λ u. own u g ≡ []) (sym me.1) none | inr differ ↦ f s (agrees.1 s (λ is. differ.1 (is ∙ same.1))) ])
-      | inr differ ↦ rw differ.0 (o w differ.1 agrees.0, λ s other. f s (agrees.1 s other))
-    ]
+let_go h g t f o none writer agrees = grind (arith, nat_tests, f, o, none, agrees)
 
 -- ---- transactions
 
@@ -51,7 +43,7 @@ id_changed s change h = grind (arith, nat_tests)
 pub txns_changed : (s : ℕ) (change : Change) (h : List Event)
     → cond (id_of h s == 0) (record (txns_of h) { open_txns = with_txn_id (txn s h) (given h + 1) (opens h); next = given h + 1 + 1 }) (txns_of h)
     ≡ txns_of (Changed s change ∷ h)
-txns_changed s change h = elim (eqb_tells (id_of h s) 0) [ inl none ↦ rw none.0 refl | inr some ↦ rw some.0 refl ]
+txns_changed s change h = grind (arith, nat_tests)
 
 -- what is taken for a view now, whoever asks it
 pub view_now : (h : List Event) → IsOrdered h → (s : ℕ)
@@ -67,17 +59,9 @@ view_now h ordered s =
           let some = standing_some (View s ∷ h) id standing in
           elim standing [
             | inl c ↦
-                let among = is_among_all h c.0 id c.1 in
-                let inactive : list_any (λ a. a == id) (active_of (opens h)) ≡ false =
-                active_none h ordered id (λ u open-u same. absurd
-                (false≢true (sym (ids.open_not_among u c.0 open-u) ∙ (ap (is_among h c.0) same ∙ c.1)))) in
-                grind (arith, nat_tests, some, among, ids.among_below c.0 id c.1, inactive)
-            | inr o ↦
-                let active : list_any (λ a. a == id) (active_of (opens h)) ≡ true =
-                subst (λ i. list_any (λ a. a == i) (active_of (opens h)) ≡ true) o.2
-                (active_open h ordered o.0 o.1 (subst (λ i. 0 < i) (sym o.2) o.3)) in
-                let apart : is_among h (commits h) id ≡ false = subst (λ i. is_among h (commits h) i ≡ false) o.2 (ids.open_not_among o.0 (commits h) o.1) in
-                grind (arith, nat_tests, some, active, apart)
+                let others : (u : ℕ) → IsOpen u h → id_of h u ≢ id = λ u open-u same. grind (arith, same, c.1, ids.open_not_among u c.0 open-u) in
+                grind (arith, nat_tests, some, is_among_all h c.0 id c.1, ids.among_below c.0 id c.1, active_none h ordered id others)
+            | inr o ↦ grind (arith, nat_tests, some, o.2, o.3, active_open h ordered o.0 o.1, ids.open_not_among o.0 (commits h) o.1)
           ];
     }
 

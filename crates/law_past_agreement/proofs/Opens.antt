@@ -127,13 +127,14 @@ module _ (e : Event) (h : List Event) (ordered : IsOrdered (e ∷ h)) (opened : 
 begun : (h : List Event) (t m : ℕ) (l : _) → IsOrdered (Begin t m l ∷ h) → AreOpens h → AreOpens (Begin t m l ∷ h)
 begun h t m l ordered opened =
     let new : Entry = (m, record { session = t; level = l; id = 0 }) in
-    are_opens (Begin t m l ∷ h) (ids_of (Begin t m l ∷ h) ordered) (λ s is-open. elim (eqb_tells t s) [
-      | inl same ↦ let last = there_last (opens h) new in grind (arith, nat_tests, last, same.0)
-      | inr differ ↦
-          let before : IsOpen s h = grind (arith, nat_tests, is-open, differ.0) in
-          let front = there_front (txn s h) (opens h) (new ∷ []) (opened.there s before).0 in
-          grind (arith, nat_tests, front, differ.0)
-    ])
+    are_opens (Begin t m l ∷ h) (ids_of (Begin t m l ∷ h) ordered) (λ s is-open. grind (
+      arith,
+      nat_tests,
+      there_last (opens h) new,
+      there_front (txn s h) (opens h) (new ∷ []),
+      opened.there s,
+      is-open,
+    ))
     (all_front (IsEntry (Begin t m l ∷ h)) (opens h) new (all_weaker (IsEntry h) (IsEntry (Begin t m l ∷ h)) (λ x is.
     let other : t ≢ x.1.session = λ same. cc (subst (λ s. level s h ≡ None) same ordered.0.1, is.is-open) in
     others_entry (Begin t m l) h x (grind (arith, nat_tests, other)) is) (opens h) opened.back)

@@ -1,5 +1,5 @@
 -- What one more entry does to the versions of a place.
-use Rattle.std.proofs.Common.{◌≡◌, ◌≢◌, ℕ, ◌+◌, ◌-◌, ◌<◌, Bool, true, false, cond, eqb, nat_lt, Option, Some, None, List, [], ◌∷◌, ◌++◌, drop, length}
+use Rattle.std.proofs.Common.{◌≡◌, ◌≢◌, ℕ, ◌+◌, ◌<◌, Bool, true, false, cond, nat_lt, Option, Some, None, List, [], ◌∷◌, ◌++◌, length}
 use Rattle.std.proofs.Common.{is_some, ◌==◌, ◌||◌, refl, sym, ap, subst, ◌∙◌, ◌⊎◌, inl, inr, arith}
 use Rattle.std.proofs.lemmas.Bool.Decides.{nat_tests, eqb_tells}
 use Rattle.std.proofs.lemmas.Bool.{cases_lt, cases_Bool, false≢true}
@@ -8,12 +8,12 @@ use Rattle.inno_types.specs.declared.value.Value.{Value}
 use Rattle.inno_db.specs.declared.change.Change.{Change}
 use Rattle.inno_model.specs.{declared.event.Event.Event, declared.event.Event.TheVariants.Changed, declared.event.Event.TheVariants.Undone}
 use Rattle.inno_model.specs.{declared.event.Event.TheVariants.Committed}
-use Rattle.inno_model.specs.Past.{level, own, oldest, commits, committed, IsOpen}
+use Rattle.inno_model.specs.Past.{level, own, commits, committed, IsOpen}
 use Rattle.read_view.specs.Sight.{Sight, is_seen}
 use Rattle.row_versions.specs.{declared.version.Version.Version, Chains.sees, Chains.first_seen, Chains.newest, Chains.older}
 use Rattle.law_past_agreement.specs.{Ids.id_of, Ids.is_among, Ids.is_settled, Rows.row_of, Rows.row_at, Rows.seen}
 use Rattle.law_past_agreement.specs.Agreement.{IsSettled, IsViewOf, versions_of, AreVersionsBy, AreVersions}
-use Rattle.law_past_agreement.proofs.{Ids.AreIds, Opens.all_weaker, Standing.settled_more, Standing.needed_before, Standing.is_among_all, Standing.other_id}
+use Rattle.law_past_agreement.proofs.{Ids.AreIds, Opens.all_weaker, Standing.settled_more, Standing.needed_before, Standing.is_among_all}
 
 -- A reader who doesn't see the transaction sees what is behind.
 pub seen_past : (p : ℕ → Bool) (id : ℕ) (at : Change → Bool) (changes : List Change) (behind : List Version) → p id ≡ false
@@ -40,15 +40,11 @@ settled_on e h vs all =
 
 -- what is settled is among all commits, or older
 settled_now : (h : List Event) (id : ℕ) → IsSettled h id → is_settled h (commits h) id ≡ true
-settled_now h id (inl zero-is) = grind (arith, nat_tests, zero-is)
-settled_now h id (inr c) = grind (arith, nat_tests, is_among_all h c.0 id c.1)
+settled_now h id settled = grind (arith, nat_tests, is_among_all h, settled)
 
 pub own_undone : (t keep : ℕ) (change : Change) (before : List Change) (h : List Event) → own t h ≡ change ∷ before → length (own t h) ≡ keep + 1
     → own t (Undone t keep ∷ h) ≡ before
-own_undone t keep change before h is count =
-    let cut : own t (Undone t keep ∷ h) ≡ oldest keep (own t h) = grind (arith, nat_tests) in
-    let one : length (own t h) - keep ≡ 1 = omega (arith, count) in
-    cut ∙ (ap (λ n. drop n (own t h)) one ∙ ap (drop 1) is)
+own_undone t keep change before h is count = grind (arith, nat_tests, is, count)
 
 -- Of a place: what stood there at the opening, and which changes are of it.
 module _ (opened : Option (List Value)) (at : Change → Bool) where
@@ -125,26 +121,12 @@ module _ (opened : Option (List Value)) (at : Change → Bool) where
   -- a transaction without an id has no changes, so its versions do not depend on it
   own_versions : (t : ℕ) (change : Change) (h : List Event) → AreIds h
       → versions_of (id_of (Changed t change ∷ h) t) at (own t h) ≡ versions_of (id_of h t) at (own t h)
-  own_versions t change h ids =
-      elim (eqb_tells (id_of h t) 0) [
-        | inl none ↦ rw (ids.no_id t none.1) refl
-        | inr some ↦ let same : id_of (Changed t change ∷ h) t ≡ id_of h t = grind (arith, nat_tests, some.0) in rw same refl
-      ]
+  own_versions t change h ids = grind (arith, nat_tests, ids.no_id t)
 
   -- the versions of a place at which nothing is changed
   spared : (t : ℕ) (change : Change) (h : List Event) → AreIds h → at change ≡ false → (s : ℕ)
       → versions_of (id_of (Changed t change ∷ h) s) at (own s (Changed t change ∷ h)) ≡ versions_of (id_of h s) at (own s h)
-  spared t change h ids differ s =
-      elim (eqb_tells t s) [
-        | inl same ↦
-            subst (λ u. versions_of (id_of (Changed t change ∷ h) u) at (own u (Changed t change ∷ h)) ≡ versions_of (id_of h u) at (own u h)) same.1
-            (let is : own t (Changed t change ∷ h) ≡ change ∷ own t h = grind (arith, nat_tests) in
-            let skip : versions_of (id_of (Changed t change ∷ h) t) at (change ∷ own t h) ≡ versions_of (id_of (Changed t change ∷ h) t) at (own t h) =
-            grind (arith, nat_tests, differ) in
-            ap (versions_of (id_of (Changed t change ∷ h) t) at) is ∙ (skip ∙ own_versions t change h ids))
-        | inr other ↦
-            let is : own s (Changed t change ∷ h) ≡ own s h = grind (arith, nat_tests, other.0) in rw (is, other_id (Changed t change) h s other.0) refl
-      ]
+  spared t change h ids differ s = grind (arith, nat_tests, own_versions t change h ids, differ)
 
   pub rows_changed : {old new : List Version} (t : ℕ) (change : Change) (h : List Event) → AreIds h → ((s : ℕ) → s ≢ t → own s h ≡ [])
       → new ≡ cond (at change) (record { writer = id_of (Changed t change ∷ h) t; row = row_of change } ∷ old) old
@@ -182,13 +164,7 @@ module _ (opened : Option (List Value)) (at : Change → Bool) where
     -- of another place
     undone_versions : at change ≡ false → (s : ℕ)
         → versions_of (id_of (Undone t keep ∷ h) s) at (own s (Undone t keep ∷ h)) ≡ versions_of (id_of h s) at (own s h)
-    undone_versions differ s =
-        elim (eqb_tells t s) [
-          | inl same ↦ subst (λ u. versions_of (id_of h u) at (own u (Undone t keep ∷ h)) ≡ versions_of (id_of h u) at (own u h)) same.1
-              (ap (versions_of (id_of h t) at) (own_undone t keep change before h is count) ∙
-              (grind (arith, nat_tests, differ) ∙ ap (versions_of (id_of h t) at) (sym is)))
-          | inr other ↦ let same : own s (Undone t keep ∷ h) ≡ own s h = grind (arith, nat_tests, other.0) in ap (versions_of (id_of h s) at) same
-        ]
+    undone_versions differ s = grind (arith, nat_tests, own_undone t keep change before h is count, is, differ)
 
     pub rows_undone : {old new : List Version} → new ≡ cond (at change) (older old) old → AreVersions h opened at old
         → AreVersions (Undone t keep ∷ h) opened at new
@@ -246,9 +222,7 @@ module _ (opened : Option (List Value)) (at : Change → Bool) where
   module _ (t : ℕ) (h : List Event) (is-open : IsOpen t h) (ids : AreIds h) where
     -- what was settled is not of this transaction
     settled_before : (n id : ℕ) → IsSettled h id → is_settled (Committed t ∷ h) n id ≡ is_settled h n id
-    settled_before n id (inl zero-is) = grind (arith, nat_tests, zero-is)
-    settled_before n id (inr c) =
-        let apart : eqb (id_of h t) id ≡ false = grind (arith, nat_tests, c.1, ids.open_not_among t c.0 is-open) in grind (arith, nat_tests, apart)
+    settled_before n id settled = grind (arith, nat_tests, settled, ids.open_not_among t)
 
     settled_behind : (n : ℕ) (behind : List Version) → AllByRecursion (λ (u : Version). IsSettled h u.writer) behind
         → first_seen (is_settled (Committed t ∷ h) n) behind ≡ first_seen (is_settled h n) behind
@@ -256,11 +230,7 @@ module _ (opened : Option (List Value)) (at : Change → Bool) where
 
     -- its versions are among the commits from now on, if it wrote
     now_among : (n : ℕ) → (own t h ≡ []) ⊎ (is_settled (Committed t ∷ h) n (id_of h t) ≡ nat_lt (commits h) n)
-    now_among n =
-        elim (cases_lt 0 (id_of h t)) [
-          | inl some ↦ inr (grind (arith, nat_tests, some, ids.open_not_among t n is-open))
-          | inr le ↦ inl (ids.no_id t (omega (arith, le)))
-        ]
+    now_among n = grind (arith, nat_tests, ids.open_not_among t n is-open, ids.no_id t)
 
     now_settled : (behind : List Version) → AllByRecursion (λ (v : Version). IsSettled h v.writer) behind
         → AllByRecursion (λ (v : Version). IsSettled (Committed t ∷ h) v.writer) (versions_of (id_of h t) at (own t h) ++ behind)
@@ -329,13 +299,7 @@ module _ (opened : Option (List Value)) (at : Change → Bool) where
 
     -- What is settled is seen where it is among the first n, or older.
     settled_alike : (id : ℕ) → IsSettled h id → sees (id_of h s) sight id ≡ is_settled h n id
-    settled_alike id (inl zero-is) =
-        let seen-zero : is_seen sight id ≡ true = ap (is_seen sight) zero-is ∙ view.earlier in grind (arith, nat_tests, zero-is, seen-zero)
-    settled_alike id (inr c) =
-        let apart : id ≢ id_of h s = λ same. grind (arith, nat_tests, same, c.1, ids.open_not_among s c.0 is-open) in
-        let alike : is_seen sight id ≡ is_among h n id = view.alike id (inl c) apart in
-        let some : id ≢ 0 = λ zero-is. grind (arith, nat_tests, zero-is, c.1, ids.among_some c.0) in
-        grind (arith, nat_tests, apart, alike, some)
+    settled_alike id settled = grind (arith, nat_tests, settled, view.earlier, view.alike id, ids.open_not_among s, ids.among_some)
 
     -- What a view's ids and the reader's own find among a place's versions is what the view and the own changes have.
     pub seen_is_snapshot : {vs : List Version} → AreVersions h opened at vs → first_seen (sees (id_of h s) sight) vs ≡ row_at opened at (seen h s n)

@@ -1,10 +1,9 @@
 -- What one more entry does to ids, views and what is owed.
 use Rattle.std.proofs.Common.{◌≡◌, ℕ, ◌+◌, ◌<◌, ◌≤◌, true, false, Option, Some, None, List, [], ◌∷◌, refl, sym, ap, ◌∙◌, ◌⊎◌, inl, inr, arith}
 use Rattle.std.proofs.lemmas.Bool.Decides.{nat_tests, eqb_tells}
-use Rattle.std.proofs.lemmas.Bool.{cases_lt}
 use Rattle.inno_db.specs.declared.change.Change.{Change}
 use Rattle.inno_model.specs.declared.event.Event.{Event}
-use Rattle.inno_model.specs.declared.event.Event.TheVariants.{Begin, View, Changed, Committed, RolledBack}
+use Rattle.inno_model.specs.declared.event.Event.TheVariants.{Changed}
 use Rattle.inno_model.specs.Past.{is_of, view_of, commits, IsOpen}
 use Rattle.inno_model.proofs.{Untouched.untouched, Commits.commits_rise}
 use Rattle.read_view.specs.Sight.{Sight}
@@ -14,8 +13,7 @@ use Rattle.law_past_agreement.proofs.Ids.{AreIds, among_positive, later_not_amon
 
 -- what has committed stays committed
 among_more : (e : Event) (h : List Event) (n id : ℕ) → is_among h n id ≡ true → is_among (e ∷ h) n id ≡ true
-among_more (Committed t) h n id is = grind (arith, nat_tests, is)
-among_more e h n id is = is
+among_more e h n id is = grind (arith, nat_tests, is)
 
 pub settled_more : (e : Event) (h : List Event) (id : ℕ) → IsSettled h id → IsSettled (e ∷ h) id
 settled_more e h id (inl zero-is) = inl zero-is
@@ -23,40 +21,26 @@ settled_more e h id (inr c) = inr (c.0, among_more e h c.0 id c.1)
 
 -- who may read the first n commits after the entry could before
 view_before : (e : Event) (h : List Event) (n s : ℕ) → IsOpen s (e ∷ h) → view_of s (e ∷ h) ≡ Some n → IsNeeded h n
-view_before (View t) h n s is-open is =
-    elim (eqb_tells t s) [
-      | inl same ↦ inl (let now : Some (commits h) ≡ Some n = grind (arith, nat_tests, is, same.0) in let at : commits h ≡ n = cc in omega (arith, at))
-      | inr differ ↦ inr (s, is-open, grind (arith, nat_tests, is, differ.0))
-    ]
-view_before (Begin t m l) h n s is-open is = inr (s, grind (arith, nat_tests, is-open, is), grind (arith, nat_tests, is))
-view_before (Committed t) h n s is-open is = inr (s, grind (arith, nat_tests, is-open), is)
-view_before (RolledBack t) h n s is-open is = inr (s, grind (arith, nat_tests, is-open), is)
-view_before e h n s is-open is = inr (s, is-open, is)
+view_before e h n s is-open is = grind (arith, nat_tests, is-open, is)
 
 pub needed_before : (e : Event) (h : List Event) (n : ℕ) → IsNeeded (e ∷ h) n → IsNeeded h n
 needed_before e h n (inl latest) = inl (omega (arith, latest, commits_rise e h))
 needed_before e h n (inr reader) = view_before e h n reader.0 reader.1 reader.2
 
 is_among_stays : (e : Event) (h : List Event) (n id : ℕ) → n ≤ commits h → is_among (e ∷ h) n id ≡ is_among h n id
-is_among_stays (Committed t) h n id le = grind (arith, nat_tests)
-is_among_stays e h n id le = refl
+is_among_stays e h n id le = grind (arith, nat_tests)
 
 is_among_mono : (h : List Event) (m n id : ℕ) → m ≤ n → is_among h m id ≡ true → is_among h n id ≡ true
 is_among_mono [] m n id le is = is
-is_among_mono (Committed t ∷ h) m n id le is = grind (arith, nat_tests, is_among_mono h m n id le, is)
-is_among_mono (e ∷ h) m n id le is = is_among_mono h m n id le is
+is_among_mono (e ∷ h) m n id le is = grind (arith, nat_tests, is_among_mono h m n id le, is)
 
 -- What is among any number of commits is among all.
 pub is_among_all : (h : List Event) (n id : ℕ) → is_among h n id ≡ true → is_among h (commits h) id ≡ true
 is_among_all [] n id is = is
-is_among_all (Committed t ∷ h) n id is =
-    let more : is_among h (commits h) id ≡ true → is_among h (commits h + 1) id ≡ true = is_among_mono h (commits h) (commits h + 1) id (omega arith) in
-    grind (arith, nat_tests, is_among_all h n id, more, is)
-is_among_all (e ∷ h) n id is = is_among_all h n id is
+is_among_all (e ∷ h) n id is = grind (arith, nat_tests, is_among_all h n id, is_among_mono h (commits h) (commits h + 1) id, is)
 
 given_rise : (e : Event) (h : List Event) → given h ≤ given (e ∷ h)
-given_rise (Changed t change) h = grind (arith, nat_tests)
-given_rise e h = omega arith
+given_rise e h = grind (arith, nat_tests)
 
 -- no id is 0
 pub standing_some : (h : List Event) (id : ℕ) → IsStanding h id → 0 < id
@@ -65,27 +49,7 @@ standing_some h id (inr o) = o.3
 
 -- an id that stands stood before, or has just been given
 stood : (e : Event) (h : List Event) (id : ℕ) → MayCome h e → IsStanding (e ∷ h) id → IsStanding h id ⊎ (given h < id)
-stood (Begin t m l) h id may (inl c) = inl (inl c)
-stood (Begin t m l) h id may (inr o) =
-    elim (eqb_tells t o.0) [
-      | inl same ↦ absurd (grind (arith, nat_tests, same.0, o.2, o.3))
-      | inr differ ↦ inl (inr (o.0, grind (arith, nat_tests, o.1, differ.0), grind (arith, nat_tests, o.2, differ.0), o.3))
-    ]
-stood (Changed t change) h id may (inl c) = inl (inl c)
-stood (Changed t change) h id may (inr o) =
-    elim (cases_lt (given h) id) [
-      | inl lt ↦ inr lt
-      | inr le ↦ inl (inr (o.0, o.1, grind (arith, nat_tests, o.2, le), o.3))
-    ]
-stood (Committed t) h id may (inl c) =
-    elim (eqb_tells (id_of h t) id) [
-      | inl same ↦ inl (inr (t, may, same.1, among_positive (Committed t ∷ h) c.0 id c.1))
-      | inr differ ↦ inl (inl (c.0, grind (arith, nat_tests, c.1, differ.0)))
-    ]
-stood (Committed t) h id may (inr o) = inl (inr (o.0, grind (arith, nat_tests, o.1), o.2, o.3))
-stood (RolledBack t) h id may (inl c) = inl (inl c)
-stood (RolledBack t) h id may (inr o) = inl (inr (o.0, grind (arith, nat_tests, o.1), o.2, o.3))
-stood e h id may standing = inl standing
+stood e h id may standing = grind (arith, nat_tests, among_positive (e ∷ h), standing)
 
 -- A view stays what it is while the session's id and view do, at an own entry too.
 pub view_agrees : (e : Event) (h : List Event) (s : ℕ) → MayCome h e → AreIds h → id_of (e ∷ h) s ≡ id_of h s → view_of s (e ∷ h) ≡ view_of s h

@@ -1,22 +1,21 @@
 -- Changes of an ordered past are of tables that have been made, and a table more leaves their places.
-use Rattle.std.proofs.Common.{◌≡◌, ◌==◌, ℕ, ◌-◌, ◌<◌, ◌≤◌, List, [], ◌∷◌, ◌++◌, length, drop, Some, refl, ap, zero, suc, arith}
+use Rattle.std.proofs.Common.{◌≡◌, ℕ, ◌<◌, ◌≤◌, List, [], ◌∷◌, ◌++◌, length, drop, refl, zero, suc, arith}
 use Rattle.std.proofs.lemmas.List.{length-append}
-use Rattle.std.proofs.lemmas.Bool.{cond_both}
+use Rattle.std.proofs.lemmas.Bool.Decides.{nat_tests}
 use Rattle.std.specs.List.{AllByRecursion}
 use Rattle.inno_types.specs.{declared.value.Schema.Schema, declared.value.Value.Value}
-use Rattle.inno_db.specs.{Database.key_in, declared.change.Change.Change, declared.change.Change.TheVariants.Create, declared.change.Change.TheVariants.Put}
+use Rattle.inno_db.specs.{Database.key_in, declared.change.Change.Change}
 use Rattle.inno_model.specs.declared.event.Event.{Event}
 use Rattle.inno_model.specs.declared.event.Event.TheVariants as events
 use Rattle.inno_model.specs.Past.{own, committed}
 use Rattle.row_versions.specs.declared.place.Place.{Place}
-use Rattle.law_past_agreement.specs.{Order.created, Order.IsTabled, Order.MayCome, Order.IsOrdered, Rows.is_place, Rows.is_at}
+use Rattle.law_past_agreement.specs.{Order.created, Order.IsTabled, Order.MayCome, Order.IsOrdered, Rows.is_at}
 use Rattle.law_past_agreement.proofs.Opens.{all_weaker}
 
 -- ---- what a table more leaves
 
 tabled_more : (m n : ℕ) → m ≤ n → (change : Change) → IsTabled m change → IsTabled n change
-tabled_more m n le (Create schema) is = tt
-tabled_more m n le change is = omega (arith, le, is)
+tabled_more m n le change is = grind (arith, le, is)
 
 pub key_stays : (schemas more : List Schema) (table : ℕ) (row : List Value) → table < length schemas
     → key_in (schemas ++ more) table row ≡ key_in schemas table row
@@ -26,8 +25,7 @@ key_stays (schema ∷ schemas) more (suc table) row lt = key_stays schemas more 
 
 pub at_stays : (schemas more : List Schema) (place : Place) (change : Change) → IsTabled (length schemas) change
     → is_at (schemas ++ more) place change ≡ is_at schemas place change
-at_stays schemas more place (Put table row) is = ap (λ key. is_place place (Some (record { table = table; key = key }))) (key_stays schemas more table row is)
-at_stays schemas more place change is = refl
+at_stays schemas more place change is = grind (arith, key_stays schemas more, is)
 
 -- ---- in an ordered past
 
@@ -41,9 +39,7 @@ all_joined P [] ys all other = other
 all_joined P (x ∷ xs) ys all other = (all.0, all_joined P xs ys all.1 other)
 
 created_rise : (e : Event) (h : List Event) → MayCome h e → length (created h) ≤ length (created (e ∷ h))
-created_rise (events.Opened db) h may = rw may (omega arith)
-created_rise (events.Changed s (Create schema)) h may = omega (arith, length-append (created h) (schema ∷ []))
-created_rise e h may = omega arith
+created_rise e h may = grind (arith, length-append {A = Schema}, may)
 
 abbrev AreTabled : List Event → List Change → Type 0
 AreTabled h = AllByRecursion (IsTabled (length (created h)))
@@ -55,13 +51,7 @@ risen e h may =
 
 -- each change of an open transaction
 own_step : (e : Event) (h : List Event) (s : ℕ) → MayCome h e → AreTabled h (own s h) → AreTabled h (own s (e ∷ h))
-own_step (events.Begin t n level) h s may all = cond_both (t == s) [] (own s h) (AreTabled h) (λ yes. tt) (λ no. all)
-own_step (events.Changed t change) h s may all = cond_both (t == s) (change ∷ own s h) (own s h) (AreTabled h) (λ yes. (may.1, all)) (λ no. all)
-own_step (events.Undone t keep) h s may all =
-    cond_both _ _ _ (AreTabled h) (λ yes. all_dropped (IsTabled (length (created h))) (length (own s h) - keep) (own s h) all) (λ no. all)
-own_step (events.Committed t) h s may all = cond_both (t == s) [] (own s h) (AreTabled h) (λ yes. tt) (λ no. all)
-own_step (events.RolledBack t) h s may all = cond_both (t == s) [] (own s h) (AreTabled h) (λ yes. tt) (λ no. all)
-own_step e h s may all = all
+own_step e h s may all = grind (arith, nat_tests, all_dropped (IsTabled (length (created h))), may, all)
 
 pub own_tabled : (h : List Event) → IsOrdered h → (s : ℕ) → AllByRecursion (IsTabled (length (created h))) (own s h)
 own_tabled [] ordered s = tt
@@ -69,9 +59,7 @@ own_tabled (e ∷ h) ordered s = risen e h ordered.0 (own s (e ∷ h)) (own_step
 
 -- each change that was committed
 committed_step : (e : Event) (h : List Event) (n : ℕ) → ((s : ℕ) → AreTabled h (own s h)) → AreTabled h (committed n h) → AreTabled h (committed n (e ∷ h))
-committed_step (events.Committed t) h n owns all =
-    cond_both _ _ _ (AreTabled h) (λ yes. all_joined (IsTabled (length (created h))) (own t h) (committed n h) (owns t) all) (λ no. all)
-committed_step e h n owns all = all
+committed_step e h n owns all = grind (arith, nat_tests, all_joined (IsTabled (length (created h))), owns, all)
 
 pub committed_tabled : (h : List Event) → IsOrdered h → (n : ℕ) → AllByRecursion (IsTabled (length (created h))) (committed n h)
 committed_tabled [] ordered n = tt
