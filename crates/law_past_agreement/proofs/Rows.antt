@@ -2,7 +2,7 @@
 use Rattle.std.proofs.Common.{◌≡◌, ◌≢◌, ℕ, ◌+◌, ◌<◌, Bool, true, false, cond, nat_lt, Option, Some, None, List, [], ◌∷◌, ◌++◌, length}
 use Rattle.std.proofs.Common.{is_some, ◌==◌, ◌||◌, refl, sym, ap, subst, ◌∙◌, ◌⊎◌, inl, inr, arith}
 use Rattle.std.proofs.lemmas.Bool.Decides.{nat_tests, eqb_tells}
-use Rattle.std.proofs.lemmas.Bool.{cases_lt, cases_Bool, false≢true}
+use Rattle.std.proofs.lemmas.Bool.{cases_lt}
 use Rattle.std.specs.List.{AllByRecursion, list_any}
 use Rattle.inno_types.specs.declared.value.Value.{Value}
 use Rattle.inno_db.specs.declared.change.Change.{Change}
@@ -67,29 +67,21 @@ module _ (opened : Option (List Value)) (at : Change → Bool) where
   seen_own p id [] behind under is same = same
   seen_own p id (change ∷ changes) behind under is same = grind (arith, nat_tests, is, seen_own p id changes behind under is same)
 
-  -- Where no session's versions, among and committed changes are others now, the versions of a place agree still.
-  same_rows : {vs : List Version} (e : Event) (h : List Event) (w : ℕ)
-      → ((s : ℕ) → versions_of (id_of (e ∷ h) s) at (own s (e ∷ h)) ≡ versions_of (id_of h s) at (own s h))
-      → ((n id : ℕ) → is_among (e ∷ h) n id ≡ is_among h n id) → ((n : ℕ) → committed n (e ∷ h) ≡ committed n h)
-      → AreVersionsBy h w opened at vs → AreVersionsBy (e ∷ h) w opened at vs
-  same_rows e h w same-versions same-among same-committed v =
-      record {
-        behind = v.behind;
-        parts = v.parts ∙ ap (λ (ws : List Version). ws ++ v.behind) (sym (same-versions w));
-        alone = λ s differ. no_change (id_of (e ∷ h) s) (own s (e ∷ h)) (same-versions s ∙ versions_of-none (id_of h s) (own s h) (v.alone s differ));
-        are_settled = settled_on e h v.behind v.are_settled;
-        reads = λ n needed.
-            seen_alike (is_settled (e ∷ h) n) (is_settled h n) (IsSettled h) (λ id c. ap (λ b. id == 0 || b) (same-among n id)) v.behind v.are_settled
-            ∙ (v.reads n (needed_before e h n needed) ∙ ap (row_at opened at) (sym (same-committed n)));
-      }
-
   -- An entry that changes no rows and commits nothing leaves the versions, if it gives no id where there are changes.
   pub rows_stay : {vs : List Version} (e : Event) (h : List Event) → ((s : ℕ) → (own s h ≡ []) ⊎ (id_of (e ∷ h) s ≡ id_of h s))
       → ((s : ℕ) → own s (e ∷ h) ≡ own s h) → ((n id : ℕ) → is_among (e ∷ h) n id ≡ is_among h n id) → ((n : ℕ) → committed n (e ∷ h) ≡ committed n h)
       → AreVersions h opened at vs → AreVersions (e ∷ h) opened at vs
   rows_stay e h same-id same-own same-among same-committed v = (
     v.0,
-    same_rows e h v.0 (λ s. elim (same-id s) [ inl none ↦ rw (same-own s, none) refl | inr same ↦ rw (same, same-own s) refl ]) same-among same-committed v.1,
+    record {
+      behind = v.1.behind;
+      parts = v.1.parts ∙ elim (same-id v.0) [ inl none ↦ rw (same-own v.0, none) refl | inr same ↦ rw (same, same-own v.0) refl ];
+      alone = λ s differ. ap (list_any at) (same-own s) ∙ v.1.alone s differ;
+      are_settled = settled_on e h v.1.behind v.1.are_settled;
+      reads = λ n needed.
+          seen_alike (is_settled (e ∷ h) n) (is_settled h n) (IsSettled h) (λ id c. ap (λ b. id == 0 || b) (same-among n id)) v.1.behind v.1.are_settled
+          ∙ (v.1.reads n (needed_before e h n needed) ∙ ap (row_at opened at) (sym (same-committed n)));
+    },
   )
 
   -- Where a session alone has changes, it can be taken for the writer.
@@ -100,9 +92,7 @@ module _ (opened : Option (List Value)) (at : Change → Bool) where
         | inr differ ↦
             record {
               behind = v.1.behind;
-              parts =
-                  v.1.parts ∙ (ap (λ changes. versions_of (id_of h v.0) at changes ++ v.1.behind) (lone v.0 differ.1) ∙ ap
-                  (λ (ws : List Version). ws ++ v.1.behind) (sym (versions_of-none (id_of h t) (own t h) (v.1.alone t (λ same. differ.1 (sym same))))));
+              parts = grind (arith, v.1.parts, lone v.0 differ.1, versions_of-none (id_of h t) (own t h), v.1.alone t, differ.1);
               alone = λ s other. ap (list_any at) (lone s other);
               are_settled = v.1.are_settled;
               reads = v.1.reads;
@@ -123,80 +113,36 @@ module _ (opened : Option (List Value)) (at : Change → Bool) where
       → versions_of (id_of (Changed t change ∷ h) t) at (own t h) ≡ versions_of (id_of h t) at (own t h)
   own_versions t change h ids = grind (arith, nat_tests, ids.no_id t)
 
-  -- the versions of a place at which nothing is changed
-  spared : (t : ℕ) (change : Change) (h : List Event) → AreIds h → at change ≡ false → (s : ℕ)
-      → versions_of (id_of (Changed t change ∷ h) s) at (own s (Changed t change ∷ h)) ≡ versions_of (id_of h s) at (own s h)
-  spared t change h ids differ s = grind (arith, nat_tests, own_versions t change h ids, differ)
-
   pub rows_changed : {old new : List Version} (t : ℕ) (change : Change) (h : List Event) → AreIds h → ((s : ℕ) → s ≢ t → own s h ≡ [])
       → new ≡ cond (at change) (record { writer = id_of (Changed t change ∷ h) t; row = row_of change } ∷ old) old
       → AreVersions h opened at old → AreVersions (Changed t change ∷ h) opened at new
-  rows_changed {old} {new} t change h ids lone given v =
-      let by = by_writer h t lone v in
-      let own-is : own t (Changed t change ∷ h) ≡ change ∷ own t h = grind (arith, nat_tests) in
-      let id = id_of (Changed t change ∷ h) t in
-      let version : Version = record { writer = id; row = row_of change } in
-      elim (cases_Bool (at change)) [
-        | inl same ↦ (
-          t,
-          record {
-            behind = by.behind;
-            parts =
-                given ∙ (ap (λ b. cond b (version ∷ old) old) same ∙ (ap (λ ws. version ∷ ws)
-                (by.parts ∙ ap (λ (ws : List Version). ws ++ by.behind) (sym (own_versions t change h ids)))
-                ∙ (let more : versions_of id at (change ∷ own t h) ≡ version ∷ versions_of id at (own t h) = grind (arith, nat_tests, same) in
-                ap (λ (ws : List Version). ws ++ by.behind) (sym more) ∙ ap (λ changes. versions_of id at changes ++ by.behind) (sym own-is))));
-            alone = λ s other. grind (arith, nat_tests, by.alone s other);
-            are_settled = settled_on (Changed t change) h by.behind by.are_settled;
-            reads = λ n needed. by.reads n (needed_before (Changed t change) h n needed);
-          },
-        )
-        | inr differ ↦ (
-          t,
-          subst (λ vs. AreVersionsBy (Changed t change ∷ h) t opened at vs) (sym (given ∙ ap (λ b. cond b (version ∷ old) old) differ))
-              (same_rows (Changed t change) h t (spared t change h ids differ) (λ n id. refl) (λ n. refl) by),
-        )
-      ]
+  rows_changed t change h ids lone given v =
+      let by = by_writer h t lone v in (
+        t,
+        record {
+          behind = by.behind;
+          parts = grind (arith, nat_tests, given, by.parts, own_versions t change h ids);
+          alone = λ s other. grind (arith, nat_tests, by.alone s other);
+          are_settled = settled_on (Changed t change) h by.behind by.are_settled;
+          reads = λ n needed. by.reads n (needed_before (Changed t change) h n needed);
+        },
+      )
 
-  -- ---- a change that is taken back
-
-  module _ (t keep : ℕ) (change : Change) (before : List Change) (h : List Event) (is : own t h ≡ change ∷ before) (count : length (own t h) ≡ keep + 1) where
-    -- of another place
-    undone_versions : at change ≡ false → (s : ℕ)
-        → versions_of (id_of (Undone t keep ∷ h) s) at (own s (Undone t keep ∷ h)) ≡ versions_of (id_of h s) at (own s h)
-    undone_versions differ s = grind (arith, nat_tests, own_undone t keep change before h is count, is, differ)
-
-    pub rows_undone : {old new : List Version} → new ≡ cond (at change) (older old) old → AreVersions h opened at old
-        → AreVersions (Undone t keep ∷ h) opened at new
-    rows_undone {old} {new} given v =
-        elim (cases_Bool (at change)) [
-          | inl same ↦ (
-            t,
-            let has : list_any at (own t h) ≡ true = ap (list_any at) is ∙ grind (arith, nat_tests, same) in
-                let by : AreVersionsBy h t opened at old = elim (eqb_tells v.0 t) [
-                  | inl w ↦ subst (λ w'. AreVersionsBy h w' opened at old) w.1 v.1
-                  | inr w ↦ absurd (false≢true (sym (v.1.alone t (λ same'. w.1 (sym same'))) ∙ has))
-                ] in
-                record {
-                  behind = by.behind;
-                  parts =
-                      given ∙ (ap (λ b. cond b (older old) old) same ∙
-                      (ap older (by.parts ∙ ap (λ changes. versions_of (id_of h t) at changes ++ by.behind) is)
-                      ∙ (grind (arith, nat_tests, same) ∙ ap (λ changes. versions_of (id_of h t) at changes ++ by.behind)
-                      (sym (own_undone t keep change before h is count)))));
-                  alone =
-                      λ s other. let same-own : own s (Undone t keep ∷ h) ≡ own s h = grind (arith, nat_tests, other) in
-                      ap (list_any at) same-own ∙ by.alone s other;
-                  are_settled = settled_on (Undone t keep) h by.behind by.are_settled;
-                  reads = λ n needed. by.reads n (needed_before (Undone t keep) h n needed);
-                },
-          )
-          | inr differ ↦ (
-            v.0,
-            subst (λ vs. AreVersionsBy (Undone t keep ∷ h) v.0 opened at vs) (sym (given ∙ ap (λ b. cond b (older old) old) differ))
-                (same_rows (Undone t keep) h v.0 (undone_versions differ) (λ n id. refl) (λ n. refl) v.1),
-          )
-        ]
+  -- a change that is taken back
+  pub rows_undone : {old new : List Version} (t keep : ℕ) (change : Change) (before : List Change) (h : List Event) → own t h ≡ change ∷ before
+      → length (own t h) ≡ keep + 1 → new ≡ cond (at change) (older old) old → AreVersions h opened at old → AreVersions (Undone t keep ∷ h) opened at new
+  rows_undone t keep change before h is count given v =
+      let by = v.1 in
+      let now = own_undone t keep change before h is count in (
+        v.0,
+        record {
+          behind = by.behind;
+          parts = grind (arith, nat_tests, given, by.parts, is, now, by.alone t);
+          alone = λ s other. grind (arith, nat_tests, is, now, by.alone s other);
+          are_settled = settled_on (Undone t keep) h by.behind by.are_settled;
+          reads = λ n needed. by.reads n (needed_before (Undone t keep) h n needed);
+        },
+      )
 
   -- ---- a commit
 
@@ -204,19 +150,14 @@ module _ (opened : Option (List Value)) (at : Change → Bool) where
       → AllByRecursion (λ (v : Version). P v.writer) (versions_of id at changes ++ behind)
   all_versions_of P id [] behind p all = all
   all_versions_of P id (change ∷ changes) behind p all =
-      elim (at change) as
-      (λ b. AllByRecursion (λ (v : Version). P v.writer) (cond b (record { writer = id; row = row_of change } ∷ versions_of id at changes)
-      (versions_of id at changes) ++ behind))
-      [ true ↦ (p, all_versions_of P id changes behind p all) | false ↦ all_versions_of P id changes behind p all ]
+      grind (arith, p, all_versions_of P id changes behind p all)
 
   -- what a reader finds of a transaction without changes, or whom it sees or not
   seen_either : (p : ℕ → Bool) (id : ℕ) (b : Bool) (changes : List Change) (behind : List Version) (under : List Change) → (changes ≡ []) ⊎ (p id ≡ b)
       → first_seen p behind ≡ row_at opened at under
       → first_seen p (versions_of id at changes ++ behind) ≡ row_at opened at (cond b (changes ++ under) under)
-  seen_either p id true changes behind under (inl none) same = rw none same
-  seen_either p id false changes behind under (inl none) same = rw none same
-  seen_either p id true changes behind under (inr is) same = seen_own p id changes behind under is same
-  seen_either p id false changes behind under (inr is) same = seen_past p id at changes behind is ∙ same
+  seen_either p id b changes behind under why same =
+      grind (arith, nat_tests, why, same, seen_own p id changes behind under, seen_past p id at changes behind)
 
   -- A commit makes the writer's versions committed ones, and leaves those of others.
   module _ (t : ℕ) (h : List Event) (is-open : IsOpen t h) (ids : AreIds h) where
@@ -247,7 +188,7 @@ module _ (opened : Option (List Value)) (at : Change → Bool) where
         record {
           behind = vs;
           parts = ap (λ changes. versions_of (id_of h t) at changes ++ vs) (sym none);
-          alone = λ s other. let same-own : own s (Committed t ∷ h) ≡ own s h = grind (arith, nat_tests, other) in ap (list_any at) same-own ∙ by.alone s other;
+          alone = λ s other. grind (arith, nat_tests, by.alone s other, other);
           are_settled = subst (AllByRecursion (λ (u : Version). IsSettled (Committed t ∷ h) u.writer)) (sym by.parts) (now_settled by.behind by.are_settled);
           reads = λ n needed.
               ap (first_seen (is_settled (Committed t ∷ h) n)) by.parts
@@ -257,10 +198,9 @@ module _ (opened : Option (List Value)) (at : Change → Bool) where
 
     committed_there : {vs : List Version} (w : ℕ) → w ≢ t → AreVersionsBy h w opened at vs → AreVersionsBy (Committed t ∷ h) w opened at vs
     committed_there w differ by =
-        let same-own : own w (Committed t ∷ h) ≡ own w h = grind (arith, nat_tests, differ) in
         record {
           behind = by.behind;
-          parts = by.parts ∙ ap (λ changes. versions_of (id_of h w) at changes ++ by.behind) (sym same-own);
+          parts = grind (arith, nat_tests, by.parts, differ);
           alone = λ s other. grind (arith, nat_tests, by.alone s other);
           are_settled = settled_on (Committed t) h by.behind by.are_settled;
           reads = λ n needed.

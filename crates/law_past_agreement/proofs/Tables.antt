@@ -6,7 +6,6 @@ use Rattle.std.specs.List.{AllByRecursion}
 use Rattle.inno_types.specs.{declared.value.Schema.Schema, declared.value.Value.Value}
 use Rattle.inno_db.specs.{Database.key_in, declared.change.Change.Change}
 use Rattle.inno_model.specs.declared.event.Event.{Event}
-use Rattle.inno_model.specs.declared.event.Event.TheVariants as events
 use Rattle.inno_model.specs.Past.{own, committed}
 use Rattle.row_versions.specs.declared.place.Place.{Place}
 use Rattle.law_past_agreement.specs.{Order.created, Order.IsTabled, Order.MayCome, Order.IsOrdered, Rows.is_at}
