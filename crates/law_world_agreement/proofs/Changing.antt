@@ -1,10 +1,9 @@
 -- A row that is changed, and a table that is made.
 use Rattle.std.proofs.Common.{◌≡◌, ℕ, ◌+◌, ◌<◌, ◌^◌, cond, ◌==◌, List, [], ◌∷◌, ◌++◌, length, option_map, is_some, Some}
-use Rattle.std.proofs.Common.{refl, sym, ap, subst, ◌∙◌, arith}
+use Rattle.std.proofs.Common.{sym, ap, subst, ◌∙◌, arith}
 use Rattle.std.proofs.lemmas.Bool.Decides.{nat_tests}
 use Rattle.inno_types.specs.declared.value.Schema.{Schema}
-use Rattle.inno_db.specs.{declared.change.Change.Change, declared.change.Change.TheVariants.Create, declared.change.Change.TheVariants.Put}
-use Rattle.inno_db.specs.{declared.change.Change.TheVariants.Remove}
+use Rattle.inno_db.specs.{declared.change.Change.Change, declared.change.Change.TheVariants.Create}
 use Rattle.inno_model.specs.{declared.event.Event.Event, declared.event.Event.TheVariants.Changed, Past.own, Past.IsOpen}
 use Rattle.row_versions.specs.{declared.place.Place.Place, declared.version.Version.Version, Chains.Chains, Chains.Pushes, Chains.versions_at}
 use Rattle.txn_table.specs.Txns.{Txns, with_id as with_txn_id}
@@ -22,9 +21,7 @@ pub one_work : (s : ℕ) (a b : Session) (v w : Work) (state : WorldState) → H
 one_work s a b v w state first second = let p = first.session_is in let q = second.session_is in let m = first.work_is in let n = second.work_is in cc
 
 tables_stay : (s : ℕ) (change : Change) (h : List Event) → IsOfRow change → created (Changed s change ∷ h) ≡ created h
-tables_stay s (Create schema) h of-row = absurd of-row
-tables_stay s (Put table row) h of-row = refl
-tables_stay s (Remove table key) h of-row = refl
+tables_stay s change h of-row = grind (arith, of-row)
 
 module _ {chains : Chains} {old new : WorldState} {s : ℕ} {change : Change} {tables : List Schema} (agrees : Agrees chains (Some s) old)
     (by : IsChangedBy s change tables old new) where

@@ -45,7 +45,7 @@ module _ (chains : Chains) (writer : Option ℕ) (old : WorldState) (s : ℕ) (s
   commits paged =
       let x : Session = record session { can_ack = true; setting = at_end session.setting; work = None } in
       after agrees (Committed s) s (mine_tells s) was_open few (joined_of agrees has.session_is) (replaced x refl refl refl) agrees.lists.tables txns_now
-      None (works_here old.sessions s session x has.session_is) (record { level_is = grind (arith, nat_tests); own_is = grind (arith, nat_tests) })
+      None (works_here old.sessions s session x has.session_is) (grind (arith, nat_tests))
       (λ place. rows_committed (row_opened old.past place) (is_at old.schemas place) s old.past was_open (ids_of old.past agrees.lists.ordered)
       (agrees.lists.rows place))
       (let_go old.past (Committed s ∷ old.past) s (λ u none. grind (arith, nat_tests, none)) (λ u differ o. grind (arith, nat_tests, o, differ))
@@ -57,7 +57,7 @@ module _ (chains : Chains) (writer : Option ℕ) (old : WorldState) (s : ℕ) (s
       let x : Session = record session { setting = at_end session.setting; work = None } in
       let own_now : own s (RolledBack s ∷ old.past) ≡ [] = grind (arith, nat_tests) in
       after agrees (RolledBack s) s (mine_tells s) (was_open, none) few (joined_of agrees has.session_is) (replaced x refl refl refl) agrees.lists.tables
-      txns_now None (works_here old.sessions s session x has.session_is) (record { level_is = grind (arith, nat_tests); own_is = own_now })
+      txns_now None (works_here old.sessions s session x has.session_is) (grind (arith, nat_tests))
       (λ place. rows_stay (row_opened old.past place) (is_at old.schemas place) (RolledBack s) old.past (λ u. inr refl)
       (own_same (RolledBack s) old.past s (mine_tells s) none own_now) (λ n id. refl) (λ n. refl) (agrees.lists.rows place))
       (let_go old.past (RolledBack s ∷ old.past) s (λ u none. grind (arith, nat_tests, none)) (λ u differ o. grind (arith, nat_tests, o, differ))

@@ -1,7 +1,7 @@
 -- Entries that change no transaction, and a change that is put back.
 use Rattle.std.proofs.Common.{◌≡◌, ◌≢◌, ⊎_elim, ℕ, ◌+◌, ◌<◌, ◌^◌, false, cond, List, [], ◌∷◌, length, slice_get, option_map, is_some, Option, Some, None}
-use Rattle.std.proofs.Common.{inl, inr, refl, sym, ap, subst, ◌∙◌, arith}
-use Rattle.std.proofs.lemmas.Bool.Decides.{nat_tests, eqb_tells}
+use Rattle.std.proofs.Common.{inr, refl, sym, ap, subst, ◌∙◌, arith}
+use Rattle.std.proofs.lemmas.Bool.Decides.{nat_tests}
 use Rattle.std.proofs.lemmas.Option.{slice_get_cases}
 use Rattle.inno_types.specs.{declared.reply.Item.Item, declared.reply.Reply.Reply}
 use Rattle.inno_db.specs.declared.change.Change.{Change}
@@ -98,8 +98,4 @@ taken_back_agrees chains chains' writer old new s keep change before place agree
     })
     (λ p. rw by.schemas (rows_undone (row_opened h p) (is_at old.schemas p) s keep change before h own_is count
     (pops p ∙ ap (λ o. cond (is_place p o) (older (versions_at p chains)) (versions_at p chains)) (sym place_is)) (agrees.lists.rows p)))
-    (fewer h (Undone s keep ∷ h) (λ u none. elim (eqb_tells s u) [
-      | inl same ↦ absurd (let no : own s h ≡ [] = ap (λ v. own v h) same.1 ∙ none in cc (own_is, no))
-      | inr differ ↦ grind
-          (arith, nat_tests, differ.0, none)
-    ]) (λ u is. is) writer agrees.lists.writes)
+    (fewer h (Undone s keep ∷ h) (λ u none. grind (arith, nat_tests, none, own_is)) (λ u is. is) writer agrees.lists.writes)

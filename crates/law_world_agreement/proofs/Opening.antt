@@ -1,7 +1,6 @@
 -- A transaction that is opened, and a view that is taken.
-use Rattle.std.proofs.Common.{◌≡◌, ◌≢◌, ◌⊎◌, inl, inr, ⊎_elim, ℕ, zero, suc, ◌+◌, ◌<◌, ◌^◌, eqb, true, false, List, [], ◌∷◌, ◌++◌, length, slice_get, slice_set}
+use Rattle.std.proofs.Common.{◌≡◌, ◌≢◌, ◌⊎◌, inr, ℕ, zero, suc, ◌+◌, ◌<◌, ◌^◌, eqb, true, false, List, [], ◌∷◌, ◌++◌, length, slice_get, slice_set}
 use Rattle.std.proofs.Common.{option_map, is_some, Option, Some, None, refl, sym, ap, subst, ◌∙◌, arith}
-use Rattle.std.proofs.lemmas.Bool.{cases_eq}
 use Rattle.std.proofs.lemmas.Bool.Decides.{nat_tests}
 use Rattle.std.proofs.lemmas.List.{length-set}
 use Rattle.std.proofs.lemmas.Option.{slice_get_within}
@@ -12,7 +11,7 @@ use Rattle.inno_model.proofs.Untouched.{untouched}
 use Rattle.txn_table.specs.Txns.{Txns, ids_of as active_of}
 use Rattle.row_versions.specs.{Chains.Chains}
 use Rattle.law_past_agreement.specs.{Ids.id_of, Rows.is_at, Rows.row_opened, Agreement.IsIdle, Agreement.IsViewOf}
-use Rattle.law_past_agreement.proofs.{Agree.fewer, Agree.view_now, Rows.rows_stay, Standing.other_id}
+use Rattle.law_past_agreement.proofs.{Agree.fewer, Agree.view_now, Rows.rows_stay}
 use Rattle.world.specs.State.{WorldState, Session, Work, IsSession, HasWork}
 use Rattle.world.specs.Sessions.{fresh_work}
 use Rattle.law_world_agreement.specs.{Agreement.Agrees, Steps.session_begun, Steps.opened, Steps.viewed}
@@ -25,10 +24,7 @@ set_here (y ∷ xs) (suc i) x a there = set_here xs i x a there
 
 pub set_other : {X : Type 0} (xs : List X) (i j : ℕ) (a : X) → j ≢ i → slice_get (slice_set xs i a) j ≡ slice_get xs j
 set_other [] i j a differs = refl
-set_other (y ∷ xs) zero zero a differs = absurd (differs refl)
-set_other (y ∷ xs) zero (suc j) a differs = refl
-set_other (y ∷ xs) (suc i) zero a differs = refl
-set_other (y ∷ xs) (suc i) (suc j) a differs = set_other xs i j a (λ e. differs (ap suc e))
+set_other (y ∷ xs) i j a differs = grind (arith, differs, set_other xs)
 
 pub works_here : (xs : List Session) (s : ℕ) (x a : Session) → slice_get xs s ≡ Some x → works_at s (slice_set xs s a) ≡ Some a.work
 works_here xs s x a there = ap (option_map (λ (y : Session). y.work)) (set_here xs s x a there)
@@ -60,7 +56,7 @@ mine_tells s u differ = grind (arith, nat_tests, differ)
 pub own_same : (e : Event) (h : List Event) (s : ℕ) → ((u : ℕ) → u ≢ s → is_of u e ≡ false) → own s h ≡ [] → own s (e ∷ h) ≡ [] → (u : ℕ)
     → own u (e ∷ h) ≡ own u h
 own_same e h s mine none now u =
-    ⊎_elim (λ same. subst (λ v. own v (e ∷ h) ≡ own v h) (sym same) (now ∙ sym none)) (λ differs. (untouched e h u (mine u differs)).own_is) (cases_eq u s)
+    grind (arith, none, now, mine u, (untouched e h u))
 
 pub opened_agrees : (chains : Chains) (writer : Option ℕ) (old : WorldState) (s : ℕ) (level : Level) (session : Session) → Agrees chains writer old
     → IsSession s session old → session.work ≡ None → length old.past + 1 < 2 ^ 63 → Agrees chains writer (opened s level session old)
@@ -73,7 +69,7 @@ opened_agrees chains writer old s l session agrees there none few =
     let x2 : Session = record x1 { can_begin = false; work = Some work } in
     let own_now : own s (Begin s m l ∷ h) ≡ [] = grind (arith, nat_tests) in
     let same_id : (u : ℕ) → (own u h ≡ []) ⊎ (id_of (Begin s m l ∷ h) u ≡ id_of h u) =
-    λ u. ⊎_elim (λ same. inl (ap (λ v. own v h) same ∙ idle.own_is)) (λ differs. inr (other_id (Begin s m l) h u (mine_tells s u differs))) (cases_eq u s) in
+    λ u. grind (arith, nat_tests, idle.own_is) in
     after agrees (Begin s m l) s (mine_tells s) (ap (λ (t : Txns). t.begun + 1) agrees.lists.txns_are, idle.level_is) few (joined_of agrees there)
     (record {
       past = refl;
@@ -86,13 +82,7 @@ opened_agrees chains writer old s l session agrees there none few =
     (ap (λ (t : Txns). record { open_txns = t.open_txns ++ (m, record { session = s; level = l; id = 0 }) ∷ []; begun = t.begun + 1; next = t.next })
     agrees.lists.txns_are)
     (Some work) (works_here (slice_set old.sessions s x1) s x1 x2 (set_here old.sessions s session x1 there))
-    (record {
-      level_is = grind (arith, nat_tests);
-      txn_is = grind (arith, nat_tests);
-      id_is = grind (arith, nat_tests);
-      view_is = grind (arith, nat_tests);
-      own_is = sym (ap length own_now);
-    })
+    (grind (arith, nat_tests, own_now))
     (λ place. rows_stay (row_opened h place) (is_at old.schemas place) (Begin s m l) h same_id
     (own_same (Begin s m l) h s (mine_tells s) idle.own_is own_now) (λ n id. refl) (λ n. refl) (agrees.lists.rows place))
     (fewer h (Begin s m l ∷ h) (λ u is. grind (arith, nat_tests, is)) (λ u o. grind (arith, nat_tests, o)) writer agrees.lists.writes)

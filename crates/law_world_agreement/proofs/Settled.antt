@@ -56,20 +56,7 @@ works_are has = ap (option_map (λ (x : Session). x.work)) has.session_is ∙ ap
 module _ {chains : Chains} {writer : Option ℕ} {state : WorldState} (agrees : Agrees chains writer state) where
   keeps_if : (s : ℕ) (found : Option Session) → slice_get state.sessions s ≡ found
       → SlotAgrees state.schemas state.past s (slot_if state.past state.schemas s found) → Keeps state.past s (option_map (λ (x : Session). x.work) found)
-  keeps_if s None there slot = (slot.started_is, slot.work_is)
-  keeps_if s (Some x) there slot = of_work x.work refl slot.work_is
-    where
-      of_work : (work : Option Work) → x.work ≡ work
-          → WorkAgrees state.schemas state.past s (option_map (work_at (map (place_in state.schemas) (own s state.past))) work) → KeepsWork state.past s work
-      of_work None is a = a
-      of_work (Some w) is a =
-          record {
-            level_is = a.level_is;
-            txn_is = a.txn_is;
-            id_is = a.id_is;
-            view_is = a.view_is;
-            own_is = agrees.own s x w (record { session_is = there; work_is = is });
-          }
+  keeps_if s found there slot = grind (arith, there, slot, agrees.own s)
 
   pub keeps_of : (s : ℕ) → Keeps state.past s (works_at s state.sessions)
   keeps_of s =
@@ -82,13 +69,11 @@ module _ {chains : Chains} {writer : Option ℕ} {state : WorldState} (agrees : 
 -- the other way
 pub work_from : (h : List Event) (schemas : List Schema) (s : ℕ) (work : Option Work) → KeepsWork h s work
     → WorkAgrees schemas h s (option_map (work_at (map (place_in schemas) (own s h))) work)
-work_from h schemas s None k = k
-work_from h schemas s (Some w) k = record { level_is = k.level_is; txn_is = k.txn_is; id_is = k.id_is; places_are = refl; view_is = k.view_is }
+work_from h schemas s work k = grind (arith, k)
 
 slot_from : (h : List Event) (schemas : List Schema) (s : ℕ) (found : Option Session) → Keeps h s (option_map (λ (x : Session). x.work) found)
     → SlotAgrees schemas h s (slot_if h schemas s found)
-slot_from h schemas s None k = record { started_is = k.0; work_is = k.1 }
-slot_from h schemas s (Some x) k = record { started_is = refl; work_is = work_from h schemas s x.work k }
+slot_from h schemas s found k = grind (arith, k, work_from h schemas s)
 
 -- a world agrees with its past where each of its parts does
 pub agreeing : {chains : Chains} {writer : Option ℕ} {state : WorldState} → IsOrdered state.past → length state.past < 2 ^ 63
@@ -130,23 +115,16 @@ agrees_alike chains writer a b agrees names past schemas txns sessions =
 pub work_stays : (e : Event) (h : List Event) (s : ℕ) → MayCome h e → AreIds h → level s (e ∷ h) ≡ level s h → txn s (e ∷ h) ≡ txn s h
     → id_of (e ∷ h) s ≡ id_of h s → own s (e ∷ h) ≡ own s h → view_of s (e ∷ h) ≡ view_of s h → (work : Option Work) → KeepsWork h s work
     → KeepsWork (e ∷ h) s work
-work_stays e h s may ids same-level same-txn same-id same-own same-view None k = record { level_is = same-level ∙ k.level_is; own_is = same-own ∙ k.own_is }
-work_stays e h s may ids same-level same-txn same-id same-own same-view (Some w) k =
-    record {
-      level_is = same-level ∙ k.level_is;
-      txn_is = same-txn ∙ k.txn_is;
-      id_is = same-id ∙ k.id_is;
-      view_is = view_agrees e h s may ids same-id same-view (option_map sight_of w.view) k.view_is;
-      own_is = k.own_is ∙ ap length (sym same-own);
-    }
+work_stays e h s may ids same-level same-txn same-id same-own same-view work k =
+    grind (arith, same-level, same-txn, same-id, same-own, k, view_agrees e h s may ids same-id same-view)
 
 -- an entry of another session leaves it
 other_stays : (e : Event) (h : List Event) (s : ℕ) → MayCome h e → AreIds h → is_of s e ≡ false → (found : Option (Option Work)) → Keeps h s found
     → Keeps (e ∷ h) s found
-other_stays e h s may ids other None k =
-    let same = untouched e h s other in (same.count ∙ k.0, record { level_is = same.level_is ∙ k.1.level_is; own_is = same.own_is ∙ k.1.own_is })
-other_stays e h s may ids other (Some work) k =
-    let same = untouched e h s other in work_stays e h s may ids same.level_is same.txn_is (other_id e h s other) same.own_is same.view_is work k
+other_stays e h s may ids other found k =
+    let same = untouched e h s other in
+    let stays = work_stays e h s may ids same.level_is same.txn_is (other_id e h s other) same.own_is same.view_is in
+    grind (arith, k, same.count, same.level_is, same.own_is, stays)
 
 -- an entry of session s has come, and the work of the others is what it was
 pub record Adds (e : Event) (s : ℕ) (old new : WorldState) : Type 0 where
