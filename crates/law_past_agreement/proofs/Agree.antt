@@ -1,6 +1,5 @@
 -- What becomes of the agreement of rows, transactions and writers with the past, and what readers find.
-use Rattle.std.proofs.Common.{◌≡◌, ◌≢◌, ℕ, ◌+◌, true, false, cond, Option, None, List, [], ◌∷◌, ◌++◌, ◌==◌, length}
-use Rattle.std.proofs.Common.{refl, sym, ap, ◌∙◌, inl, inr, arith}
+use Rattle.std.proofs.Common.{◌≡◌, ◌≢◌, ℕ, ◌+◌, true, false, cond, None, List, [], ◌∷◌, ◌++◌, ◌==◌, length, refl, sym, ap, ◌∙◌, inl, inr, arith}
 use Rattle.std.proofs.lemmas.Bool.Decides.{nat_tests, eqb_tells}
 use Rattle.std.specs.List.{AllByRecursion, list_any}
 use Rattle.std.specs.FinMap.{get}
@@ -13,25 +12,13 @@ use Rattle.read_view.specs.Sight.{Sight}
 use Rattle.txn_table.specs.Txns.{ids_of as active_of, with_id as with_txn_id}
 use Rattle.row_versions.specs.{declared.place.Place.Place, declared.version.Version.Version}
 use Rattle.row_versions.specs.Chains.{Chains, in_model, versions_at, first_seen, newest, sees, IsFirstFrom, IsNoneFrom, IsNext, IsLast}
-use Rattle.law_past_agreement.specs.{Slots.id_for, Slots.writer_without, Ids.given, Ids.id_of, Ids.is_settled, Ids.opens, Ids.txns_of}
+use Rattle.law_past_agreement.specs.{Slots.id_for, Ids.given, Ids.id_of, Ids.is_settled, Ids.opens, Ids.txns_of}
 use Rattle.law_past_agreement.specs.{Order.created, Order.IsOrdered, Order.IsTabled}
-use Rattle.law_past_agreement.specs.Rows.{is_at, row_at, row_opened, seen, row_seen, IsUnseen, IsFirstSeen, IsNoneSeen, IsNextSeen, IsLastSeen, IsNewestSeen}
-use Rattle.law_past_agreement.specs.Agreement.{IsSettled, IsOpenedWith, IsViewOf, versions_of, AreVersions, WriterAgrees}
+use Rattle.law_past_agreement.specs.Rows.{is_at, row_at, row_opened, row_seen, IsUnseen, IsFirstSeen, IsNoneSeen, IsNextSeen, IsLastSeen, IsNewestSeen}
+use Rattle.law_past_agreement.specs.Agreement.{IsSettled, IsOpenedWith, IsViewOf, versions_of, AreVersions}
 use Rattle.law_past_agreement.proofs.{Ids.ids_of, Tables.at_stays, Tables.own_tabled, Tables.committed_tabled, Standing.is_among_all, Standing.standing_some}
 use Rattle.law_past_agreement.proofs.Opens.{active_open, active_none, zero_inactive, all_weaker}
 use Rattle.law_past_agreement.proofs.Rows as versions
-
--- ---- who may write
-
--- who had no changes has none
-pub fewer : (h g : List Event) → ((s : ℕ) → own s h ≡ [] → own s g ≡ []) → ((s : ℕ) → IsOpen s h → IsOpen s g) → (writer : Option ℕ) → WriterAgrees h writer
-    → WriterAgrees g writer
-fewer h g f o writer agrees = grind (arith, f, o, agrees)
-
--- the session that lets go has no changes left
-pub let_go : (h g : List Event) (t : ℕ) → ((s : ℕ) → own s h ≡ [] → own s g ≡ []) → ((s : ℕ) → s ≢ t → IsOpen s h → IsOpen s g) → own t g ≡ []
-    → (writer : Option ℕ) → WriterAgrees h writer → WriterAgrees g (writer_without writer t)
-let_go h g t f o none writer agrees = grind (arith, nat_tests, f, o, none, agrees)
 
 -- ---- transactions
 
@@ -102,30 +89,24 @@ append_empty : {X : Type 0} (xs ys : List X) → xs ++ ys ≡ [] → (xs ≡ [])
 append_empty [] ys is = (refl, is)
 append_empty (x ∷ xs) ys is = cc
 
-module _ (h : List Event) (schemas : List Schema) (chains : Chains) (tables : schemas ≡ created h)
-    (rows : (place : Place) → AreVersions h (row_opened h place) (is_at schemas place) (versions_at place chains)) where
+module _ (h : List Event) (chains : Chains)
+    (rows : (place : Place) → AreVersions h (row_opened h place) (is_at (created h) place) (versions_at place chains)) where
   -- under the view of a session
   pub visible_is : IsOrdered h → (s n : ℕ) (sight : Sight) → IsOpen s h → IsViewOf h s n sight → (place : Place)
       → first_seen (sees (id_of h s) sight) (versions_at place chains) ≡ row_seen h s n place
   visible_is ordered s n sight is-open view place =
-      versions.seen_is_snapshot (row_opened h place) (is_at schemas place) h s n sight (ids_of h ordered) is-open view (rows place)
-      ∙ ap (λ (ts : List Schema). row_at (row_opened h place) (is_at ts place) (seen h s n)) tables
+      versions.seen_is_snapshot (row_opened h place) (is_at (created h) place) h s n sight (ids_of h ordered) is-open view (rows place)
 
   unseen : (place : Place) → versions_at place chains ≡ [] → IsUnseen h place
   unseen place none s n needed =
       let opened = row_opened h place in
-      let at = is_at schemas place in
+      let at = is_at (created h) place in
       let v = rows place in
       let empty = append_empty (versions_of (id_of h v.0) at (own v.0 h)) v.1.behind (sym v.1.parts ∙ none) in
       let below : row_at opened at (committed n h) ≡ None = sym (v.1.reads n needed) ∙ ap (first_seen (is_settled h n)) empty.1 in
       let above : list_any at (own s h) ≡ false =
-      elim (eqb_tells s v.0) [
-        | inl same ↦ ap (λ u. list_any at (own u h)) same.1 ∙ versions.no_change opened at (id_of h v.0) (own v.0 h) empty.0
-        | inr differ ↦ v.1.alone s
-            differ.1
-      ] in
-      ap (λ (ts : List Schema). row_at opened (is_at ts place) (seen h s n)) (sym tables) ∙
-      (versions.row_at-append opened at (own s h) (committed n h) above ∙ below)
+      grind (arith, eqb_tells s v.0, versions.no_change opened at (id_of h v.0) (own v.0 h), empty.0, v.1.alone s) in
+      versions.row_at-append opened at (own s h) (committed n h) above ∙ below
 
   pub first_is : (place first : Place) → IsFirstFrom place chains first → IsFirstSeen h place first
   first_is place first is = record { from = is.from; between = λ other from before. unseen other (is.between other from before) }
@@ -140,10 +121,4 @@ module _ (h : List Event) (schemas : List Schema) (chains : Chains) (tables : sc
   last_is place last other behind = unseen other (last other behind)
 
   pub newest_row : (place : Place) → IsNewestSeen h place (newest (versions_at place chains))
-  newest_row place =
-      let v = rows place in (
-        v.0,
-        λ other differ. ap (λ (ts : List Schema). list_any (is_at ts place) (own other h)) (sym tables) ∙ v.1.alone other differ,
-        versions.newest_is (row_opened h place) (is_at schemas place) h v.0 v.1 ∙ ap
-            (λ (ts : List Schema). row_at (row_opened h place) (is_at ts place) (seen h v.0 (commits h))) tables,
-      )
+  newest_row place = let v = rows place in (v.0, v.1.alone, versions.newest_is (row_opened h place) (is_at (created h) place) h v.0 v.1)

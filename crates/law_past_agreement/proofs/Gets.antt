@@ -20,8 +20,7 @@ module _ (db : Database) where
   tables_after (Create schema ∷ changes) =
       let before = tables_after changes in
       (before.0 ++ schema ∷ [], ap (λ (l : List Schema). l ++ schema ∷ []) before.1 ∙ append_assoc db.schemas before.0 (schema ∷ []))
-  tables_after (Put table row ∷ changes) = tables_after changes
-  tables_after (Remove table key ∷ changes) = tables_after changes
+  tables_after (change ∷ changes) = tables_after changes
 
   key_after : (changes : List Change) (table : ℕ) (row : List Value) → table < length db.schemas
       → key_in (changed db changes).schemas table row ≡ key_in db.schemas table row

@@ -1,12 +1,11 @@
 -- The open transactions that are read off an ordered past are those of its sessions.
-use Rattle.std.proofs.Common.{◌≡◌, ◌≢◌, ℕ, ◌+◌, ◌<◌, true, false, List, [], ◌∷◌, ◌++◌, ◌==◌, refl, sym, ap, ◌∙◌}
-use Rattle.std.proofs.Common.{arith}
+use Rattle.std.proofs.Common.{◌≡◌, ◌≢◌, ℕ, ◌+◌, ◌<◌, true, false, List, [], ◌∷◌, ◌++◌, ◌==◌, refl, sym, ap, ◌∙◌, arith}
 use Rattle.std.proofs.lemmas.Bool.Decides.{nat_tests}
 use Rattle.std.proofs.lemmas.Bool.{cond_both}
 use Rattle.std.specs.List.{AllByRecursion, list_any}
 use Rattle.inno_model.specs.declared.event.Event.{Event}
 use Rattle.inno_model.specs.declared.event.Event.TheVariants.{Begin, Changed, Committed, RolledBack}
-use Rattle.inno_model.specs.Past.{level, txn, IsOpen}
+use Rattle.inno_model.specs.Past.{txn, IsOpen}
 use Rattle.law_past_agreement.specs.Order.{MayCome, IsOrdered}
 use Rattle.txn_table.specs.Txns.{Entry, with_id, without, id_at, is_there, ids_of as active_of}
 use Rattle.law_past_agreement.specs.Ids.{given, id_of, opens}

@@ -86,18 +86,14 @@ module _ (opened : Option (List Value)) (at : Change → Bool) where
 
   -- Where a session alone has changes, it can be taken for the writer.
   by_writer : {vs : List Version} (h : List Event) (t : ℕ) → ((s : ℕ) → s ≢ t → own s h ≡ []) → AreVersions h opened at vs → AreVersionsBy h t opened at vs
-  by_writer {vs} h t lone v =
-      elim (eqb_tells v.0 t) [
-        | inl same ↦ subst (λ w. AreVersionsBy h w opened at vs) same.1 v.1
-        | inr differ ↦
-            record {
-              behind = v.1.behind;
-              parts = grind (arith, v.1.parts, lone v.0 differ.1, versions_of-none (id_of h t) (own t h), v.1.alone t, differ.1);
-              alone = λ s other. ap (list_any at) (lone s other);
-              are_settled = v.1.are_settled;
-              reads = v.1.reads;
-            }
-      ]
+  by_writer h t lone v =
+      record {
+        behind = v.1.behind;
+        parts = grind (arith, eqb_tells v.0 t, v.1.parts, lone v.0, versions_of-none (id_of h t) (own t h), v.1.alone t);
+        alone = λ s other. ap (list_any at) (lone s other);
+        are_settled = v.1.are_settled;
+        reads = v.1.reads;
+      }
 
   -- the newest row of a place, as its one writer sees it
   pub newest_is : {vs : List Version} (h : List Event) (w : ℕ) → AreVersionsBy h w opened at vs → newest vs ≡ row_at opened at (seen h w (commits h))

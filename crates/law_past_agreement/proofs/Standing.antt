@@ -1,34 +1,23 @@
 -- What one more entry does to ids, views and what is owed.
-use Rattle.std.proofs.Common.{◌≡◌, ℕ, ◌+◌, ◌<◌, ◌≤◌, true, false, Option, Some, None, List, [], ◌∷◌, refl, sym, ap, ◌∙◌, ◌⊎◌, inl, inr, arith}
-use Rattle.std.proofs.lemmas.Bool.Decides.{nat_tests, eqb_tells}
+use Rattle.std.proofs.Common.{◌≡◌, ℕ, ◌+◌, ◌<◌, ◌≤◌, true, false, Option, Some, None, List, [], ◌∷◌, refl, sym, ◌∙◌, ◌⊎◌, inl, inr, arith}
+use Rattle.std.proofs.lemmas.Bool.Decides.{nat_tests}
 use Rattle.inno_db.specs.declared.change.Change.{Change}
 use Rattle.inno_model.specs.declared.event.Event.{Event}
 use Rattle.inno_model.specs.declared.event.Event.TheVariants.{Changed}
-use Rattle.inno_model.specs.Past.{is_of, view_of, commits, IsOpen}
+use Rattle.inno_model.specs.Past.{is_of, view_of, commits}
 use Rattle.inno_model.proofs.{Untouched.untouched, Commits.commits_rise}
 use Rattle.read_view.specs.Sight.{Sight}
 use Rattle.law_past_agreement.specs.{Ids.given, Ids.id_of, Ids.is_among, Order.MayCome, Rows.IsNeeded}
 use Rattle.law_past_agreement.specs.Agreement.{IsSettled, IsStanding, ViewAgrees, owed_by}
 use Rattle.law_past_agreement.proofs.Ids.{AreIds, among_positive, later_not_among}
 
--- what has committed stays committed
-among_more : (e : Event) (h : List Event) (n id : ℕ) → is_among h n id ≡ true → is_among (e ∷ h) n id ≡ true
-among_more e h n id is = grind (arith, nat_tests, is)
-
+-- what is settled stays so
 pub settled_more : (e : Event) (h : List Event) (id : ℕ) → IsSettled h id → IsSettled (e ∷ h) id
-settled_more e h id (inl zero-is) = inl zero-is
-settled_more e h id (inr c) = inr (c.0, among_more e h c.0 id c.1)
+settled_more e h id settled = grind (arith, nat_tests, settled)
 
 -- who may read the first n commits after the entry could before
-view_before : (e : Event) (h : List Event) (n s : ℕ) → IsOpen s (e ∷ h) → view_of s (e ∷ h) ≡ Some n → IsNeeded h n
-view_before e h n s is-open is = grind (arith, nat_tests, is-open, is)
-
 pub needed_before : (e : Event) (h : List Event) (n : ℕ) → IsNeeded (e ∷ h) n → IsNeeded h n
-needed_before e h n (inl latest) = inl (omega (arith, latest, commits_rise e h))
-needed_before e h n (inr reader) = view_before e h n reader.0 reader.1 reader.2
-
-is_among_stays : (e : Event) (h : List Event) (n id : ℕ) → n ≤ commits h → is_among (e ∷ h) n id ≡ is_among h n id
-is_among_stays e h n id le = grind (arith, nat_tests)
+needed_before e h n needed = grind (arith, nat_tests, needed, commits_rise e h)
 
 is_among_mono : (h : List Event) (m n id : ℕ) → m ≤ n → is_among h m id ≡ true → is_among h n id ≡ true
 is_among_mono [] m n id le is = is
@@ -44,8 +33,7 @@ given_rise e h = grind (arith, nat_tests)
 
 -- no id is 0
 pub standing_some : (h : List Event) (id : ℕ) → IsStanding h id → 0 < id
-standing_some h id (inl c) = among_positive h c.0 id c.1
-standing_some h id (inr o) = o.3
+standing_some h id standing = grind (arith, standing, among_positive h)
 
 -- an id that stands stood before, or has just been given
 stood : (e : Event) (h : List Event) (id : ℕ) → MayCome h e → IsStanding (e ∷ h) id → IsStanding h id ⊎ (given h < id)
@@ -64,7 +52,7 @@ view_agrees e h s may ids same-id same-view (Some sight) agrees = (
         within = omega (arith, commits_rise e h, v.within);
         earlier = v.earlier;
         alike = λ id standing differ.
-            let among = is_among_stays e h n id v.within in
+            let among : is_among (e ∷ h) n id ≡ is_among h n id = grind (arith, nat_tests, v.within) in
             elim (stood e h id may standing) [
               | inl before ↦ v.alike id before (λ same. differ (same ∙ sym same-id)) ∙ sym among
               | inr new ↦ v.later id new ∙ sym (among ∙ later_not_among h ids n id new)
@@ -84,16 +72,7 @@ view_agrees_changed s change h (Some sight) agrees = (
         within = v.within;
         earlier = v.earlier;
         alike = λ id standing differ.
-            elim standing [
-              | inl c ↦ v.alike id (inl c) (λ same. differ (grind (arith, nat_tests, same, among_positive h c.0 id c.1)))
-              | inr o ↦
-                  elim (eqb_tells s o.0) [
-                    | inl same ↦ absurd (differ (sym o.2 ∙ ap (λ u. id_of (Changed s change ∷ h) u) (sym same.1)))
-                    | inr other ↦
-                        let is : id_of h o.0 ≡ id = grind (arith, nat_tests, o.2, other.0) in
-                        v.alike id (inr (o.0, o.1, is, o.3)) (λ same. differ (grind (arith, nat_tests, same, o.3)))
-                  ]
-            ];
+            v.alike id (grind (arith, nat_tests, standing, differ)) (λ same. grind (arith, nat_tests, standing, differ, same, among_positive h));
         later = λ id lt. v.later id (omega (arith, given_rise (Changed s change) h, lt));
       },
 )

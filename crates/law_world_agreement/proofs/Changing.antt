@@ -1,6 +1,5 @@
 -- A row that is changed, and a table that is made.
-use Rattle.std.proofs.Common.{◌≡◌, ℕ, ◌+◌, ◌<◌, ◌^◌, cond, ◌==◌, List, [], ◌∷◌, ◌++◌, length, option_map, is_some, Some}
-use Rattle.std.proofs.Common.{sym, ap, subst, ◌∙◌, arith}
+use Rattle.std.proofs.Common.{◌≡◌, ℕ, ◌+◌, ◌<◌, ◌^◌, cond, ◌==◌, List, [], ◌∷◌, ◌++◌, length, option_map, is_some, Some, sym, ap, subst, ◌∙◌, arith}
 use Rattle.std.proofs.lemmas.Bool.Decides.{nat_tests}
 use Rattle.inno_types.specs.declared.value.Schema.{Schema}
 use Rattle.inno_db.specs.{declared.change.Change.Change, declared.change.Change.TheVariants.Create}
@@ -12,7 +11,8 @@ use Rattle.law_past_agreement.specs.{Order.created, Order.IsOfRow, Order.IsTable
 use Rattle.law_past_agreement.proofs.{Ids.ids_of, Agree.id_changed, Agree.txns_changed, Agree.rows_created, Rows.rows_changed, Standing.view_agrees_changed}
 use Rattle.world.specs.State.{WorldState, Session, Work, IsSession, HasWork}
 use Rattle.law_world_agreement.specs.{Agreement.sight_of, Agreement.Agrees, Steps.IsChangedBy}
-use Rattle.law_world_agreement.proofs.{Settled.IsKept, Settled.kept_of, Settled.works_are, Settled.after, Opening.joined_of, Opening.mine_tells}
+use Rattle.law_world_agreement.proofs.Settled.{IsKept, kept_of, rows_told, works_are, after}
+use Rattle.law_world_agreement.proofs.Opening.{joined_of, mine_tells}
 
 pub one_session : (s : ℕ) (a b : Session) (state : WorldState) → IsSession s a state → IsSession s b state → a ≡ b
 one_session s a b state first second = cc
@@ -86,5 +86,4 @@ pub created_agrees : (chains : Chains) (old new : WorldState) (s : ℕ) (schema 
 created_agrees chains old new s schema agrees by few =
     let more : new.schemas ≡ created old.past ++ schema ∷ [] = by.schemas ∙ ap (λ (ts : List Schema). ts ++ schema ∷ []) agrees.lists.tables in
     changes agrees by tt few more
-    (λ p. rw more (rows_created old.past agrees.lists.ordered s schema agrees.lists.writes.1 p
-    (subst (λ (ts : List Schema). AreVersions old.past (row_opened old.past p) (is_at ts p) (versions_at p chains)) agrees.lists.tables (agrees.lists.rows p))))
+    (λ p. rw more (rows_created old.past agrees.lists.ordered s schema agrees.lists.writes.1 p (rows_told agrees p)))

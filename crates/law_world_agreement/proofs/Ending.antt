@@ -8,7 +8,7 @@ use Rattle.sql_history.specs.Settings.{at_end}
 use Rattle.entries.specs.Index.{Paged}
 use Rattle.txn_table.specs.Txns.{without}
 use Rattle.law_past_agreement.specs.{Slots.writer_without, Ids.opens, Ids.txns_of, Rows.place_in, Rows.is_at, Rows.row_opened, Agreement.IsWorkOf}
-use Rattle.law_past_agreement.proofs.{Ids.ids_of, Agree.let_go, Rows.rows_stay, Rows.rows_committed}
+use Rattle.law_past_agreement.proofs.{Ids.ids_of, Rows.rows_stay, Rows.rows_committed}
 use Rattle.world.specs.{State.WorldState, State.Session, State.Work, State.HasWork, Endings.committed, Endings.rolled_back, Endings.IsCommitted}
 use Rattle.world.specs.{Endings.IsRolledBack}
 use Rattle.law_world_agreement.specs.Agreement.{work_at, Agrees}
@@ -48,8 +48,7 @@ module _ (chains : Chains) (writer : Option ℕ) (old : WorldState) (s : ℕ) (s
       None (works_here old.sessions s session x has.session_is) (grind (arith, nat_tests))
       (λ place. rows_committed (row_opened old.past place) (is_at old.schemas place) s old.past was_open (ids_of old.past agrees.lists.ordered)
       (agrees.lists.rows place))
-      (let_go old.past (Committed s ∷ old.past) s (λ u none. grind (arith, nat_tests, none)) (λ u differ o. grind (arith, nat_tests, o, differ))
-      (grind (arith, nat_tests)) writer agrees.lists.writes)
+      (grind (arith, nat_tests, agrees.lists.writes))
 
   rolls_back : own s old.past ≡ [] → (paged : Option Paged)
       → Agrees chains (writer_without writer s) (record (rolled_back s session work old) { paged = paged })
@@ -60,8 +59,7 @@ module _ (chains : Chains) (writer : Option ℕ) (old : WorldState) (s : ℕ) (s
       txns_now None (works_here old.sessions s session x has.session_is) (grind (arith, nat_tests))
       (λ place. rows_stay (row_opened old.past place) (is_at old.schemas place) (RolledBack s) old.past (λ u. inr refl)
       (own_same (RolledBack s) old.past s (mine_tells s) none own_now) (λ n id. refl) (λ n. refl) (agrees.lists.rows place))
-      (let_go old.past (RolledBack s ∷ old.past) s (λ u none. grind (arith, nat_tests, none)) (λ u differ o. grind (arith, nat_tests, o, differ))
-      own_now writer agrees.lists.writes)
+      (grind (arith, nat_tests, agrees.lists.writes))
 
 pub committed_agrees : (chains : Chains) (writer : Option ℕ) (old new : WorldState) (s : ℕ) → Agrees chains writer old → IsCommitted s old new
     → length old.past + 1 < 2 ^ 63 → Agrees chains (writer_without writer s) new

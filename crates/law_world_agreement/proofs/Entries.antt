@@ -1,5 +1,5 @@
 -- Entries that change no transaction, and a change that is put back.
-use Rattle.std.proofs.Common.{◌≡◌, ◌≢◌, ⊎_elim, ℕ, ◌+◌, ◌<◌, ◌^◌, false, cond, List, [], ◌∷◌, length, slice_get, option_map, is_some, Option, Some, None}
+use Rattle.std.proofs.Common.{◌≡◌, ◌≢◌, ⊎_elim, ℕ, ◌+◌, ◌<◌, ◌^◌, false, cond, List, ◌∷◌, length, slice_get, option_map, is_some, Option, Some, None}
 use Rattle.std.proofs.Common.{inr, refl, sym, ap, subst, ◌∙◌, arith}
 use Rattle.std.proofs.lemmas.Bool.Decides.{nat_tests}
 use Rattle.std.proofs.lemmas.Option.{slice_get_cases}
@@ -11,7 +11,7 @@ use Rattle.inno_model.specs.Past.{is_of, level, txn, own, view_of, committed, st
 use Rattle.row_versions.specs.{declared.place.Place.Place, Chains.Chains, Chains.Pops, Chains.versions_at, Chains.older}
 use Rattle.law_past_agreement.specs.{Ids.id_of, Ids.is_among, Ids.txns_of, Rows.place_in, Rows.is_place, Rows.is_at, Rows.row_opened}
 use Rattle.law_past_agreement.specs.{Order.created, Order.IsOfRow, Order.IsUndoable, Order.MayCome, Agreement.ViewAgrees}
-use Rattle.law_past_agreement.proofs.{Ids.ids_of, Agree.fewer, Rows.rows_stay, Rows.rows_undone, Rows.own_undone, Standing.view_agrees}
+use Rattle.law_past_agreement.proofs.{Ids.ids_of, Rows.rows_stay, Rows.rows_undone, Rows.own_undone, Standing.view_agrees}
 use Rattle.world.specs.State.{WorldState, Session}
 use Rattle.law_world_agreement.specs.{Agreement.sight_of, Agreement.Agrees, Steps.IsEntered, Steps.IsTakenBackBy}
 use Rattle.law_world_agreement.proofs.Settled.{works_at, Keeps, keeps_of, kept_of, works_are, work_stays, agreeing, agrees_alike, after}
@@ -48,7 +48,7 @@ module _ (chains : Chains) (writer : Option ℕ) (old new : WorldState) where
       (subst (Keeps h s) was (keeps_of agrees s)))
       (λ place. rw (entered.schemas, is.opening_is) (rows_stay (row_opened h place) (is_at old.schemas place) e h (λ u. inr (is.id_is u)) is.own_is is.among_is
       is.committed_is (agrees.lists.rows place)))
-      (fewer h (e ∷ h) (λ u none. is.own_is u ∙ none) (λ u o. ap is_some (is.level_is u) ∙ o) writer agrees.lists.writes)
+      (grind (arith, is.own_is, is.level_is, agrees.lists.writes))
 
   -- no entry was added
   pub unentered_agrees : Agrees chains writer old → IsEntered old.past old new → Agrees chains writer new
@@ -98,4 +98,4 @@ taken_back_agrees chains chains' writer old new s keep change before place agree
     })
     (λ p. rw by.schemas (rows_undone (row_opened h p) (is_at old.schemas p) s keep change before h own_is count
     (pops p ∙ ap (λ o. cond (is_place p o) (older (versions_at p chains)) (versions_at p chains)) (sym place_is)) (agrees.lists.rows p)))
-    (fewer h (Undone s keep ∷ h) (λ u none. grind (arith, nat_tests, none, own_is)) (λ u is. is) writer agrees.lists.writes)
+    (grind (arith, nat_tests, own_is, agrees.lists.writes))

@@ -1,6 +1,5 @@
 -- The first world, and sessions that join.
-use Rattle.std.proofs.Common.{◌≡◌, ℕ, zero, suc, ◌+◌, List, [], ◌∷◌, ◌++◌, Option, Some, None, refl, sym, ap, subst, ◌∙◌, arith}
-use Rattle.std.proofs.Common.{length-append}
+use Rattle.std.proofs.Common.{◌≡◌, ℕ, zero, suc, ◌+◌, List, [], ◌∷◌, ◌++◌, Option, Some, None, refl, sym, ap, subst, ◌∙◌, arith, length-append}
 use Rattle.inno_model.specs.declared.event.Event.TheVariants.{Opened}
 use Rattle.row_versions.specs.{Chains.Chains, Chains.versions_at}
 use Rattle.law_past_agreement.proofs.Agree.{opened_versions}

@@ -11,7 +11,7 @@ use Rattle.inno_model.proofs.Untouched.{untouched}
 use Rattle.txn_table.specs.Txns.{Txns, ids_of as active_of}
 use Rattle.row_versions.specs.{Chains.Chains}
 use Rattle.law_past_agreement.specs.{Ids.id_of, Rows.is_at, Rows.row_opened, Agreement.IsIdle, Agreement.IsViewOf}
-use Rattle.law_past_agreement.proofs.{Agree.fewer, Agree.view_now, Rows.rows_stay}
+use Rattle.law_past_agreement.proofs.{Agree.view_now, Rows.rows_stay}
 use Rattle.world.specs.State.{WorldState, Session, Work, IsSession, HasWork}
 use Rattle.world.specs.Sessions.{fresh_work}
 use Rattle.law_world_agreement.specs.{Agreement.Agrees, Steps.session_begun, Steps.opened, Steps.viewed}
@@ -85,7 +85,7 @@ opened_agrees chains writer old s l session agrees there none few =
     (grind (arith, nat_tests, own_now))
     (λ place. rows_stay (row_opened h place) (is_at old.schemas place) (Begin s m l) h same_id
     (own_same (Begin s m l) h s (mine_tells s) idle.own_is own_now) (λ n id. refl) (λ n. refl) (agrees.lists.rows place))
-    (fewer h (Begin s m l ∷ h) (λ u is. grind (arith, nat_tests, is)) (λ u o. grind (arith, nat_tests, o)) writer agrees.lists.writes)
+    (grind (arith, nat_tests, agrees.lists.writes))
 
 pub viewed_agrees : (chains : Chains) (writer : Option ℕ) (old : WorldState) (s : ℕ) (session : Session) (work : Work) → Agrees chains writer old
     → HasWork s session work old → length old.past + 1 < 2 ^ 63 → Agrees chains writer (viewed s session work old)
@@ -102,4 +102,4 @@ viewed_agrees chains writer old s session work agrees has few =
     (record { level_is = mine.level_is; txn_is = mine.txn_is; id_is = mine.id_is; view_is = (commits h, view); own_is = mine.own_is })
     (λ place. rows_stay (row_opened h place) (is_at old.schemas place) (View s) h (λ u. inr refl) (λ u. refl) (λ n id. refl) (λ n. refl)
     (agrees.lists.rows place))
-    (fewer h (View s ∷ h) (λ u none. none) (λ u is. is) writer agrees.lists.writes)
+    (grind (arith, agrees.lists.writes))

@@ -6,7 +6,7 @@ use Rattle.law_past_agreement.specs.{Rows.row_seen, Rows.IsNewestSeen, Agreement
 use Rattle.law_past_agreement.proofs.Agree.{visible_is, newest_row}
 use Rattle.world.specs.State.{WorldState, Session, Work, Seen, HasWork}
 use Rattle.law_world_agreement.specs.Agreement.{sight_of, Agrees}
-use Rattle.law_world_agreement.proofs.Settled.{kept_of}
+use Rattle.law_world_agreement.proofs.Settled.{kept_of, rows_told}
 
 module _ (chains : Chains) (writer : Option ℕ) (state : WorldState) (agrees : Agrees chains writer state) where
   -- by the view of an open transaction
@@ -18,8 +18,8 @@ module _ (chains : Chains) (writer : Option ℕ) (state : WorldState) (agrees : 
       let v = subst (λ o. ViewAgrees state.past s (option_map sight_of o)) view mine.view_is in
       let same : v.0 ≡ n = let e = sym v.1.is-view ∙ is in cc in
       ap (λ id. first_seen (sees id (sight_of seen)) (versions_at place chains)) (sym mine.id_is)
-      ∙ (visible_is state.past state.schemas chains agrees.lists.tables agrees.lists.rows agrees.lists.ordered s v.0 (sight_of seen) (ap is_some mine.level_is)
-      v.1 place ∙ ap (λ m. row_seen state.past s m place) same)
+      ∙ (visible_is state.past chains (rows_told agrees) agrees.lists.ordered s v.0 (sight_of seen) (ap is_some mine.level_is) v.1 place
+      ∙ ap (λ m. row_seen state.past s m place) same)
 
   pub seen_newest : (place : Place) → IsNewestSeen state.past place (newest (versions_at place chains))
-  seen_newest = newest_row state.past state.schemas chains agrees.lists.tables agrees.lists.rows
+  seen_newest = newest_row state.past chains (rows_told agrees)

@@ -66,6 +66,12 @@ module _ {chains : Chains} {writer : Option ℕ} {state : WorldState} (agrees : 
   pub kept_of : {s : ℕ} {session : Session} {work : Work} → HasWork s session work state → IsKept state.past s work
   kept_of {s} has = subst (Keeps state.past s) (works_are has) (keeps_of s)
 
+  -- the rows, in the tables that the past has made
+  pub rows_told : (place : Place) → AreVersions state.past (row_opened state.past place) (is_at (created state.past) place) (versions_at place chains)
+  rows_told place =
+      subst (λ (ts : List Schema). AreVersions state.past (row_opened state.past place) (is_at ts place) (versions_at place chains)) agrees.lists.tables
+      (agrees.lists.rows place)
+
 -- the other way
 pub work_from : (h : List Event) (schemas : List Schema) (s : ℕ) (work : Option Work) → KeepsWork h s work
     → WorkAgrees schemas h s (option_map (work_at (map (place_in schemas) (own s h))) work)
