@@ -1,5 +1,5 @@
 -- What becomes of the agreement of rows, transactions and writers with the past, and what readers find.
-use Rattle.std.proofs.Common.{◌≡◌, ◌≢◌, ℕ, ◌+◌, true, false, cond, None, List, [], ◌∷◌, ◌++◌, ◌==◌, length, refl, sym, ap, ◌∙◌, inl, inr, arith}
+use Rattle.std.proofs.Common.{◌≡◌, ◌≢◌, ℕ, ◌+◌, true, false, None, List, [], ◌∷◌, ◌++◌, length, refl, sym, ap, ◌∙◌, inl, inr, arith}
 use Rattle.std.proofs.lemmas.Bool.Decides.{nat_tests, eqb_tells}
 use Rattle.std.specs.List.{AllByRecursion, list_any}
 use Rattle.std.specs.FinMap.{get}
@@ -7,12 +7,12 @@ use Rattle.inno_types.specs.{declared.value.Schema.Schema}
 use Rattle.inno_db.specs.{Database.Database, declared.change.Change.Change, declared.change.Change.TheVariants.Create}
 use Rattle.inno_model.specs.declared.event.Event.{Event}
 use Rattle.inno_model.specs.declared.event.Event.TheVariants.{Opened, View, Changed}
-use Rattle.inno_model.specs.Past.{txn, own, commits, committed, IsOpen}
+use Rattle.inno_model.specs.Past.{own, commits, committed, IsOpen}
 use Rattle.read_view.specs.Sight.{Sight}
-use Rattle.txn_table.specs.Txns.{ids_of as active_of, with_id as with_txn_id}
+use Rattle.txn_table.specs.Txns.{ids_of as active_of}
 use Rattle.row_versions.specs.{declared.place.Place.Place, declared.version.Version.Version}
 use Rattle.row_versions.specs.Chains.{Chains, in_model, versions_at, first_seen, newest, sees, IsFirstFrom, IsNoneFrom, IsNext, IsLast}
-use Rattle.law_past_agreement.specs.{Slots.id_for, Ids.given, Ids.id_of, Ids.is_settled, Ids.opens, Ids.txns_of}
+use Rattle.law_past_agreement.specs.{Ids.given, Ids.id_of, Ids.is_settled, Ids.opens}
 use Rattle.law_past_agreement.specs.{Order.created, Order.IsOrdered, Order.IsTabled}
 use Rattle.law_past_agreement.specs.Rows.{is_at, row_at, row_opened, row_seen, IsUnseen, IsFirstSeen, IsNoneSeen, IsNextSeen, IsLastSeen, IsNewestSeen}
 use Rattle.law_past_agreement.specs.Agreement.{IsSettled, IsOpenedWith, IsViewOf, versions_of, AreVersions}
@@ -21,16 +21,6 @@ use Rattle.law_past_agreement.proofs.Opens.{active_open, active_none, zero_inact
 use Rattle.law_past_agreement.proofs.Rows as versions
 
 -- ---- transactions
-
--- the id that a change is made with
-pub id_changed : (s : ℕ) (change : Change) (h : List Event) → id_for (id_of h s) (given h + 1) ≡ id_of (Changed s change ∷ h) s
-id_changed s change h = grind (arith, nat_tests)
-
--- the table of transactions after it
-pub txns_changed : (s : ℕ) (change : Change) (h : List Event)
-    → cond (id_of h s == 0) (record (txns_of h) { open_txns = with_txn_id (txn s h) (given h + 1) (opens h); next = given h + 1 + 1 }) (txns_of h)
-    ≡ txns_of (Changed s change ∷ h)
-txns_changed s change h = grind (arith, nat_tests)
 
 -- what is taken for a view now, whoever asks it
 pub view_now : (h : List Event) → IsOrdered h → (s : ℕ)

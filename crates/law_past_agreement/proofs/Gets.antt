@@ -1,14 +1,13 @@
 -- The row of a place after changes is the one that they leave there.
-use Rattle.std.proofs.Common.{◌≡◌, ℕ, ◌<◌, cond, Some, None, List, [], ◌∷◌, ◌++◌, length, refl, sym, ap, ◌∙◌}
+use Rattle.std.proofs.Common.{◌≡◌, ℕ, ◌<◌, List, [], ◌∷◌, ◌++◌, length, arith, refl, sym, ap, ◌∙◌}
 use Rattle.std.proofs.lemmas.List.{append-nil, append_assoc}
 use Rattle.std.specs.List.{AllByRecursion}
-use Rattle.std.specs.Ordering.{eq_by_cmp}
 use Rattle.std.specs.FinMap.{get, get-insert, get-remove}
 use Rattle.inno_types.specs.{declared.value.Value.Value, declared.value.Schema.Schema}
 use Rattle.inno_db.specs.{declared.change.Change.Change, declared.change.Change.TheVariants.Create, declared.change.Change.TheVariants.Put}
-use Rattle.inno_db.specs.{declared.change.Change.TheVariants.Remove, Database.Database, Database.place_cmp, Database.key_in, Order.place_cmp_total}
+use Rattle.inno_db.specs.{declared.change.Change.TheVariants.Remove, Database.Database, Database.key_in, Order.place_cmp_total}
 use Rattle.inno_model.specs.{declared.event.Event.Event, Past.changed, Past.own, Past.committed}
-use Rattle.row_versions.specs.{declared.place.Place.Place, Chains.in_model, Chains.is_same_place, Laws.same_place_equiv}
+use Rattle.row_versions.specs.{declared.place.Place.Place, Chains.in_model, Laws.same_place_equiv}
 use Rattle.law_past_agreement.specs.{Order.created, Order.IsTabled, Order.IsOrdered, Rows.is_at, Rows.row_at, Rows.seen, Rows.row_seen}
 use Rattle.law_past_agreement.specs.{DatabaseTables.with_all_tables}
 use Rattle.law_past_agreement.proofs.Tables.{key_stays, all_joined, own_tabled, committed_tabled}
@@ -33,16 +32,16 @@ module _ (db : Database) where
   get_is (Create schema ∷ changes) all p = get_is changes all.1 p
   get_is (Put table row ∷ changes) all p =
       let at : Place = record { table = table; key = key_in db.schemas table row } in
-      get-insert place_cmp_total (changed db changes).rows (table, key_in (changed db changes).schemas table row) row (in_model p)
-      ∙ (ap (λ (key : Value). cond (eq_by_cmp place_cmp (in_model p) (table, key)) (Some row) (get (changed db changes).rows (in_model p)))
-      (key_after changes table row all.0)
-      ∙ (ap (λ b. cond b (Some row) (get (changed db changes).rows (in_model p))) (same_place_equiv.symm p at)
-      ∙ ap (cond (is_same_place at p) (Some row)) (get_is changes all.1 p)))
+      grind (
+        arith,
+        get-insert place_cmp_total (changed db changes).rows (table, key_in (changed db changes).schemas table row) row (in_model p),
+        key_after changes table row all.0,
+        same_place_equiv.symm p at,
+        get_is changes all.1 p,
+      )
   get_is (Remove table key ∷ changes) all p =
       let at : Place = record { table = table; key = key } in
-      get-remove place_cmp_total (changed db changes).rows (table, key) (in_model p)
-      ∙ (ap (λ b. cond b None (get (changed db changes).rows (in_model p))) (same_place_equiv.symm p at)
-      ∙ ap (cond (is_same_place at p) None) (get_is changes all.1 p))
+      grind (arith, get-remove place_cmp_total (changed db changes).rows (table, key) (in_model p), same_place_equiv.symm p at, get_is changes all.1 p)
 
 pub seen_is : (h : List Event) (s n : ℕ) (place : Place) → IsOrdered h
     → get (changed (with_all_tables h) (seen h s n)).rows (in_model place) ≡ row_seen h s n place

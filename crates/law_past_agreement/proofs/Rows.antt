@@ -1,6 +1,6 @@
 -- What one more entry does to the versions of a place.
-use Rattle.std.proofs.Common.{◌≡◌, ◌≢◌, ℕ, ◌+◌, ◌<◌, Bool, true, false, cond, nat_lt, Option, Some, None, List, [], ◌∷◌, ◌++◌, length}
-use Rattle.std.proofs.Common.{is_some, ◌==◌, ◌||◌, refl, sym, ap, subst, ◌∙◌, ◌⊎◌, inl, inr, arith}
+use Rattle.std.proofs.Common.{◌≡◌, ◌≢◌, ℕ, ◌+◌, ◌<◌, Bool, true, false, cond, nat_lt, Option, List, [], ◌∷◌, ◌++◌, length}
+use Rattle.std.proofs.Common.{◌==◌, ◌||◌, refl, sym, ap, subst, ◌∙◌, ◌⊎◌, inl, inr, arith}
 use Rattle.std.proofs.lemmas.Bool.Decides.{nat_tests, eqb_tells}
 use Rattle.std.proofs.lemmas.Bool.{cases_lt}
 use Rattle.std.specs.List.{AllByRecursion, list_any}
@@ -8,7 +8,7 @@ use Rattle.inno_types.specs.declared.value.Value.{Value}
 use Rattle.inno_db.specs.declared.change.Change.{Change}
 use Rattle.inno_model.specs.{declared.event.Event.Event, declared.event.Event.TheVariants.Changed, declared.event.Event.TheVariants.Undone}
 use Rattle.inno_model.specs.{declared.event.Event.TheVariants.Committed}
-use Rattle.inno_model.specs.Past.{level, own, commits, committed, IsOpen}
+use Rattle.inno_model.specs.Past.{own, commits, committed, IsOpen}
 use Rattle.read_view.specs.Sight.{Sight, is_seen}
 use Rattle.row_versions.specs.{declared.version.Version.Version, Chains.sees, Chains.first_seen, Chains.newest, Chains.older}
 use Rattle.law_past_agreement.specs.{Ids.id_of, Ids.is_among, Ids.is_settled, Rows.row_of, Rows.row_at, Rows.seen}
@@ -216,22 +216,12 @@ module _ (opened : Option (List Value)) (at : Change → Bool) where
 
   module _ (h : List Event) (s n : ℕ) (sight : Sight) (ids : AreIds h) (is-open : IsOpen s h) (view : IsViewOf h s n sight) where
     -- The versions of another open transaction are passed over.
-    other_unseen : (w : ℕ) → w ≢ s → (behind : List Version)
-        → first_seen (sees (id_of h s) sight) (versions_of (id_of h w) at (own w h) ++ behind) ≡ first_seen (sees (id_of h s) sight) behind
-    other_unseen w differ behind =
-        elim (cases_lt 0 (id_of h w)) [
-          | inl some ↦ go some (level w h) refl
-          | inr le ↦ ap (λ changes. first_seen (sees (id_of h s) sight) (versions_of (id_of h w) at changes ++ behind)) (ids.no_id w (omega (arith, le)))
-        ] where
-          go : 0 < id_of h w → (o : Option _) → level w h ≡ o
-              → first_seen (sees (id_of h s) sight) (versions_of (id_of h w) at (own w h) ++ behind) ≡ first_seen (sees (id_of h s) sight) behind
-          go some None is = ap (λ changes. first_seen (sees (id_of h s) sight) (versions_of (id_of h w) at changes ++ behind)) (ids.closed w is)
-          go some (Some l) is =
-              let is-open-w : IsOpen w h = ap is_some is in
-              let apart : id_of h w ≢ id_of h s = λ same. differ (ids.distinct w s is-open-w is-open some same) in
-              let unseen : is_seen sight (id_of h w) ≡ false =
-              view.alike (id_of h w) (inr (w, is-open-w, refl, some)) apart ∙ ids.open_not_among w n is-open-w in
-              seen_past (sees (id_of h s) sight) (id_of h w) at (own w h) behind (grind (arith, nat_tests, apart, unseen))
+    other_unseen : (w : ℕ) → w ≢ s → (own w h ≡ []) ⊎ (sees (id_of h s) sight (id_of h w) ≡ false)
+    other_unseen w differ =
+        let unseen : IsOpen w h → 0 < id_of h w → is_seen sight (id_of h w) ≡ false =
+        λ open-w some. view.alike (id_of h w) (inr (w, open-w, refl, some)) (λ same. differ (ids.distinct w s open-w is-open some same))
+        ∙ ids.open_not_among w n open-w in
+        grind (arith, nat_tests, unseen, differ, ids.no_id w, ids.closed w, ids.distinct w s)
 
     -- What is settled is seen where it is among the first n, or older.
     settled_alike : (id : ℕ) → IsSettled h id → sees (id_of h s) sight id ≡ is_settled h n id
@@ -246,11 +236,12 @@ module _ (opened : Option (List Value)) (at : Change → Bool) where
         ∙ by.reads n (inr (s, is-open, view.is-view)) in
         ap (first_seen (sees (id_of h s) sight)) by.parts ∙ elim (eqb_tells v.0 s) [
           | inl same ↦
-              seen_own (sees (id_of h s) sight) (id_of h v.0) (own v.0 h) by.behind (committed n h)
-              (let me : id_of h v.0 ≡ id_of h s = ap (id_of h) same.1 in grind (arith, nat_tests, me)) behind
+              seen_either (sees (id_of h s) sight) (id_of h v.0) true (own v.0 h) by.behind (committed n h)
+              (inr (let me : id_of h v.0 ≡ id_of h s = ap (id_of h) same.1 in grind (arith, nat_tests, me))) behind
               ∙ ap (λ w. row_at opened at (own w h ++ committed n h)) same.1
           | inr differ ↦
-              other_unseen v.0 differ.1 by.behind ∙ (behind ∙ sym (row_at-append (own s h) (committed n h) (by.alone s (λ same. differ.1 (sym same)))))
+              seen_either (sees (id_of h s) sight) (id_of h v.0) false (own v.0 h) by.behind (committed n h) (other_unseen v.0 differ.1) behind
+              ∙ sym (row_at-append (own s h) (committed n h) (by.alone s (λ same. differ.1 (sym same))))
         ]
 
   -- ---- another test that picks the same changes

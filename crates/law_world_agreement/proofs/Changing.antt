@@ -1,14 +1,13 @@
 -- A row that is changed, and a table that is made.
-use Rattle.std.proofs.Common.{◌≡◌, ℕ, ◌+◌, ◌<◌, ◌^◌, cond, ◌==◌, List, [], ◌∷◌, ◌++◌, length, option_map, is_some, Some, sym, ap, subst, ◌∙◌, arith}
+use Rattle.std.proofs.Common.{◌≡◌, ℕ, ◌+◌, ◌<◌, ◌^◌, List, [], ◌∷◌, ◌++◌, length, option_map, is_some, Some, sym, ap, ◌∙◌, arith}
 use Rattle.std.proofs.lemmas.Bool.Decides.{nat_tests}
 use Rattle.inno_types.specs.declared.value.Schema.{Schema}
 use Rattle.inno_db.specs.{declared.change.Change.Change, declared.change.Change.TheVariants.Create}
-use Rattle.inno_model.specs.{declared.event.Event.Event, declared.event.Event.TheVariants.Changed, Past.own, Past.IsOpen}
-use Rattle.row_versions.specs.{declared.place.Place.Place, declared.version.Version.Version, Chains.Chains, Chains.Pushes, Chains.versions_at}
-use Rattle.txn_table.specs.Txns.{Txns, with_id as with_txn_id}
-use Rattle.law_past_agreement.specs.{Slots.id_for, Ids.id_of, Ids.txns_of, Rows.place_in, Rows.is_place, Rows.is_at, Rows.row_of, Rows.row_opened}
-use Rattle.law_past_agreement.specs.{Order.created, Order.IsOfRow, Order.IsTabled, Agreement.ViewAgrees, Agreement.AreVersions}
-use Rattle.law_past_agreement.proofs.{Ids.ids_of, Agree.id_changed, Agree.txns_changed, Agree.rows_created, Rows.rows_changed, Standing.view_agrees_changed}
+use Rattle.inno_model.specs.{declared.event.Event.Event, declared.event.Event.TheVariants.Changed, Past.IsOpen}
+use Rattle.row_versions.specs.{declared.place.Place.Place, Chains.Chains, Chains.Pushes, Chains.versions_at}
+use Rattle.law_past_agreement.specs.{Slots.id_for, Ids.id_of, Ids.txns_of, Rows.place_in, Rows.is_at, Rows.row_of, Rows.row_opened}
+use Rattle.law_past_agreement.specs.{Order.created, Order.IsOfRow, Order.IsTabled, Agreement.AreVersions}
+use Rattle.law_past_agreement.proofs.{Ids.ids_of, Agree.rows_created, Rows.rows_changed, Standing.view_agrees_changed}
 use Rattle.world.specs.State.{WorldState, Session, Work, IsSession, HasWork}
 use Rattle.law_world_agreement.specs.{Agreement.sight_of, Agreement.Agrees, Steps.IsChangedBy}
 use Rattle.law_world_agreement.proofs.Settled.{IsKept, kept_of, rows_told, works_are, after}
@@ -32,29 +31,16 @@ module _ {chains : Chains} {old new : WorldState} {s : ℕ} {change : Change} {t
   was_open = ap is_some mine.level_is
 
   id_now : id_for by.work.id old.txns.next ≡ id_of (Changed s change ∷ old.past) s
-  id_now =
-      ap (λ i. id_for i old.txns.next) (sym mine.id_is)
-      ∙ (ap (λ (t : Txns). id_for (id_of old.past s) t.next) agrees.lists.txns_are ∙ id_changed s change old.past)
+  id_now = grind (arith, nat_tests, mine.id_is, agrees.lists.txns_are)
 
   txns_now : new.txns ≡ txns_of (Changed s change ∷ old.past)
-  txns_now =
-      by.txns ∙ (ap (λ (t : Txns). cond (by.work.id == 0)
-      (record t { open_txns = with_txn_id by.work.txn t.next t.open_txns; next = t.next + 1 }) t) agrees.lists.txns_are
-      ∙ rw (← mine.id_is, ← mine.txn_is) (txns_changed s change old.past))
+  txns_now = grind (arith, nat_tests, by.txns, mine.id_is, mine.txn_is, agrees.lists.txns_are)
 
   -- what is kept of the transaction has one change more
   kept_now : IsKept (Changed s change ∷ old.past) s by.work_now
   kept_now =
-      let own_now : own s (Changed s change ∷ old.past) ≡ change ∷ own s old.past = grind (arith, nat_tests) in
-      let count : length (own s (Changed s change ∷ old.past)) ≡ length (own s old.past) + 1 = ap length own_now ∙ omega arith in
-      record {
-        level_is = mine.level_is ∙ ap Some (sym by.more.level);
-        txn_is = mine.txn_is ∙ sym by.more.txn;
-        id_is = sym id_now ∙ sym by.more.id_is;
-        view_is = view_agrees_changed s change old.past (option_map sight_of by.work_now.view)
-            (subst (λ v. ViewAgrees old.past s (option_map sight_of v)) (sym by.more.view) mine.view_is);
-        own_is = by.more.own ∙ (ap (λ n. n + 1) mine.own_is ∙ sym count);
-      }
+      let view = view_agrees_changed s change old.past (option_map sight_of by.work.view) mine.view_is in
+      grind (arith, nat_tests, mine, by.more, id_now, view)
 
   -- no other session has changes
   pub changes : {chains' : Chains} → IsTabled (length (created old.past)) change → length old.past + 1 < 2 ^ 63
@@ -72,14 +58,9 @@ pub changed_agrees : (chains chains' : Chains) (old new : WorldState) (s : ℕ) 
     → (by : IsChangedBy s change old.schemas old new) → Pushes chains chains' place
     (record { writer = id_for by.work.id old.txns.next; row = row_of change }) → length old.past + 1 < 2 ^ 63 → Agrees chains' (Some s) new
 changed_agrees chains chains' old new s change place agrees of_row place_is tabled by pushes few =
-    let version : Version = record { writer = id_for by.work.id old.txns.next; row = row_of change } in
-    changes agrees by (subst (λ (ts : List Schema). IsTabled (length ts) change) agrees.lists.tables tabled) few
-    (by.schemas ∙ (agrees.lists.tables ∙ sym (tables_stay s change old.past of_row)))
+    changes agrees by (rw (← agrees.lists.tables) tabled) few (by.schemas ∙ (agrees.lists.tables ∙ sym (tables_stay s change old.past of_row)))
     (λ p. rw by.schemas (rows_changed (row_opened old.past p) (is_at old.schemas p) s change old.past (ids_of old.past agrees.lists.ordered)
-    agrees.lists.writes.1
-    (pushes p ∙ (ap (λ o. cond (is_place p o) (version ∷ versions_at p chains) (versions_at p chains)) (sym place_is)
-    ∙ ap (λ i. cond (is_at old.schemas p change) (record { writer = i; row = row_of change } ∷ versions_at p chains) (versions_at p chains))
-    (id_now agrees by))) (agrees.lists.rows p)))
+    agrees.lists.writes.1 (grind (arith, pushes p, place_is, id_now agrees by)) (agrees.lists.rows p)))
 
 pub created_agrees : (chains : Chains) (old new : WorldState) (s : ℕ) (schema : Schema) → Agrees chains (Some s) old
     → (by : IsChangedBy s (Create schema) (old.schemas ++ schema ∷ []) old new) → length old.past + 1 < 2 ^ 63 → Agrees chains (Some s) new

@@ -1,5 +1,5 @@
 -- Entries that change no transaction, and a change that is put back.
-use Rattle.std.proofs.Common.{◌≡◌, ◌≢◌, ⊎_elim, ℕ, ◌+◌, ◌<◌, ◌^◌, false, cond, List, ◌∷◌, length, slice_get, option_map, is_some, Option, Some, None}
+use Rattle.std.proofs.Common.{◌≡◌, ◌≢◌, ⊎_elim, ℕ, ◌+◌, ◌<◌, ◌^◌, false, List, ◌∷◌, length, slice_get, option_map, is_some, Option, Some, None}
 use Rattle.std.proofs.Common.{inr, refl, sym, ap, subst, ◌∙◌, arith}
 use Rattle.std.proofs.lemmas.Bool.Decides.{nat_tests}
 use Rattle.std.proofs.lemmas.Option.{slice_get_cases}
@@ -8,9 +8,9 @@ use Rattle.inno_db.specs.declared.change.Change.{Change}
 use Rattle.inno_model.specs.declared.event.Event.{Event}
 use Rattle.inno_model.specs.declared.event.Event.TheVariants.{Started, Ended, Acked, Undone, Signal}
 use Rattle.inno_model.specs.Past.{is_of, level, txn, own, view_of, committed, started, under_way, opening}
-use Rattle.row_versions.specs.{declared.place.Place.Place, Chains.Chains, Chains.Pops, Chains.versions_at, Chains.older}
-use Rattle.law_past_agreement.specs.{Ids.id_of, Ids.is_among, Ids.txns_of, Rows.place_in, Rows.is_place, Rows.is_at, Rows.row_opened}
-use Rattle.law_past_agreement.specs.{Order.created, Order.IsOfRow, Order.IsUndoable, Order.MayCome, Agreement.ViewAgrees}
+use Rattle.row_versions.specs.{declared.place.Place.Place, Chains.Chains, Chains.Pops}
+use Rattle.law_past_agreement.specs.{Ids.id_of, Ids.is_among, Ids.txns_of, Rows.place_in, Rows.is_at, Rows.row_opened}
+use Rattle.law_past_agreement.specs.{Order.created, Order.IsOfRow, Order.IsUndoable, Order.MayCome}
 use Rattle.law_past_agreement.proofs.{Ids.ids_of, Rows.rows_stay, Rows.rows_undone, Rows.own_undone, Standing.view_agrees}
 use Rattle.world.specs.State.{WorldState, Session}
 use Rattle.law_world_agreement.specs.{Agreement.sight_of, Agreement.Agrees, Steps.IsEntered, Steps.IsTakenBackBy}
@@ -81,21 +81,15 @@ pub taken_back_agrees : (chains chains' : Chains) (writer : Option ℕ) (old new
 taken_back_agrees chains chains' writer old new s keep change before place agrees own_is keep_is of_row place_is by pops few =
     let h = old.past in
     let mine = kept_of agrees by.had in
-    let undoable : IsUndoable keep (own s h) = subst (IsUndoable keep) (sym own_is) (of_row, sym keep_is) in
+    let undoable : IsUndoable keep (own s h) = rw own_is (of_row, sym keep_is) in
     let may : MayCome h (Undone s keep) = (ap is_some mine.level_is, undoable) in
     let count : length (own s h) ≡ keep + 1 = ap length own_is ∙ omega (arith, keep_is) in
     let own_now : own s (Undone s keep ∷ h) ≡ before = own_undone s keep change before h own_is count in
     after agrees (Undone s keep) s (mine_tells s) may few (joined_of agrees by.had.session_is)
     (record { past = by.past; names = by.names; count = by.count; others = λ u differs. ap (option_map (λ (x : Session). x.work)) (by.others u differs) })
     (by.schemas ∙ agrees.lists.tables) (by.txns ∙ agrees.lists.txns_are) (Some by.work_now) (works_are by.has)
-    (record {
-      level_is = mine.level_is ∙ ap Some (sym by.level);
-      txn_is = mine.txn_is ∙ sym by.txn;
-      id_is = mine.id_is ∙ sym by.id_is;
-      view_is = view_agrees (Undone s keep) h s may (ids_of h agrees.lists.ordered) refl refl (option_map sight_of by.work_now.view)
-          (subst (λ v. ViewAgrees h s (option_map sight_of v)) (sym by.view) mine.view_is);
-      own_is = by.own ∙ (keep_is ∙ ap length (sym own_now));
-    })
+    (let view = view_agrees (Undone s keep) h s may (ids_of h agrees.lists.ordered) refl refl (option_map sight_of by.work.view) mine.view_is in
+    grind (arith, nat_tests, mine, by, view, own_now, keep_is))
     (λ p. rw by.schemas (rows_undone (row_opened h p) (is_at old.schemas p) s keep change before h own_is count
-    (pops p ∙ ap (λ o. cond (is_place p o) (older (versions_at p chains)) (versions_at p chains)) (sym place_is)) (agrees.lists.rows p)))
+    (grind (arith, pops p, place_is)) (agrees.lists.rows p)))
     (grind (arith, nat_tests, own_is, agrees.lists.writes))

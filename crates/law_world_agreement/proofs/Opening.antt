@@ -1,6 +1,6 @@
 -- A transaction that is opened, and a view that is taken.
-use Rattle.std.proofs.Common.{◌≡◌, ◌≢◌, ◌⊎◌, inr, ℕ, zero, suc, ◌+◌, ◌<◌, ◌^◌, eqb, true, false, List, [], ◌∷◌, ◌++◌, length, slice_get, slice_set}
-use Rattle.std.proofs.Common.{option_map, is_some, Option, Some, None, refl, sym, ap, subst, ◌∙◌, arith}
+use Rattle.std.proofs.Common.{◌≡◌, ◌≢◌, ◌⊎◌, inr, ℕ, zero, suc, ◌+◌, ◌<◌, ◌^◌, eqb, true, false, List, [], ◌∷◌, length, slice_get, slice_set}
+use Rattle.std.proofs.Common.{option_map, is_some, Option, Some, None, refl, ap, subst, ◌∙◌, arith}
 use Rattle.std.proofs.lemmas.Bool.Decides.{nat_tests}
 use Rattle.std.proofs.lemmas.List.{length-set}
 use Rattle.std.proofs.lemmas.Option.{slice_get_within}
@@ -79,8 +79,7 @@ opened_agrees chains writer old s l session agrees there none few =
           set_other old.sessions s u x1 differs);
     })
     agrees.lists.tables
-    (ap (λ (t : Txns). record { open_txns = t.open_txns ++ (m, record { session = s; level = l; id = 0 }) ∷ []; begun = t.begun + 1; next = t.next })
-    agrees.lists.txns_are)
+    (rw agrees.lists.txns_are refl)
     (Some work) (works_here (slice_set old.sessions s x1) s x1 x2 (set_here old.sessions s session x1 there))
     (grind (arith, nat_tests, own_now))
     (λ place. rows_stay (row_opened h place) (is_at old.schemas place) (Begin s m l) h same_id
@@ -94,8 +93,7 @@ viewed_agrees chains writer old s session work agrees has few =
     let mine = kept_of agrees has in
     let now : Work = record work { view = Some (record { active = active_of old.txns.open_txns; next = old.txns.next }) } in
     let view : IsViewOf (View s ∷ h) s (commits h) (record { active = active_of old.txns.open_txns; own = 0; next = old.txns.next }) =
-    subst (λ (t : Txns). IsViewOf (View s ∷ h) s (commits h) (record { active = active_of t.open_txns; own = 0; next = t.next })) (sym agrees.lists.txns_are)
-    (view_now h agrees.lists.ordered s) in
+    rw agrees.lists.txns_are (view_now h agrees.lists.ordered s) in
     after agrees (View s) s (mine_tells s) (ap is_some mine.level_is) few (joined_of agrees has.session_is)
     (replaced (record session { work = Some now }) refl refl refl)
     agrees.lists.tables agrees.lists.txns_are (Some now) (works_here old.sessions s session (record session { work = Some now }) has.session_is)

@@ -59,18 +59,14 @@ module _ {chains : Chains} {writer : Option ℕ} {state : WorldState} (agrees : 
   keeps_if s found there slot = grind (arith, there, slot, agrees.own s)
 
   pub keeps_of : (s : ℕ) → Keeps state.past s (works_at s state.sessions)
-  keeps_of s =
-      keeps_if s (slice_get state.sessions s) refl
-      (subst (SlotAgrees state.schemas state.past s) (slot_at s state.past state.schemas state.sessions) (agrees.lists.sessions s))
+  keeps_of s = keeps_if s (slice_get state.sessions s) refl (rw (slot_at s state.past state.schemas state.sessions) at (agrees.lists.sessions s))
 
   pub kept_of : {s : ℕ} {session : Session} {work : Work} → HasWork s session work state → IsKept state.past s work
   kept_of {s} has = subst (Keeps state.past s) (works_are has) (keeps_of s)
 
   -- the rows, in the tables that the past has made
   pub rows_told : (place : Place) → AreVersions state.past (row_opened state.past place) (is_at (created state.past) place) (versions_at place chains)
-  rows_told place =
-      subst (λ (ts : List Schema). AreVersions state.past (row_opened state.past place) (is_at ts place) (versions_at place chains)) agrees.lists.tables
-      (agrees.lists.rows place)
+  rows_told place = rw (← agrees.lists.tables) (agrees.lists.rows place)
 
 -- the other way
 pub work_from : (h : List Event) (schemas : List Schema) (s : ℕ) (work : Option Work) → KeepsWork h s work
@@ -94,8 +90,7 @@ agreeing {state = state} ordered small tables txns keeps rows writes strangers c
         small = small;
         tables = tables;
         txns_are = txns;
-        sessions = λ s. subst (SlotAgrees state.schemas state.past s) (sym (slot_at s state.past state.schemas state.sessions))
-            (slot_from state.past state.schemas s (slice_get state.sessions s) (keeps s));
+        sessions = λ s. rw (slot_at s state.past state.schemas state.sessions) (slot_from state.past state.schemas s (slice_get state.sessions s) (keeps s));
         rows = rows;
         writes = writes;
         strangers = strangers;
