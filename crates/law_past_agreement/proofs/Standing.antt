@@ -1,9 +1,7 @@
 -- What one more entry does to ids, views and what is owed.
 use Rattle.std.proofs.Common.{◌≡◌, ℕ, ◌+◌, ◌<◌, ◌≤◌, true, false, Option, Some, None, List, [], ◌∷◌, refl, sym, ◌∙◌, ◌⊎◌, inl, inr, arith}
 use Rattle.std.proofs.lemmas.Bool.Decides.{nat_tests}
-use Rattle.inno_db.specs.declared.change.Change.{Change}
 use Rattle.inno_model.specs.declared.event.Event.{Event}
-use Rattle.inno_model.specs.declared.event.Event.TheVariants.{Changed}
 use Rattle.inno_model.specs.Past.{is_of, view_of, commits}
 use Rattle.inno_model.proofs.{Untouched.untouched, Commits.commits_rise}
 use Rattle.read_view.specs.Sight.{Sight}
@@ -39,11 +37,11 @@ standing_some h id standing = grind (arith, standing, among_positive h)
 stood : (e : Event) (h : List Event) (id : ℕ) → MayCome h e → IsStanding (e ∷ h) id → IsStanding h id ⊎ (given h < id)
 stood e h id may standing = grind (arith, nat_tests, among_positive (e ∷ h), standing)
 
--- A view stays what it is while the session's id and view do, at an own entry too.
-pub view_agrees : (e : Event) (h : List Event) (s : ℕ) → MayCome h e → AreIds h → id_of (e ∷ h) s ≡ id_of h s → view_of s (e ∷ h) ≡ view_of s h
-    → (o : Option Sight) → ViewAgrees h s o → ViewAgrees (e ∷ h) s o
-view_agrees e h s may ids same-id same-view None v = same-view ∙ v
-view_agrees e h s may ids same-id same-view (Some sight) agrees = (
+-- A view stays what it is while the session's view does, and its id once it has one, at an own entry too.
+pub view_agrees : (e : Event) (h : List Event) (s : ℕ) → MayCome h e → AreIds h → ((id : ℕ) → 0 < id → id ≡ id_of h s → id ≡ id_of (e ∷ h) s)
+    → view_of s (e ∷ h) ≡ view_of s h → (o : Option Sight) → ViewAgrees h s o → ViewAgrees (e ∷ h) s o
+view_agrees e h s may ids keeps-id same-view None v = same-view ∙ v
+view_agrees e h s may ids keeps-id same-view (Some sight) agrees = (
   agrees.0,
   let n = agrees.0 in
       let v = agrees.1 in
@@ -54,26 +52,10 @@ view_agrees e h s may ids same-id same-view (Some sight) agrees = (
         alike = λ id standing differ.
             let among : is_among (e ∷ h) n id ≡ is_among h n id = grind (arith, nat_tests, v.within) in
             elim (stood e h id may standing) [
-              | inl before ↦ v.alike id before (λ same. differ (same ∙ sym same-id)) ∙ sym among
+              | inl before ↦ v.alike id before (λ same. differ (keeps-id id (standing_some h id before) same)) ∙ sym among
               | inr new ↦ v.later id new ∙ sym (among ∙ later_not_among h ids n id new)
             ];
         later = λ id lt. v.later id (omega (arith, given_rise e h, lt));
-      },
-)
-
--- It does too where the session is given its id later than its view.
-pub view_agrees_changed : (s : ℕ) (change : Change) (h : List Event) → (o : Option Sight) → ViewAgrees h s o → ViewAgrees (Changed s change ∷ h) s o
-view_agrees_changed s change h None v = v
-view_agrees_changed s change h (Some sight) agrees = (
-  agrees.0,
-  let v = agrees.1 in
-      record {
-        is-view = v.is-view;
-        within = v.within;
-        earlier = v.earlier;
-        alike = λ id standing differ.
-            v.alike id (grind (arith, nat_tests, standing, differ)) (λ same. grind (arith, nat_tests, standing, differ, same, among_positive h));
-        later = λ id lt. v.later id (omega (arith, given_rise (Changed s change) h, lt));
       },
 )
 

@@ -1,5 +1,5 @@
 -- A row that is changed, and a table that is made.
-use Rattle.std.proofs.Common.{◌≡◌, ℕ, ◌+◌, ◌<◌, ◌^◌, List, [], ◌∷◌, ◌++◌, length, option_map, is_some, Some, sym, ap, ◌∙◌, arith}
+use Rattle.std.proofs.Common.{◌≡◌, ℕ, ◌+◌, ◌<◌, ◌^◌, List, [], ◌∷◌, ◌++◌, length, option_map, is_some, Some, sym, ap, ◌∙◌, refl, arith}
 use Rattle.std.proofs.lemmas.Bool.Decides.{nat_tests}
 use Rattle.inno_types.specs.declared.value.Schema.{Schema}
 use Rattle.inno_db.specs.{declared.change.Change.Change, declared.change.Change.TheVariants.Create}
@@ -7,7 +7,7 @@ use Rattle.inno_model.specs.{declared.event.Event.Event, declared.event.Event.Th
 use Rattle.row_versions.specs.{declared.place.Place.Place, Chains.Chains, Chains.Pushes, Chains.versions_at}
 use Rattle.law_past_agreement.specs.{Slots.id_for, Ids.id_of, Ids.txns_of, Rows.place_in, Rows.is_at, Rows.row_of, Rows.row_opened}
 use Rattle.law_past_agreement.specs.{Order.created, Order.IsOfRow, Order.IsTabled, Agreement.AreVersions}
-use Rattle.law_past_agreement.proofs.{Ids.ids_of, Agree.rows_created, Rows.rows_changed, Standing.view_agrees_changed}
+use Rattle.law_past_agreement.proofs.{Ids.ids_of, Agree.rows_created, Rows.rows_changed, Standing.view_agrees}
 use Rattle.world.specs.State.{WorldState, Session, Work, IsSession, HasWork}
 use Rattle.law_world_agreement.specs.{Agreement.sight_of, Agreement.Agrees, Steps.IsChangedBy}
 use Rattle.law_world_agreement.proofs.Settled.{IsKept, kept_of, rows_told, works_are, after}
@@ -23,7 +23,7 @@ tables_stay : (s : ℕ) (change : Change) (h : List Event) → IsOfRow change �
 tables_stay s change h of-row = grind (arith, of-row)
 
 module _ {chains : Chains} {old new : WorldState} {s : ℕ} {change : Change} {tables : List Schema} (agrees : Agrees chains (Some s) old)
-    (by : IsChangedBy s change tables old new) where
+    (by : IsChangedBy s change tables old new) (tabled : IsTabled (length (created old.past)) change) where
   mine : IsKept old.past s by.work
   mine = kept_of agrees by.had
 
@@ -39,15 +39,16 @@ module _ {chains : Chains} {old new : WorldState} {s : ℕ} {change : Change} {t
   -- what is kept of the transaction has one change more
   kept_now : IsKept (Changed s change ∷ old.past) s by.work_now
   kept_now =
-      let view = view_agrees_changed s change old.past (option_map sight_of by.work.view) mine.view_is in
+      let view = view_agrees (Changed s change) old.past s (was_open, tabled) (ids_of old.past agrees.lists.ordered)
+      (λ id some same. grind (arith, nat_tests, some, same)) refl (option_map sight_of by.work.view) mine.view_is in
       grind (arith, nat_tests, mine, by.more, id_now, view)
 
   -- no other session has changes
-  pub changes : {chains' : Chains} → IsTabled (length (created old.past)) change → length old.past + 1 < 2 ^ 63
+  pub changes : {chains' : Chains} → length old.past + 1 < 2 ^ 63
       → new.schemas ≡ created (Changed s change ∷ old.past)
       → ((place : Place) → AreVersions (Changed s change ∷ old.past) (row_opened old.past place) (is_at new.schemas place) (versions_at place chains'))
       → Agrees chains' (Some s) new
-  changes tabled few tables-are rows =
+  changes few tables-are rows =
       after agrees (Changed s change) s (mine_tells s) (was_open, tabled) few (joined_of agrees by.had.session_is)
       (record { past = by.past; names = by.names; count = by.count; others = λ u differs. ap (option_map (λ (x : Session). x.work)) (by.others u differs) })
       tables-are txns_now (Some by.work_now) (works_are by.has) kept_now rows
@@ -58,9 +59,10 @@ pub changed_agrees : (chains chains' : Chains) (old new : WorldState) (s : ℕ) 
     → (by : IsChangedBy s change old.schemas old new) → Pushes chains chains' place
     (record { writer = id_for by.work.id old.txns.next; row = row_of change }) → length old.past + 1 < 2 ^ 63 → Agrees chains' (Some s) new
 changed_agrees chains chains' old new s change place agrees of_row place_is tabled by pushes few =
-    changes agrees by (rw (← agrees.lists.tables) tabled) few (by.schemas ∙ (agrees.lists.tables ∙ sym (tables_stay s change old.past of_row)))
+    let told : IsTabled (length (created old.past)) change = rw (← agrees.lists.tables) tabled in
+    changes agrees by told few (by.schemas ∙ (agrees.lists.tables ∙ sym (tables_stay s change old.past of_row)))
     (λ p. rw by.schemas (rows_changed (row_opened old.past p) (is_at old.schemas p) s change old.past (ids_of old.past agrees.lists.ordered)
-    agrees.lists.writes.1 (grind (arith, pushes p, place_is, id_now agrees by)) (agrees.lists.rows p)))
+    agrees.lists.writes.1 (grind (arith, pushes p, place_is, id_now agrees by told)) (agrees.lists.rows p)))
 
 pub created_agrees : (chains : Chains) (old new : WorldState) (s : ℕ) (schema : Schema) → Agrees chains (Some s) old
     → (by : IsChangedBy s (Create schema) (old.schemas ++ schema ∷ []) old new) → length old.past + 1 < 2 ^ 63 → Agrees chains (Some s) new

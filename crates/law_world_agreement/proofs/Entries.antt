@@ -88,7 +88,8 @@ taken_back_agrees chains chains' writer old new s keep change before place agree
     after agrees (Undone s keep) s (mine_tells s) may few (joined_of agrees by.had.session_is)
     (record { past = by.past; names = by.names; count = by.count; others = λ u differs. ap (option_map (λ (x : Session). x.work)) (by.others u differs) })
     (by.schemas ∙ agrees.lists.tables) (by.txns ∙ agrees.lists.txns_are) (Some by.work_now) (works_are by.has)
-    (let view = view_agrees (Undone s keep) h s may (ids_of h agrees.lists.ordered) refl refl (option_map sight_of by.work.view) mine.view_is in
+    (let view = view_agrees (Undone s keep) h s may (ids_of h agrees.lists.ordered) (λ id some same. same) refl
+    (option_map sight_of by.work.view) mine.view_is in
     grind (arith, nat_tests, mine, by, view, own_now, keep_is))
     (λ p. rw by.schemas (rows_undone (row_opened h p) (is_at old.schemas p) s keep change before h own_is count
     (grind (arith, pops p, place_is)) (agrees.lists.rows p)))

@@ -117,7 +117,7 @@ pub work_stays : (e : Event) (h : List Event) (s : ℕ) → MayCome h e → AreI
     → id_of (e ∷ h) s ≡ id_of h s → own s (e ∷ h) ≡ own s h → view_of s (e ∷ h) ≡ view_of s h → (work : Option Work) → KeepsWork h s work
     → KeepsWork (e ∷ h) s work
 work_stays e h s may ids same-level same-txn same-id same-own same-view work k =
-    grind (arith, same-level, same-txn, same-id, same-own, k, view_agrees e h s may ids same-id same-view)
+    grind (arith, same-level, same-txn, same-id, same-own, k, view_agrees e h s may ids (λ id some same. same ∙ sym same-id) same-view)
 
 -- an entry of another session leaves it
 other_stays : (e : Event) (h : List Event) (s : ℕ) → MayCome h e → AreIds h → is_of s e ≡ false → (found : Option (Option Work)) → Keeps h s found
