@@ -247,18 +247,12 @@ module _ (opened : Option (List Value)) (at : Change → Bool) where
   -- ---- another test that picks the same changes
 
   module _ (at' : Change → Bool) where
-    versions_alike : (id : ℕ) (changes : List Change) → AllByRecursion (λ change. at' change ≡ at change) changes
-        → versions_of id at' changes ≡ versions_of id at changes
-    versions_alike id [] alike = refl
-    versions_alike id (change ∷ changes) alike = rw (alike.0, versions_alike id changes alike.1) refl
-
-    row_alike : (changes : List Change) → AllByRecursion (λ change. at' change ≡ at change) changes → row_at opened at' changes ≡ row_at opened at changes
-    row_alike [] alike = refl
-    row_alike (change ∷ changes) alike = rw (alike.0, row_alike changes alike.1) refl
-
-    any_alike : (changes : List Change) → AllByRecursion (λ change. at' change ≡ at change) changes → list_any at' changes ≡ list_any at changes
-    any_alike [] alike = refl
-    any_alike (change ∷ changes) alike = rw (alike.0, any_alike changes alike.1) refl
+    alike_all : (id : ℕ) (changes : List Change) → AllByRecursion (λ change. at' change ≡ at change) changes
+        → (versions_of id at' changes ≡ versions_of id at changes) × (row_at opened at' changes ≡ row_at opened at changes) ×
+        (list_any at' changes ≡ list_any at changes)
+    alike_all id [] alike = (refl, refl, refl)
+    alike_all id (change ∷ changes) alike =
+        let rest = alike_all id changes alike.1 in (rw (alike.0, rest.0) refl, rw (alike.0, rest.1) refl, rw (alike.0, rest.2) refl)
 
     pub rows_alike : {vs : List Version} (h : List Event) → ((s : ℕ) → AllByRecursion (λ change. at' change ≡ at change) (own s h))
         → ((n : ℕ) → AllByRecursion (λ change. at' change ≡ at change) (committed n h)) → AreVersions h opened at vs → AreVersions h opened at' vs
@@ -266,9 +260,9 @@ module _ (opened : Option (List Value)) (at : Change → Bool) where
       v.0,
       record {
         behind = v.1.behind;
-        parts = v.1.parts ∙ ap (λ (ws : List Version). ws ++ v.1.behind) (sym (versions_alike (id_of h v.0) (own v.0 h) (own-alike v.0)));
-        alone = λ s other. any_alike (own s h) (own-alike s) ∙ v.1.alone s other;
+        parts = v.1.parts ∙ ap (λ (ws : List Version). ws ++ v.1.behind) (sym (alike_all (id_of h v.0) (own v.0 h) (own-alike v.0)).0);
+        alone = λ s other. (alike_all 0 (own s h) (own-alike s)).2 ∙ v.1.alone s other;
         are_settled = v.1.are_settled;
-        reads = λ n needed. v.1.reads n needed ∙ sym (row_alike (committed n h) (committed-alike n));
+        reads = λ n needed. v.1.reads n needed ∙ sym (alike_all 0 (committed n h) (committed-alike n)).1;
       },
     )

@@ -1,5 +1,5 @@
 -- What one more entry does to ids, views and what is owed.
-use Rattle.std.proofs.Common.{◌≡◌, ℕ, ◌+◌, ◌<◌, ◌≤◌, true, false, Option, Some, None, List, [], ◌∷◌, refl, sym, ◌∙◌, ◌⊎◌, inl, inr, arith}
+use Rattle.std.proofs.Common.{◌≡◌, ℕ, ◌<◌, ◌≤◌, true, false, Option, Some, None, List, [], ◌∷◌, refl, sym, ◌∙◌, ◌⊎◌, inl, inr, arith}
 use Rattle.std.proofs.lemmas.Bool.Decides.{nat_tests}
 use Rattle.inno_model.specs.declared.event.Event.{Event}
 use Rattle.inno_model.specs.Past.{is_of, view_of, commits}
@@ -17,14 +17,13 @@ settled_more e h id settled = grind (arith, nat_tests, settled)
 pub needed_before : (e : Event) (h : List Event) (n : ℕ) → IsNeeded (e ∷ h) n → IsNeeded h n
 needed_before e h n needed = grind (arith, nat_tests, needed, commits_rise e h)
 
-is_among_mono : (h : List Event) (m n id : ℕ) → m ≤ n → is_among h m id ≡ true → is_among h n id ≡ true
-is_among_mono [] m n id le is = is
-is_among_mono (e ∷ h) m n id le is = grind (arith, nat_tests, is_among_mono h m n id le, is)
+among_from : (h : List Event) (n m id : ℕ) → commits h ≤ m → is_among h n id ≡ true → is_among h m id ≡ true
+among_from [] n m id le is = is
+among_from (e ∷ h) n m id le is = grind (arith, nat_tests, among_from h n m id, le, is)
 
 -- What is among any number of commits is among all.
 pub is_among_all : (h : List Event) (n id : ℕ) → is_among h n id ≡ true → is_among h (commits h) id ≡ true
-is_among_all [] n id is = is
-is_among_all (e ∷ h) n id is = grind (arith, nat_tests, is_among_all h n id, is_among_mono h (commits h) (commits h + 1) id, is)
+is_among_all h n id = among_from h n (commits h) id (omega arith)
 
 given_rise : (e : Event) (h : List Event) → given h ≤ given (e ∷ h)
 given_rise e h = grind (arith, nat_tests)
