@@ -6,4 +6,3 @@ pub mod Tables
 pub mod Agree
 pub mod Gets
 pub mod Walk
-mod Searches

@@ -4,4 +4,3 @@ pub mod Slots
 pub mod Ids
 pub mod Agreement
 pub mod DatabaseTables
-pub mod Matching
