@@ -1,5 +1,5 @@
 -- A transaction that ends.
-use Rattle.std.proofs.Common.{◌≡◌, ℕ, ◌+◌, ◌<◌, ◌^◌, [], ◌∷◌, length, map, true, is_some, Option, Some, None, inr, refl, sym, ap, subst, ◌∙◌, arith}
+use Rattle.std.proofs.Common.{◌≡◌, ℕ, ◌+◌, ◌<◌, ◌^◌, [], length, map, true, is_some, Option, Some, None, inr, refl, sym, ap, subst, ◌∙◌, arith}
 use Rattle.std.proofs.lemmas.Bool.Decides.{nat_tests}
 use Rattle.inno_model.specs.{declared.event.Event.TheVariants.Committed, declared.event.Event.TheVariants.RolledBack, Past.own}
 use Rattle.inno_model.specs.{Past.txn, Past.IsOpen}
@@ -13,7 +13,7 @@ use Rattle.world.specs.{State.WorldState, State.Session, State.Work, State.HasWo
 use Rattle.world.specs.{Endings.IsRolledBack}
 use Rattle.law_world_agreement.specs.Agreement.{work_at, Agrees}
 use Rattle.law_world_agreement.proofs.{Settled.IsKept, Settled.kept_of, Settled.work_from, Settled.after}
-use Rattle.law_world_agreement.proofs.Opening.{works_here, replaced, joined_of, mine_tells, own_same}
+use Rattle.law_world_agreement.proofs.Opening.{works_here, replaced, joined_of, mine_tells}
 
 -- what is kept of a session's open transaction is what the past says
 pub work_of : (chains : Chains) (writer : Option ℕ) (state : WorldState) (s : ℕ) (session : Session) (work : Work) → Agrees chains writer state
@@ -54,11 +54,10 @@ module _ (chains : Chains) (writer : Option ℕ) (old : WorldState) (s : ℕ) (s
       → Agrees chains (writer_without writer s) (record (rolled_back s session work old) { paged = paged })
   rolls_back none paged =
       let x : Session = record session { setting = at_end session.setting; work = None } in
-      let own_now : own s (RolledBack s ∷ old.past) ≡ [] = grind (arith, nat_tests) in
       after agrees (RolledBack s) s (mine_tells s) (was_open, none) few (joined_of agrees has.session_is) (replaced x refl refl refl) agrees.lists.tables
       txns_now None (works_here old.sessions s session x has.session_is) (grind (arith, nat_tests))
       (λ place. rows_stay (row_opened old.past place) (is_at old.schemas place) (RolledBack s) old.past (λ u. inr refl)
-      (own_same (RolledBack s) old.past s (mine_tells s) none own_now) (λ n id. refl) (λ n. refl) (agrees.lists.rows place))
+      (λ u. grind (arith, nat_tests, none)) (λ n id. refl) (λ n. refl) (agrees.lists.rows place))
       (grind (arith, nat_tests, agrees.lists.writes))
 
 pub committed_agrees : (chains : Chains) (writer : Option ℕ) (old new : WorldState) (s : ℕ) → Agrees chains writer old → IsCommitted s old new

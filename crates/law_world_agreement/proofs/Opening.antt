@@ -1,16 +1,15 @@
 -- A transaction that is opened, and a view that is taken.
-use Rattle.std.proofs.Common.{◌≡◌, ◌≢◌, ◌⊎◌, inr, ℕ, zero, suc, ◌+◌, ◌<◌, ◌^◌, eqb, true, false, List, [], ◌∷◌, length, slice_get, slice_set}
+use Rattle.std.proofs.Common.{◌≡◌, ◌≢◌, inr, ℕ, zero, suc, ◌+◌, ◌<◌, ◌^◌, eqb, true, false, List, [], ◌∷◌, length, slice_get, slice_set}
 use Rattle.std.proofs.Common.{option_map, is_some, Option, Some, None, refl, ap, subst, ◌∙◌, arith}
 use Rattle.std.proofs.lemmas.Bool.Decides.{nat_tests}
 use Rattle.std.proofs.lemmas.List.{length-set}
 use Rattle.std.proofs.lemmas.Option.{slice_get_within}
 use Rattle.inno_types.specs.declared.lock.Level.{Level}
-use Rattle.inno_model.specs.{declared.event.Event.Event, declared.event.Event.TheVariants.Begin, declared.event.Event.TheVariants.View, Past.is_of, Past.own}
+use Rattle.inno_model.specs.{declared.event.Event.Event, declared.event.Event.TheVariants.Begin, declared.event.Event.TheVariants.View}
 use Rattle.inno_model.specs.{Past.commits}
-use Rattle.inno_model.proofs.Untouched.{untouched}
 use Rattle.txn_table.specs.Txns.{Txns, ids_of as active_of}
 use Rattle.row_versions.specs.{Chains.Chains}
-use Rattle.law_past_agreement.specs.{Ids.id_of, Rows.is_at, Rows.row_opened, Agreement.IsIdle, Agreement.IsViewOf}
+use Rattle.law_past_agreement.specs.{Rows.is_at, Rows.row_opened, Agreement.IsIdle, Agreement.IsViewOf}
 use Rattle.law_past_agreement.proofs.{Agree.view_now, Rows.rows_stay}
 use Rattle.world.specs.State.{WorldState, Session, Work, IsSession, HasWork}
 use Rattle.world.specs.Sessions.{fresh_work}
@@ -52,12 +51,6 @@ joined_of {state = state} {s = s} {session = session} agrees there = omega (arit
 pub mine_tells : (s u : ℕ) → u ≢ s → eqb s u ≡ false
 mine_tells s u differ = grind (arith, nat_tests, differ)
 
--- an entry of a session that has no changes before and after leaves all changes
-pub own_same : (e : Event) (h : List Event) (s : ℕ) → ((u : ℕ) → u ≢ s → is_of u e ≡ false) → own s h ≡ [] → own s (e ∷ h) ≡ [] → (u : ℕ)
-    → own u (e ∷ h) ≡ own u h
-own_same e h s mine none now u =
-    grind (arith, none, now, mine u, (untouched e h u))
-
 pub opened_agrees : (chains : Chains) (writer : Option ℕ) (old : WorldState) (s : ℕ) (level : Level) (session : Session) → Agrees chains writer old
     → IsSession s session old → session.work ≡ None → length old.past + 1 < 2 ^ 63 → Agrees chains writer (opened s level session old)
 opened_agrees chains writer old s l session agrees there none few =
@@ -67,9 +60,6 @@ opened_agrees chains writer old s l session agrees there none few =
     let x1 = session_begun l session old in
     let work : Work = record (fresh_work m l) { can_end = true } in
     let x2 : Session = record x1 { can_begin = false; work = Some work } in
-    let own_now : own s (Begin s m l ∷ h) ≡ [] = grind (arith, nat_tests) in
-    let same_id : (u : ℕ) → (own u h ≡ []) ⊎ (id_of (Begin s m l ∷ h) u ≡ id_of h u) =
-    λ u. grind (arith, nat_tests, idle.own_is) in
     after agrees (Begin s m l) s (mine_tells s) (ap (λ (t : Txns). t.begun + 1) agrees.lists.txns_are, idle.level_is) few (joined_of agrees there)
     (record {
       past = refl;
@@ -81,9 +71,9 @@ opened_agrees chains writer old s l session agrees there none few =
     agrees.lists.tables
     (rw agrees.lists.txns_are refl)
     (Some work) (works_here (slice_set old.sessions s x1) s x1 x2 (set_here old.sessions s session x1 there))
-    (grind (arith, nat_tests, own_now))
-    (λ place. rows_stay (row_opened h place) (is_at old.schemas place) (Begin s m l) h same_id
-    (own_same (Begin s m l) h s (mine_tells s) idle.own_is own_now) (λ n id. refl) (λ n. refl) (agrees.lists.rows place))
+    (grind (arith, nat_tests))
+    (λ place. rows_stay (row_opened h place) (is_at old.schemas place) (Begin s m l) h (λ u. grind (arith, nat_tests, idle.own_is))
+    (λ u. grind (arith, nat_tests, idle.own_is)) (λ n id. refl) (λ n. refl) (agrees.lists.rows place))
     (grind (arith, nat_tests, agrees.lists.writes))
 
 pub viewed_agrees : (chains : Chains) (writer : Option ℕ) (old : WorldState) (s : ℕ) (session : Session) (work : Work) → Agrees chains writer old
