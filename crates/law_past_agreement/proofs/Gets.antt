@@ -1,39 +1,30 @@
 -- The row of a place after changes is the one that they leave there.
-use Rattle.std.proofs.Common.{◌≡◌, ℕ, ◌<◌, cond, Some, None, List, [], ◌∷◌, ◌++◌, length, refl, sym, ap, ◌∙◌}
-use Rattle.std.proofs.lemmas.List.{append-nil}
+use Rattle.std.proofs.Common.{◌≡◌, ℕ, ◌<◌, List, [], ◌∷◌, ◌++◌, length, arith, refl, sym, ap, ◌∙◌}
+use Rattle.std.proofs.lemmas.List.{append-nil, append_assoc}
 use Rattle.std.specs.List.{AllByRecursion}
-use Rattle.std.specs.Ordering.{eq_by_cmp}
 use Rattle.std.specs.FinMap.{get, get-insert, get-remove}
 use Rattle.inno_types.specs.{declared.value.Value.Value, declared.value.Schema.Schema}
 use Rattle.inno_db.specs.{declared.change.Change.Change, declared.change.Change.TheVariants.Create, declared.change.Change.TheVariants.Put}
-use Rattle.inno_db.specs.{declared.change.Change.TheVariants.Remove, Database.Database, Database.place_cmp, Database.key_in, Order.place_cmp_total}
+use Rattle.inno_db.specs.{declared.change.Change.TheVariants.Remove, Database.Database, Database.key_in, Order.place_cmp_total}
 use Rattle.inno_model.specs.{declared.event.Event.Event, Past.changed, Past.own, Past.committed}
-use Rattle.row_versions.specs.{declared.place.Place.Place, Chains.in_model, Chains.is_same_place, Laws.same_place_equiv}
+use Rattle.row_versions.specs.{declared.place.Place.Place, Chains.in_model, Laws.same_place_equiv}
 use Rattle.law_past_agreement.specs.{Order.created, Order.IsTabled, Order.IsOrdered, Rows.is_at, Rows.row_at, Rows.seen, Rows.row_seen}
 use Rattle.law_past_agreement.specs.{DatabaseTables.with_all_tables}
-use Rattle.law_past_agreement.proofs.Tables.{key_stays, own_tabled, committed_tabled}
-
-grouped : {X : Type 0} (xs ys zs : List X) → (xs ++ ys) ++ zs ≡ xs ++ (ys ++ zs)
-grouped [] ys zs = refl
-grouped (x ∷ xs) ys zs = ap (λ l. x ∷ l) (grouped xs ys zs)
-
--- changes leave the tables, and add some
-tables_after : (db : Database) (changes : List Change) → (made : List Schema) × ((changed db changes).schemas ≡ db.schemas ++ made)
-tables_after db [] = ([], sym (append-nil db.schemas))
-tables_after db (Create schema ∷ changes) =
-    let before = tables_after db changes in (
-      before.0 ++ schema ∷ [],
-      ap (λ (l : List Schema). l ++ schema ∷ []) before.1 ∙ grouped db.schemas before.0
-          (schema ∷ []),
-    )
-tables_after db (Put table row ∷ changes) = tables_after db changes
-tables_after db (Remove table key ∷ changes) = tables_after db changes
+use Rattle.law_past_agreement.proofs.Tables.{key_stays, all_joined, own_tabled, committed_tabled}
 
 module _ (db : Database) where
+  -- changes leave the tables, and add some
+  tables_after : (changes : List Change) → (made : List Schema) × ((changed db changes).schemas ≡ db.schemas ++ made)
+  tables_after [] = ([], sym (append-nil db.schemas))
+  tables_after (Create schema ∷ changes) =
+      let before = tables_after changes in
+      (before.0 ++ schema ∷ [], ap (λ (l : List Schema). l ++ schema ∷ []) before.1 ∙ append_assoc db.schemas before.0 (schema ∷ []))
+  tables_after (change ∷ changes) = tables_after changes
+
   key_after : (changes : List Change) (table : ℕ) (row : List Value) → table < length db.schemas
       → key_in (changed db changes).schemas table row ≡ key_in db.schemas table row
   key_after changes table row lt =
-      let made = tables_after db changes in ap (λ (l : List Schema). key_in l table row) made.1 ∙ key_stays db.schemas made.0 table row lt
+      let made = tables_after changes in ap (λ (l : List Schema). key_in l table row) made.1 ∙ key_stays db.schemas made.0 table row lt
 
   pub get_is : (changes : List Change) → AllByRecursion (IsTabled (length db.schemas)) changes → (p : Place)
       → get (changed db changes).rows (in_model p) ≡ row_at (get db.rows (in_model p)) (is_at db.schemas p) changes
@@ -41,20 +32,16 @@ module _ (db : Database) where
   get_is (Create schema ∷ changes) all p = get_is changes all.1 p
   get_is (Put table row ∷ changes) all p =
       let at : Place = record { table = table; key = key_in db.schemas table row } in
-      get-insert place_cmp_total (changed db changes).rows (table, key_in (changed db changes).schemas table row) row (in_model p)
-      ∙ (ap (λ (key : Value). cond (eq_by_cmp place_cmp (in_model p) (table, key)) (Some row) (get (changed db changes).rows (in_model p)))
-      (key_after changes table row all.0)
-      ∙ (ap (λ b. cond b (Some row) (get (changed db changes).rows (in_model p))) (same_place_equiv.symm p at)
-      ∙ ap (cond (is_same_place at p) (Some row)) (get_is changes all.1 p)))
+      grind (
+        arith,
+        get-insert place_cmp_total (changed db changes).rows (table, key_in (changed db changes).schemas table row) row (in_model p),
+        key_after changes table row all.0,
+        same_place_equiv.symm p at,
+        get_is changes all.1 p,
+      )
   get_is (Remove table key ∷ changes) all p =
       let at : Place = record { table = table; key = key } in
-      get-remove place_cmp_total (changed db changes).rows (table, key) (in_model p)
-      ∙ (ap (λ b. cond b None (get (changed db changes).rows (in_model p))) (same_place_equiv.symm p at)
-      ∙ ap (cond (is_same_place at p) None) (get_is changes all.1 p))
-
-all_joined : (P : Change → Type 0) (xs ys : List Change) → AllByRecursion P xs → AllByRecursion P ys → AllByRecursion P (xs ++ ys)
-all_joined P [] ys all other = other
-all_joined P (x ∷ xs) ys all other = (all.0, all_joined P xs ys all.1 other)
+      grind (arith, get-remove place_cmp_total (changed db changes).rows (table, key) (in_model p), same_place_equiv.symm p at, get_is changes all.1 p)
 
 pub seen_is : (h : List Event) (s n : ℕ) (place : Place) → IsOrdered h
     → get (changed (with_all_tables h) (seen h s n)).rows (in_model place) ≡ row_seen h s n place

@@ -1,8 +1,8 @@
 -- The numbers and ids of transactions in an ordered past.
-use Rattle.std.proofs.Common.{◌≡◌, ℕ, ◌+◌, ◌<◌, ◌≤◌, Bool, true, false, None, List, [], ◌∷◌, length, refl, arith}
+use Rattle.std.proofs.Common.{◌≡◌, ℕ, ◌<◌, ◌≤◌, true, false, None, List, [], ◌∷◌, length, arith}
 use Rattle.std.proofs.lemmas.Bool.Decides.{nat_tests}
+use Rattle.std.proofs.lemmas.Bool.{false≢true, false_from_ne_true}
 use Rattle.inno_model.specs.declared.event.Event.{Event}
-use Rattle.inno_model.specs.declared.event.Event.TheVariants.{Begin, Changed, Undone, Committed, RolledBack}
 use Rattle.inno_model.specs.Past.{level, txn, own, begins, IsOpen}
 use Rattle.law_past_agreement.specs.{Order.MayCome, Order.IsOrdered, Ids.given, Ids.id_of, Ids.is_among}
 
@@ -18,106 +18,24 @@ pub record AreIds (h : List Event) : Type 0 where
   pub no_id : (s : ℕ) → id_of h s ≡ 0 → own s h ≡ []
   pub closed : (s : ℕ) → level s h ≡ None → own s h ≡ []
 
-not_true : (b : Bool) → (b ≡ true → ⊥) → b ≡ false
-not_true true refuted = absurd (refuted refl)
-not_true false refuted = refl
+-- no id that is committed is 0
+pub among_positive : (h : List Event) (n id : ℕ) → is_among h n id ≡ true → 0 < id
+among_positive [] n id is = absurd (false≢true is)
+among_positive (e ∷ h) n id is = grind (arith, nat_tests, among_positive h n id, is)
 
 -- a later id is new
 pub later_not_among : (h : List Event) → AreIds h → (n id : ℕ) → given h < id → is_among h n id ≡ false
-later_not_among h ids n id lt = not_true (is_among h n id) (λ is. omega (arith, ids.among_below n id is))
+later_not_among h ids n id lt = false_from_ne_true (is_among h n id) (λ is. omega (arith, ids.among_below n id is))
 
 -- One more entry keeps it.
 step : (e : Event) (h : List Event) → MayCome h e → AreIds h → AreIds (e ∷ h)
-step (Begin t m l) h may ids =
-    record {
-      numbered = λ s. grind (arith, nat_tests, ids.numbered s, may.0);
-      one_number = λ s u open-s open-u same. grind (arith, nat_tests, ids.one_number s u, ids.numbered s, ids.numbered u, may.0);
-      below = λ s. grind (arith, nat_tests, ids.below s);
-      among_below = ids.among_below;
-      among_some = ids.among_some;
-      open_not_among = λ s n is-open. grind (arith, nat_tests, ids.among_some n, ids.open_not_among s n);
-      distinct = λ s u open-s open-u some same. grind (arith, nat_tests, ids.distinct s u);
-      no_id = λ s none. grind (arith, nat_tests, ids.no_id s);
-      closed = λ s none. grind (arith, nat_tests, ids.closed s);
-    }
-step (Changed t change) h may ids =
-    record {
-      numbered = ids.numbered;
-      one_number = ids.one_number;
-      below = λ s. grind (arith, nat_tests, ids.below s, ids.below t);
-      among_below = λ n id is. grind (arith, nat_tests, ids.among_below n id is);
-      among_some = ids.among_some;
-      open_not_among = λ s n is-open. grind (arith, nat_tests, later_not_among h ids n (given h + 1) (omega arith), ids.open_not_among s n);
-      distinct = λ s u open-s open-u some same. grind (arith, nat_tests, ids.distinct s u, ids.below s, ids.below u);
-      no_id = λ s none. grind (arith, nat_tests, ids.no_id s);
-      closed = λ s none. grind (arith, nat_tests, ids.closed s, may.0);
-    }
-step (Undone t keep) h may ids =
-    record {
-      numbered = ids.numbered;
-      one_number = ids.one_number;
-      below = ids.below;
-      among_below = ids.among_below;
-      among_some = ids.among_some;
-      open_not_among = ids.open_not_among;
-      distinct = ids.distinct;
-      no_id = λ s none. grind (arith, nat_tests, ids.no_id s none);
-      closed = λ s none. grind (arith, nat_tests, ids.closed s none);
-    }
-step (Committed t) h may ids =
-    record {
-      numbered = ids.numbered;
-      one_number = λ s u open-s open-u same. grind (arith, nat_tests, ids.one_number s u);
-      below = ids.below;
-      among_below = λ n id is. grind (arith, nat_tests, ids.below t, ids.among_below n id);
-      among_some = λ n. grind (arith, nat_tests, ids.among_some n);
-      open_not_among = λ s n is-open. grind (arith, nat_tests, ids.open_not_among s n, ids.distinct t s may);
-      distinct = λ s u open-s open-u some same. grind (arith, nat_tests, ids.distinct s u);
-      no_id = λ s none. grind (arith, nat_tests, ids.no_id s);
-      closed = λ s none. grind (arith, nat_tests, ids.closed s);
-    }
-step (RolledBack t) h may ids =
-    record {
-      numbered = ids.numbered;
-      one_number = λ s u open-s open-u same. grind (arith, nat_tests, ids.one_number s u);
-      below = ids.below;
-      among_below = ids.among_below;
-      among_some = ids.among_some;
-      open_not_among = λ s n is-open. grind (arith, nat_tests, ids.open_not_among s n);
-      distinct = λ s u open-s open-u some same. grind (arith, nat_tests, ids.distinct s u);
-      no_id = λ s none. grind (arith, nat_tests, ids.no_id s);
-      closed = λ s none. grind (arith, nat_tests, ids.closed s);
-    }
-step e h may ids =
-    record {
-      numbered = ids.numbered;
-      one_number = ids.one_number;
-      below = ids.below;
-      among_below = ids.among_below;
-      among_some = ids.among_some;
-      open_not_among = ids.open_not_among;
-      distinct = ids.distinct;
-      no_id = ids.no_id;
-      closed = ids.closed;
-    }
+step e h may ids = grind (arith, nat_tests, ids, may, later_not_among h ids)
 
 pub ids_of : (h : List Event) → IsOrdered h → AreIds h
-ids_of [] ordered =
-    record {
-      numbered = λ s. omega arith;
-      one_number = λ s t open-s open-t same. grind arith;
-      below = λ s. omega arith;
-      among_below = λ n id is. grind arith;
-      among_some = λ n. refl;
-      open_not_among = λ s n is-open. refl;
-      distinct = λ s t open-s open-t some same. grind arith;
-      no_id = λ s none. refl;
-      closed = λ s none. refl;
-    }
+ids_of [] ordered = grind arith
 ids_of (e ∷ h) ordered = step e h ordered.0 (ids_of h ordered.1)
 
 -- There are no more ids than entries.
 pub given_few : (h : List Event) → given h ≤ length h
 given_few [] = omega arith
-given_few (Changed t change ∷ h) = grind (arith, nat_tests, given_few h)
-given_few (e ∷ h) = omega (arith, given_few h)
+given_few (e ∷ h) = grind (arith, nat_tests, given_few h)

@@ -3,8 +3,6 @@ pub mod Opens
 pub mod Standing
 pub mod Rows
 pub mod Tables
-mod Owed
 pub mod Agree
 pub mod Gets
 pub mod Walk
-mod Searches

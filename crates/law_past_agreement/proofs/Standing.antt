@@ -1,176 +1,67 @@
--- What one more entry does to what is kept of a session.
-use Rattle.std.proofs.Common.{◌≡◌, ℕ, ◌+◌, ◌<◌, ◌≤◌, true, false, Option, Some, None, List, [], ◌∷◌, map, refl, sym, ap, ◌∙◌, ◌⊎◌, inl, inr, arith}
-use Rattle.std.proofs.lemmas.Bool.Decides.{nat_tests, eqb_tells}
-use Rattle.std.proofs.lemmas.Bool.{cases_lt}
-use Rattle.inno_types.specs.declared.value.Schema.{Schema}
-use Rattle.inno_db.specs.declared.change.Change.{Change}
+-- What one more entry does to ids, views and what is owed.
+use Rattle.std.proofs.Common.{◌≡◌, ℕ, ◌<◌, ◌≤◌, true, false, Option, Some, None, List, [], ◌∷◌, refl, sym, ◌∙◌, ◌⊎◌, inl, inr, arith}
+use Rattle.std.proofs.lemmas.Bool.Decides.{nat_tests}
 use Rattle.inno_model.specs.declared.event.Event.{Event}
-use Rattle.inno_model.specs.declared.event.Event.TheVariants.{Begin, View, Changed, Committed, RolledBack}
-use Rattle.inno_model.specs.Past.{is_of, level, own, view_of, commits, txn, IsOpen}
+use Rattle.inno_model.specs.Past.{is_of, view_of, commits}
 use Rattle.inno_model.proofs.{Untouched.untouched, Commits.commits_rise}
 use Rattle.read_view.specs.Sight.{Sight}
-use Rattle.law_past_agreement.specs.{Ids.given, Ids.id_of, Ids.is_among, Order.MayCome, Rows.place_in, Rows.IsNeeded, Slots.Work, Slots.Slot}
-use Rattle.law_past_agreement.specs.Agreement.{IsCommitted, IsSettled, IsStanding, IsViewOf, ViewAgrees, WorkAgrees, SlotAgrees}
-use Rattle.law_past_agreement.proofs.Ids.{AreIds, later_not_among}
+use Rattle.law_past_agreement.specs.{Ids.given, Ids.id_of, Ids.is_among, Order.MayCome, Rows.IsNeeded}
+use Rattle.law_past_agreement.specs.Agreement.{IsSettled, IsStanding, ViewAgrees, owed_by}
+use Rattle.law_past_agreement.proofs.Ids.{AreIds, among_positive, later_not_among}
 
--- what has committed stays committed
-among_more : (e : Event) (h : List Event) (n id : ℕ) → is_among h n id ≡ true → is_among (e ∷ h) n id ≡ true
-among_more (Committed t) h n id is = grind (arith, nat_tests, is)
-among_more e h n id is = is
-
-pub committed_more : (e : Event) (h : List Event) (id : ℕ) → IsCommitted h id → IsCommitted (e ∷ h) id
-committed_more e h id c = (c.0, among_more e h c.0 id c.1)
-
+-- what is settled stays so
 pub settled_more : (e : Event) (h : List Event) (id : ℕ) → IsSettled h id → IsSettled (e ∷ h) id
-settled_more e h id (inl zero-is) = inl zero-is
-settled_more e h id (inr c) = inr (committed_more e h id c)
+settled_more e h id settled = grind (arith, nat_tests, settled)
 
 -- who may read the first n commits after the entry could before
-view_before : (e : Event) (h : List Event) (n s : ℕ) → IsOpen s (e ∷ h) → view_of s (e ∷ h) ≡ Some n → IsNeeded h n
-view_before (View t) h n s is-open is =
-    elim (eqb_tells t s) [
-      | inl same ↦ inl (let now : Some (commits h) ≡ Some n = grind (arith, nat_tests, is, same.0) in let at : commits h ≡ n = cc in omega (arith, at))
-      | inr differ ↦ inr (s, is-open, grind (arith, nat_tests, is, differ.0))
-    ]
-view_before (Begin t m l) h n s is-open is = inr (s, grind (arith, nat_tests, is-open, is), grind (arith, nat_tests, is))
-view_before (Committed t) h n s is-open is = inr (s, grind (arith, nat_tests, is-open), is)
-view_before (RolledBack t) h n s is-open is = inr (s, grind (arith, nat_tests, is-open), is)
-view_before e h n s is-open is = inr (s, is-open, is)
-
 pub needed_before : (e : Event) (h : List Event) (n : ℕ) → IsNeeded (e ∷ h) n → IsNeeded h n
-needed_before e h n (inl latest) = inl (omega (arith, latest, commits_rise e h))
-needed_before e h n (inr reader) = view_before e h n reader.0 reader.1 reader.2
+needed_before e h n needed = grind (arith, nat_tests, needed, commits_rise e h)
 
-pub is_among_stays : (e : Event) (h : List Event) (n id : ℕ) → n ≤ commits h → is_among (e ∷ h) n id ≡ is_among h n id
-is_among_stays (Committed t) h n id le = grind (arith, nat_tests)
-is_among_stays e h n id le = refl
-
-is_among_mono : (h : List Event) (m n id : ℕ) → m ≤ n → is_among h m id ≡ true → is_among h n id ≡ true
-is_among_mono [] m n id le is = is
-is_among_mono (Committed t ∷ h) m n id le is = grind (arith, nat_tests, is_among_mono h m n id le, is)
-is_among_mono (e ∷ h) m n id le is = is_among_mono h m n id le is
+among_from : (h : List Event) (n m id : ℕ) → commits h ≤ m → is_among h n id ≡ true → is_among h m id ≡ true
+among_from [] n m id le is = is
+among_from (e ∷ h) n m id le is = grind (arith, nat_tests, among_from h n m id, le, is)
 
 -- What is among any number of commits is among all.
 pub is_among_all : (h : List Event) (n id : ℕ) → is_among h n id ≡ true → is_among h (commits h) id ≡ true
-is_among_all [] n id is = is
-is_among_all (Committed t ∷ h) n id is =
-    let more : is_among h (commits h) id ≡ true → is_among h (commits h + 1) id ≡ true = is_among_mono h (commits h) (commits h + 1) id (omega arith) in
-    grind (arith, nat_tests, is_among_all h n id, more, is)
-is_among_all (e ∷ h) n id is = is_among_all h n id is
+is_among_all h n id = among_from h n (commits h) id (omega arith)
 
-pub given_rise : (e : Event) (h : List Event) → given h ≤ given (e ∷ h)
-given_rise (Changed t change) h = grind (arith, nat_tests)
-given_rise e h = omega arith
+given_rise : (e : Event) (h : List Event) → given h ≤ given (e ∷ h)
+given_rise e h = grind (arith, nat_tests)
 
 -- no id is 0
-pub standing_some : (h : List Event) (id : ℕ) → AreIds h → IsStanding h id → 0 < id
-standing_some h id ids (inl c) =
-    elim (cases_lt 0 id) [ inl lt ↦ lt | inr le ↦ let none : id ≡ 0 = omega (arith, le) in absurd (grind (arith, nat_tests, none, c.1, ids.among_some c.0)) ]
-standing_some h id ids (inr o) = o.3
+pub standing_some : (h : List Event) (id : ℕ) → IsStanding h id → 0 < id
+standing_some h id standing = grind (arith, standing, among_positive h)
 
 -- an id that stands stood before, or has just been given
-pub stood : (e : Event) (h : List Event) (id : ℕ) → MayCome h e → AreIds h → IsStanding (e ∷ h) id → IsStanding h id ⊎ (given h < id)
-stood (Begin t m l) h id may ids (inl c) = inl (inl c)
-stood (Begin t m l) h id may ids (inr o) =
-    elim (eqb_tells t o.0) [
-      | inl same ↦ absurd (grind (arith, nat_tests, same.0, o.2, o.3))
-      | inr differ ↦ inl (inr (o.0, grind (arith, nat_tests, o.1, differ.0), grind (arith, nat_tests, o.2, differ.0), o.3))
-    ]
-stood (Changed t change) h id may ids (inl c) = inl (inl c)
-stood (Changed t change) h id may ids (inr o) =
-    elim (cases_lt (given h) id) [
-      | inl lt ↦ inr lt
-      | inr le ↦ inl (inr (o.0, o.1, grind (arith, nat_tests, o.2, le), o.3))
-    ]
-stood (Committed t) h id may ids (inl c) =
-    elim (eqb_tells (id_of h t) id) [
-      | inl same ↦ inl (inr (
-        t,
-        may,
-        same.1,
-        elim (cases_lt 0 id)
-            [ inl lt ↦ lt | inr le ↦ let none : id ≡ 0 = omega (arith, le) in absurd (grind (arith, nat_tests, none, c.1, ids.among_some c.0)) ],
-      ))
-      | inr differ ↦ inl (inl (c.0, grind (arith, nat_tests, c.1, differ.0)))
-    ]
-stood (Committed t) h id may ids (inr o) = inl (inr (o.0, grind (arith, nat_tests, o.1), o.2, o.3))
-stood (RolledBack t) h id may ids (inl c) = inl (inl c)
-stood (RolledBack t) h id may ids (inr o) = inl (inr (o.0, grind (arith, nat_tests, o.1), o.2, o.3))
-stood e h id may ids standing = inl standing
+stood : (e : Event) (h : List Event) (id : ℕ) → MayCome h e → IsStanding (e ∷ h) id → IsStanding h id ⊎ (given h < id)
+stood e h id may standing = grind (arith, nat_tests, among_positive (e ∷ h), standing)
 
--- A view stays what it is while the session's id and view do, at an own entry too.
-pub view_kept : (e : Event) (h : List Event) (s n : ℕ) (sight : Sight) → MayCome h e → AreIds h → id_of (e ∷ h) s ≡ id_of h s
-    → view_of s (e ∷ h) ≡ view_of s h → IsViewOf h s n sight → IsViewOf (e ∷ h) s n sight
-view_kept e h s n sight may ids same-id same-view v =
-    record {
-      is-view = same-view ∙ v.is-view;
-      within = omega (arith, commits_rise e h, v.within);
-      earlier = v.earlier;
-      alike = λ id standing differ.
-          let among = is_among_stays e h n id v.within in
-          elim (stood e h id may ids standing) [
-            | inl before ↦ v.alike id before (λ same. differ (same ∙ sym same-id)) ∙ sym among
-            | inr new ↦ v.later id new ∙ sym (among ∙ later_not_among h ids n id new)
-          ];
-      later = λ id lt. v.later id (omega (arith, given_rise e h, lt));
-    }
-
--- It does too where the session is given its id later than its view.
-pub view_changed : (s : ℕ) (change : Change) (h : List Event) (n : ℕ) (sight : Sight) → AreIds h → IsViewOf h s n sight
-    → IsViewOf (Changed s change ∷ h) s n sight
-view_changed s change h n sight ids v =
-    record {
-      is-view = v.is-view;
-      within = v.within;
-      earlier = v.earlier;
-      alike = λ id standing differ.
-          elim standing [
-            | inl c ↦ v.alike id (inl c) (λ same. differ (grind (arith, nat_tests, same, standing_some h id ids (inl c))))
-            | inr o ↦
-                elim (eqb_tells s o.0) [
-                  | inl same ↦ absurd (differ (sym o.2 ∙ ap (λ u. id_of (Changed s change ∷ h) u) (sym same.1)))
-                  | inr other ↦
-                      let is : id_of h o.0 ≡ id = grind (arith, nat_tests, o.2, other.0) in
-                      v.alike id (inr (o.0, o.1, is, o.3)) (λ same. differ (grind (arith, nat_tests, same, o.3)))
-                ]
-          ];
-      later = λ id lt. v.later id (omega (arith, given_rise (Changed s change) h, lt));
-    }
-
-pub view_agrees : (e : Event) (h : List Event) (s : ℕ) → MayCome h e → AreIds h → id_of (e ∷ h) s ≡ id_of h s → view_of s (e ∷ h) ≡ view_of s h
-    → (o : Option Sight) → ViewAgrees h s o → ViewAgrees (e ∷ h) s o
-view_agrees e h s may ids same-id same-view None v = same-view ∙ v
-view_agrees e h s may ids same-id same-view (Some sight) v = (v.0, view_kept e h s v.0 sight may ids same-id same-view v.1)
-
-pub view_agrees_changed : (s : ℕ) (change : Change) (h : List Event) → AreIds h → (o : Option Sight) → ViewAgrees h s o → ViewAgrees (Changed s change ∷ h) s o
-view_agrees_changed s change h ids None v = v
-view_agrees_changed s change h ids (Some sight) v = (v.0, view_changed s change h v.0 sight ids v.1)
-
--- What is kept of a transaction stays right while its level, its number, its id, its changes and its view do.
-pub work_kept : (schemas : List Schema) (e : Event) (h : List Event) (s : ℕ) → MayCome h e → AreIds h → level s (e ∷ h) ≡ level s h
-    → txn s (e ∷ h) ≡ txn s h → id_of (e ∷ h) s ≡ id_of h s → own s (e ∷ h) ≡ own s h → view_of s (e ∷ h) ≡ view_of s h → (o : Option Work)
-    → WorkAgrees schemas h s o → WorkAgrees schemas (e ∷ h) s o
-work_kept schemas e h s may ids same-level same-txn same-id same-own same-view None agrees =
-    record { level_is = same-level ∙ agrees.level_is; own_is = same-own ∙ agrees.own_is }
-work_kept schemas e h s may ids same-level same-txn same-id same-own same-view (Some w) agrees =
-    record {
-      level_is = same-level ∙ agrees.level_is;
-      txn_is = same-txn ∙ agrees.txn_is;
-      id_is = same-id ∙ agrees.id_is;
-      places_are = ap (map (place_in schemas)) same-own ∙ agrees.places_are;
-      view_is = view_agrees e h s may ids same-id same-view w.view agrees.view_is;
-    }
+-- A view stays what it is while the session's view does, and its id once it has one, at an own entry too.
+pub view_agrees : (e : Event) (h : List Event) (s : ℕ) → MayCome h e → AreIds h → ((id : ℕ) → 0 < id → id ≡ id_of h s → id ≡ id_of (e ∷ h) s)
+    → view_of s (e ∷ h) ≡ view_of s h → (o : Option Sight) → ViewAgrees h s o → ViewAgrees (e ∷ h) s o
+view_agrees e h s may ids keeps-id same-view None v = same-view ∙ v
+view_agrees e h s may ids keeps-id same-view (Some sight) agrees = (
+  agrees.0,
+  let n = agrees.0 in
+      let v = agrees.1 in
+      record {
+        is-view = same-view ∙ v.is-view;
+        within = omega (arith, commits_rise e h, v.within);
+        earlier = v.earlier;
+        alike = λ id standing differ.
+            let among : is_among (e ∷ h) n id ≡ is_among h n id = grind (arith, nat_tests, v.within) in
+            elim (stood e h id may standing) [
+              | inl before ↦ v.alike id before (λ same. differ (keeps-id id (standing_some h id before) same)) ∙ sym among
+              | inr new ↦ v.later id new ∙ sym (among ∙ later_not_among h ids n id new)
+            ];
+        later = λ id lt. v.later id (omega (arith, given_rise e h, lt));
+      },
+)
 
 -- an entry of another session gives this one no id
 pub other_id : (e : Event) (h : List Event) (s : ℕ) → is_of s e ≡ false → id_of (e ∷ h) s ≡ id_of h s
 other_id e h s other = grind (arith, nat_tests)
 
--- What is kept of a session stays right at an entry of another one.
-pub other_kept : (schemas : List Schema) (e : Event) (h : List Event) (s : ℕ) → MayCome h e → AreIds h → is_of s e ≡ false → (slot : Slot)
-    → SlotAgrees schemas h s slot → SlotAgrees schemas (e ∷ h) s slot
-other_kept schemas e h s may ids other slot agrees =
-    let same = untouched e h s other in
-    record {
-      started_is = same.count ∙ agrees.started_is;
-      work_is = work_kept schemas e h s may ids same.level_is same.txn_is (other_id e h s other) same.own_is same.view_is slot.work agrees.work_is;
-    }
+-- and owes it nothing more
+pub other_owed : (e : Event) (h : List Event) (s : ℕ) → is_of s e ≡ false → owed_by (e ∷ h) s ≡ owed_by h s
+other_owed e h s other = let same = untouched e h s other in rw (same.level_is, same.own_is, same.entries, same.item) refl

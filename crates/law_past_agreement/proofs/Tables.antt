@@ -1,24 +1,20 @@
 -- Changes of an ordered past are of tables that have been made, and a table more leaves their places.
-use Rattle.std.proofs.Common.{◌≡◌, ℕ, ◌-◌, ◌<◌, ◌≤◌, Bool, true, false, cond, List, [], ◌∷◌, ◌++◌, length, drop, Some, refl, ap, zero, suc, arith}
+use Rattle.std.proofs.Common.{◌≡◌, ℕ, ◌<◌, ◌≤◌, List, [], ◌∷◌, ◌++◌, length, drop, refl, zero, suc, arith}
 use Rattle.std.proofs.lemmas.List.{length-append}
-use Rattle.std.specs.Prelude.{map}
+use Rattle.std.proofs.lemmas.Bool.Decides.{nat_tests}
 use Rattle.std.specs.List.{AllByRecursion}
 use Rattle.inno_types.specs.{declared.value.Schema.Schema, declared.value.Value.Value}
-use Rattle.inno_db.specs.{Database.key_in, declared.change.Change.Change, declared.change.Change.TheVariants.Create, declared.change.Change.TheVariants.Put}
-use Rattle.inno_db.specs.{declared.change.Change.TheVariants.Remove}
+use Rattle.inno_db.specs.{Database.key_in, declared.change.Change.Change}
 use Rattle.inno_model.specs.declared.event.Event.{Event}
-use Rattle.inno_model.specs.declared.event.Event.TheVariants as events
-use Rattle.inno_model.specs.Past.{own, oldest, committed}
+use Rattle.inno_model.specs.Past.{own, committed}
 use Rattle.row_versions.specs.declared.place.Place.{Place}
-use Rattle.law_past_agreement.specs.{Order.created, Order.IsTabled, Order.MayCome, Order.IsOrdered, Rows.place_in, Rows.is_place, Rows.is_at}
+use Rattle.law_past_agreement.specs.{Order.created, Order.IsTabled, Order.MayCome, Order.IsOrdered, Rows.is_at}
 use Rattle.law_past_agreement.proofs.Opens.{all_weaker}
 
 -- ---- what a table more leaves
 
 tabled_more : (m n : ℕ) → m ≤ n → (change : Change) → IsTabled m change → IsTabled n change
-tabled_more m n le (Create schema) is = tt
-tabled_more m n le (Put table row) is = omega (arith, le, is)
-tabled_more m n le (Remove table key) is = omega (arith, le, is)
+tabled_more m n le change is = grind (arith, le, is)
 
 pub key_stays : (schemas more : List Schema) (table : ℕ) (row : List Value) → table < length schemas
     → key_in (schemas ++ more) table row ≡ key_in schemas table row
@@ -26,20 +22,9 @@ key_stays [] more table row lt = absurd (omega (arith, lt))
 key_stays (schema ∷ schemas) more zero row lt = refl
 key_stays (schema ∷ schemas) more (suc table) row lt = key_stays schemas more table row (omega (arith, lt))
 
-pub place_stays : (schemas more : List Schema) (change : Change) → IsTabled (length schemas) change
-    → place_in (schemas ++ more) change ≡ place_in schemas change
-place_stays schemas more (Create schema) is = refl
-place_stays schemas more (Put table row) is = ap (λ key. Some (record { table = table; key = key })) (key_stays schemas more table row is)
-place_stays schemas more (Remove table key) is = refl
-
 pub at_stays : (schemas more : List Schema) (place : Place) (change : Change) → IsTabled (length schemas) change
     → is_at (schemas ++ more) place change ≡ is_at schemas place change
-at_stays schemas more place change is = ap (is_place place) (place_stays schemas more change is)
-
-pub places_stay : (schemas more : List Schema) (changes : List Change) → AllByRecursion (IsTabled (length schemas)) changes
-    → map (place_in (schemas ++ more)) changes ≡ map (place_in schemas) changes
-places_stay schemas more [] all = refl
-places_stay schemas more (change ∷ changes) all = rw (place_stays schemas more change all.0, places_stay schemas more changes all.1) refl
+at_stays schemas more place change is = grind (arith, key_stays schemas more, is)
 
 -- ---- in an ordered past
 
@@ -48,50 +33,32 @@ all_dropped P zero changes all = all
 all_dropped P (suc n) [] all = tt
 all_dropped P (suc n) (change ∷ changes) all = all_dropped P n changes all.1
 
-all_cond : (P : Change → Type 0) (b : Bool) (xs ys : List Change) → AllByRecursion P xs → AllByRecursion P ys → AllByRecursion P (cond b xs ys)
-all_cond P true xs ys all other = all
-all_cond P false xs ys all other = other
-
-all_joined : (P : Change → Type 0) (xs ys : List Change) → AllByRecursion P xs → AllByRecursion P ys → AllByRecursion P (xs ++ ys)
+pub all_joined : (P : Change → Type 0) (xs ys : List Change) → AllByRecursion P xs → AllByRecursion P ys → AllByRecursion P (xs ++ ys)
 all_joined P [] ys all other = other
 all_joined P (x ∷ xs) ys all other = (all.0, all_joined P xs ys all.1 other)
 
 created_rise : (e : Event) (h : List Event) → MayCome h e → length (created h) ≤ length (created (e ∷ h))
-created_rise (events.Opened db) h may = rw may (omega arith)
-created_rise (events.Changed s (Create schema)) h may = omega (arith, length-append (created h) (schema ∷ []))
-created_rise (events.Changed s (Put table row)) h may = omega arith
-created_rise (events.Changed s (Remove table key)) h may = omega arith
-created_rise e h may = omega arith
+created_rise e h may = grind (arith, length-append {A = Schema}, may)
 
-risen : (e : Event) (h : List Event) → MayCome h e → (changes : List Change) → AllByRecursion (IsTabled (length (created h))) changes
-    → AllByRecursion (IsTabled (length (created (e ∷ h)))) changes
-risen e h may changes all =
+abbrev AreTabled : List Event → List Change → Type 0
+AreTabled h = AllByRecursion (IsTabled (length (created h)))
+
+risen : (e : Event) (h : List Event) → MayCome h e → (changes : List Change) → AreTabled h changes → AreTabled (e ∷ h) changes
+risen e h may =
     all_weaker (IsTabled (length (created h))) (IsTabled (length (created (e ∷ h))))
-    (tabled_more (length (created h)) (length (created (e ∷ h))) (created_rise e h may)) changes all
+    (tabled_more (length (created h)) (length (created (e ∷ h))) (created_rise e h may))
 
 -- each change of an open transaction
-own_step : (e : Event) (h : List Event) (s : ℕ) → MayCome h e → AllByRecursion (IsTabled (length (created h))) (own s h)
-    → AllByRecursion (IsTabled (length (created h))) (own s (e ∷ h))
-own_step (events.Begin t n level) h s may all = all_cond (IsTabled (length (created h))) _ [] (own s h) tt all
-own_step (events.Changed t change) h s may all = all_cond (IsTabled (length (created h))) _ (change ∷ own s h) (own s h) (may.1, all) all
-own_step (events.Undone t keep) h s may all =
-    all_cond (IsTabled (length (created h))) _ (oldest keep (own s h)) (own s h)
-    (all_dropped (IsTabled (length (created h))) (length (own s h) - keep) (own s h) all) all
-own_step (events.Committed t) h s may all = all_cond (IsTabled (length (created h))) _ [] (own s h) tt all
-own_step (events.RolledBack t) h s may all = all_cond (IsTabled (length (created h))) _ [] (own s h) tt all
-own_step e h s may all = all
+own_step : (e : Event) (h : List Event) (s : ℕ) → MayCome h e → AreTabled h (own s h) → AreTabled h (own s (e ∷ h))
+own_step e h s may all = grind (arith, nat_tests, all_dropped (IsTabled (length (created h))), may, all)
 
 pub own_tabled : (h : List Event) → IsOrdered h → (s : ℕ) → AllByRecursion (IsTabled (length (created h))) (own s h)
 own_tabled [] ordered s = tt
 own_tabled (e ∷ h) ordered s = risen e h ordered.0 (own s (e ∷ h)) (own_step e h s ordered.0 (own_tabled h ordered.1 s))
 
 -- each change that was committed
-committed_step : (e : Event) (h : List Event) (n : ℕ) → ((s : ℕ) → AllByRecursion (IsTabled (length (created h))) (own s h))
-    → AllByRecursion (IsTabled (length (created h))) (committed n h) → AllByRecursion (IsTabled (length (created h))) (committed n (e ∷ h))
-committed_step (events.Committed t) h n owns all =
-    all_cond (IsTabled (length (created h))) _ (own t h ++ committed n h) (committed n h)
-    (all_joined (IsTabled (length (created h))) (own t h) (committed n h) (owns t) all) all
-committed_step e h n owns all = all
+committed_step : (e : Event) (h : List Event) (n : ℕ) → ((s : ℕ) → AreTabled h (own s h)) → AreTabled h (committed n h) → AreTabled h (committed n (e ∷ h))
+committed_step e h n owns all = grind (arith, nat_tests, all_joined (IsTabled (length (created h))), owns, all)
 
 pub committed_tabled : (h : List Event) → IsOrdered h → (n : ℕ) → AllByRecursion (IsTabled (length (created h))) (committed n h)
 committed_tabled [] ordered n = tt

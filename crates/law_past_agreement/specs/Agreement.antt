@@ -1,16 +1,16 @@
 -- That rows, transactions and sessions agree with the past.
-use Rattle.std.specs.Prelude.{◌≡◌, ◌≢◌, ℕ, zero, suc, ◌+◌, ◌<◌, ◌≤◌, ◌^◌, ◌⊎◌, Bool, true, false, if◌then◌else◌, Option, Some, None, List, [], ◌∷◌, ◌++◌, map}
+use Rattle.std.specs.Prelude.{◌≡◌, ◌≢◌, ℕ, ◌+◌, ◌<◌, ◌≤◌, ◌^◌, ◌⊎◌, Bool, true, false, if◌then◌else◌, Option, Some, None, List, [], ◌∷◌, ◌++◌, map}
 use Rattle.std.specs.Prelude.{length, slice_index_or}
 use Rattle.std.specs.List.{AllByRecursion, list_any}
 use Rattle.inno_types.specs.{declared.value.Value.Value, declared.value.Schema.Schema, declared.lock.Level.Level, declared.reply.Item.Item}
 use Rattle.inno_db.specs.declared.change.Change.{Change}
 use Rattle.inno_model.specs.declared.event.Event.{Event}
-use Rattle.inno_model.specs.Past.{level, txn, own, view_of, begins, commits, committed, started, under_way, of_item, IsOpen, awaits_ack}
+use Rattle.inno_model.specs.Past.{level, txn, own, view_of, commits, committed, started, under_way, of_item, IsOpen, awaits_ack}
 use Rattle.read_view.specs.Sight.{Sight, is_seen}
 use Rattle.txn_table.specs.Txns.{Txns}
 use Rattle.row_versions.specs.{declared.place.Place.Place, declared.version.Version.Version, Chains.Chains, Chains.versions_at, Chains.first_seen}
 use Rattle.row_versions.specs.{Chains.newest}
-use Rattle.law_past_agreement.specs.Ids.{given, id_of, is_among, is_settled, opens}
+use Rattle.law_past_agreement.specs.Ids.{given, id_of, is_among, is_settled, txns_of}
 use Rattle.law_past_agreement.specs.{Order.IsOrdered, Order.created, Slots.Work, Slots.Slot, Slots.fresh}
 use Rattle.law_past_agreement.specs.Rows.{place_in, is_at, row_of, row_at, row_opened, IsNeeded}
 
@@ -103,22 +103,14 @@ owed_by_item None = 0
 abbrev pub owed_by : List Event → ℕ → ℕ
 owed_by h s = owed_by_txn (level s h) (length (own s h)) (awaits_ack (of_item s h)) + owed_by_item (under_way s h)
 
--- those of the first n sessions
-abbrev pub owed_by_all : List Event → ℕ → ℕ
-owed_by_all h zero = 0
-owed_by_all h (suc n) = owed_by h n + owed_by_all h n
-
-pub record IsAgreed (names : List (List ℕ)) (h : List Event) (room : ℕ) (schemas : List Schema) (chains : Chains) (txns : Txns) (slots : List Slot)
-    (owed : ℕ) (writer : Option ℕ) : Type 0 where
+pub record IsAgreed (names : List (List ℕ)) (h : List Event) (schemas : List Schema) (chains : Chains) (txns : Txns) (slots : List Slot)
+    (writer : Option ℕ) : Type 0 where
   pub ordered : IsOrdered h
   pub small : length h < 2 ^ 63
   pub tables : schemas ≡ created h
-  pub txns_are : txns ≡ record { open_txns = opens h; begun = begins h; next = given h + 1 }
+  pub txns_are : txns ≡ txns_of h
   pub sessions : (s : ℕ) → SlotAgrees schemas h s (slice_index_or slots s fresh)
   pub rows : (place : Place) → AreVersions h (row_opened h place) (is_at schemas place) (versions_at place chains)
   pub writes : WriterAgrees h writer
-  pub enough : length names ≤ length slots
-  pub owes : owed_by_all h (length names) ≤ owed
-  pub has_room : owed ≤ room
   -- nothing is owed to a session that hasn't joined
   pub strangers : (s : ℕ) → length names ≤ s → owed_by h s ≡ 0

@@ -1,8 +1,9 @@
 -- The ids of transactions, read off a past: one is given where a transaction first writes.
 use Rattle.std.specs.Prelude.{ℕ, ◌+◌, Bool, false, ◌||◌, ◌&&◌, ◌==◌, nat_lt, if◌then◌else◌, List, [], ◌∷◌, ◌++◌}
 use Rattle.inno_model.specs.{declared.event.Event.Event, declared.event.Event.TheVariants.Begin, declared.event.Event.TheVariants.Changed}
-use Rattle.inno_model.specs.{declared.event.Event.TheVariants.Committed, declared.event.Event.TheVariants.RolledBack, Past.commits, Past.txn}
-use Rattle.txn_table.specs.Txns.{Entry, with_id, without}
+use Rattle.inno_model.specs.{declared.event.Event.TheVariants.Committed, declared.event.Event.TheVariants.RolledBack, Past.begins, Past.commits}
+use Rattle.inno_model.specs.{Past.txn}
+use Rattle.txn_table.specs.Txns.{Txns, Entry, with_id, without}
 
 abbrev mutual
   -- how many ids were given
@@ -36,3 +37,7 @@ opens (Changed t change ∷ h) = if id_of h t == 0 then with_id (txn t h) (given
 opens (Committed t ∷ h) = without (txn t h) (opens h)
 opens (RolledBack t ∷ h) = without (txn t h) (opens h)
 opens (e ∷ h) = opens h
+
+-- the table of transactions
+abbrev pub txns_of : List Event → Txns
+txns_of h = record { open_txns = opens h; begun = begins h; next = given h + 1 }

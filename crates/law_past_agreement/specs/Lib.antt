@@ -1,8 +1,6 @@
 pub mod Order
 pub mod Rows
-pub mod Changes
 pub mod Slots
 pub mod Ids
 pub mod Agreement
 pub mod DatabaseTables
-pub mod Matching

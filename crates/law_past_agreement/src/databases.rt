@@ -4,16 +4,13 @@
 ghost use Rattle.std.specs.Prelude.{◌≡◌, ℕ, List, []};
 ghost use Rattle.std.specs.FinMap.{get};
 ghost use Rattle.inno_types.specs.declared.value.Value.{Value};
-ghost use Rattle.inno_types.specs.declared.stmt.Stmt.{Stmt};
-ghost use Rattle.inno_db.specs.Database.{Database, RowMap, rows_of};
-ghost use Rattle.inno_db.specs.Outcome.{outcome};
+ghost use Rattle.inno_db.specs.Database.{RowMap, rows_of};
 ghost use Rattle.inno_model.specs.declared.event.Event.{Event};
 ghost use Rattle.inno_model.specs.Past.{changed};
 ghost use Rattle.row_versions.specs.declared.place.Place.{Place};
 ghost use Rattle.row_versions.specs.Chains.{in_model};
 ghost use Rattle.law_past_agreement.specs.Order.{IsOrdered};
 ghost use Rattle.law_past_agreement.specs.Rows.{seen, row_seen};
-ghost use Rattle.law_past_agreement.specs.Matching.{FindsTheSame};
 ghost use Rattle.law_past_agreement.specs.DatabaseTables.{with_all_tables, AreRowsOfTable, rows_in};
 
 /// What a session sees at a place is the row of the database: the opening with all tables, and behind it the changes that
@@ -25,10 +22,4 @@ pub fn rows_seen_are_those_of_the_database()
 /// Rows that rise by their keys, and of which each is the one of its key in a map, are the rows of the table there.
 pub fn rows_found_key_by_key_are_those_of_the_table()
     ensures { (table : ℕ) (map : RowMap) (rows : List (Value × List Value)) → AreRowsOfTable table map rows → rows_of table (record { schemas = []; rows = map }) ≡ (rows_in rows) }
-{}
-
-/// The outcome of a search depends on the rows that its condition lets through, and on no others: whatever else was
-/// gathered or left out makes no difference.
-pub fn a_search_reads_what_it_lets_through()
-    ensures { (stmt : Stmt) (db : Database) (rows : RowMap) → FindsTheSame stmt db rows → outcome stmt db ≡ outcome stmt (record db { rows = rows }) }
 {}

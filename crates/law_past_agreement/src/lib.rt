@@ -7,6 +7,5 @@
 mod databases;
 
 pub use databases::{
-    a_search_reads_what_it_lets_through, rows_found_key_by_key_are_those_of_the_table,
-    rows_seen_are_those_of_the_database,
+    rows_found_key_by_key_are_those_of_the_table, rows_seen_are_those_of_the_database,
 };

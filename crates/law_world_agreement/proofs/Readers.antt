@@ -1,15 +1,12 @@
 -- What readers find in a world that agrees with its past.
-use Rattle.std.proofs.Common.{◌≡◌, ℕ, Option, Some, refl, ap}
-use Rattle.std.specs.Prelude.{option_map}
+use Rattle.std.proofs.Common.{◌≡◌, ℕ, Option, Some, ap, sym, subst, ◌∙◌, is_some, option_map}
 use Rattle.inno_model.specs.Past.{view_of}
-use Rattle.row_versions.specs.declared.place.Place.{Place}
-use Rattle.row_versions.specs.Chains.{Chains, versions_at, first_seen, newest, sees, IsFirstFrom, IsNoneFrom, IsNext, IsLast}
-use Rattle.law_past_agreement.specs.Rows.{row_seen, IsFirstSeen, IsNoneSeen, IsNextSeen, IsLastSeen, IsNewestSeen}
-use Rattle.law_past_agreement.specs.Agreement.{owed_by_all}
-use Rattle.law_past_agreement.proofs.Agree.{visible_is, newest_row, first_is, none_is, next_is, last_is}
+use Rattle.row_versions.specs.{declared.place.Place.Place, Chains.Chains, Chains.versions_at, Chains.first_seen, Chains.newest, Chains.sees}
+use Rattle.law_past_agreement.specs.{Rows.row_seen, Rows.IsNewestSeen, Agreement.ViewAgrees}
+use Rattle.law_past_agreement.proofs.Agree.{visible_is, newest_row}
 use Rattle.world.specs.State.{WorldState, Session, Work, Seen, HasWork}
-use Rattle.law_world_agreement.specs.Agreement.{sight_of, work_at, slots_from, Agrees}
-use Rattle.law_world_agreement.proofs.Ending.{slot_work}
+use Rattle.law_world_agreement.specs.Agreement.{sight_of, Agrees}
+use Rattle.law_world_agreement.proofs.Settled.{kept_of, rows_told}
 
 module _ (chains : Chains) (writer : Option ℕ) (state : WorldState) (agrees : Agrees chains writer state) where
   -- by the view of an open transaction
@@ -17,31 +14,12 @@ module _ (chains : Chains) (writer : Option ℕ) (state : WorldState) (agrees : 
       → view_of s state.past ≡ Some n
       → first_seen (sees work.id (sight_of seen)) (versions_at place chains) ≡ row_seen state.past s n place
   seen_by_view s n session work seen place has view is =
-      visible_is state.names state.past (owed_by_all state.past _) state.schemas chains state.txns (slots_from 0 state.past state.schemas state.sessions)
-      (owed_by_all state.past _) writer agrees.lists
-      s (work_at _ work) (sight_of seen) place (slot_work chains writer state s session work has) (ap (option_map sight_of) view) n is
+      let mine = kept_of agrees has in
+      let v = subst (λ o. ViewAgrees state.past s (option_map sight_of o)) view mine.view_is in
+      let same : v.0 ≡ n = let e = sym v.1.is-view ∙ is in cc in
+      ap (λ id. first_seen (sees id (sight_of seen)) (versions_at place chains)) (sym mine.id_is)
+      ∙ (visible_is state.past chains (rows_told agrees) agrees.lists.ordered s v.0 (sight_of seen) (ap is_some mine.level_is) v.1 place
+      ∙ ap (λ m. row_seen state.past s m place) same)
 
   pub seen_newest : (place : Place) → IsNewestSeen state.past place (newest (versions_at place chains))
-  seen_newest place =
-      newest_row state.names state.past (owed_by_all state.past _) state.schemas chains state.txns (slots_from 0 state.past state.schemas state.sessions)
-      (owed_by_all state.past _) writer agrees.lists place _ refl
-
-  pub first_place : (place first : Place) → IsFirstFrom place chains first → IsFirstSeen state.past place first
-  first_place =
-      first_is state.names state.past (owed_by_all state.past _) state.schemas chains state.txns (slots_from 0 state.past state.schemas state.sessions)
-      (owed_by_all state.past _) writer agrees.lists
-
-  pub no_place : (place : Place) → IsNoneFrom place chains → IsNoneSeen state.past place
-  no_place =
-      none_is state.names state.past (owed_by_all state.past _) state.schemas chains state.txns (slots_from 0 state.past state.schemas state.sessions)
-      (owed_by_all state.past _) writer agrees.lists
-
-  pub next_place : (place next : Place) → IsNext place chains next → IsNextSeen state.past place next
-  next_place =
-      next_is state.names state.past (owed_by_all state.past _) state.schemas chains state.txns (slots_from 0 state.past state.schemas state.sessions)
-      (owed_by_all state.past _) writer agrees.lists
-
-  pub last_place : (place : Place) → IsLast place chains → IsLastSeen state.past place
-  last_place =
-      last_is state.names state.past (owed_by_all state.past _) state.schemas chains state.txns (slots_from 0 state.past state.schemas state.sessions)
-      (owed_by_all state.past _) writer agrees.lists
+  seen_newest = newest_row state.past chains (rows_told agrees)

@@ -1,23 +1,17 @@
--- What is kept of sessions, in the words of the past, as lists agree with it.
-use Rattle.std.proofs.Common.{◌≡◌, ◌≢◌, ⊎_elim, ℕ, zero, suc, ◌+◌, ◌<◌, ◌≤◌, List, [], ◌∷◌, length, map, get_or, set, Option, Some, None, refl, sym, ap}
-use Rattle.std.proofs.Common.{subst, ◌∙◌, arith}
-use Rattle.std.specs.Prelude.{slice_get, option_map}
+-- What is kept of sessions, in the words of the past, and what an entry leaves of it.
+use Rattle.std.proofs.Common.{◌≡◌, ◌≢◌, ⊎_elim, ℕ, zero, suc, ◌+◌, ◌<◌, ◌≤◌, ◌^◌, false, List, [], ◌∷◌, length, map, get_or, slice_get, option_map}
+use Rattle.std.proofs.Common.{Option, Some, None, refl, sym, ap, subst, ◌∙◌, arith}
 use Rattle.std.proofs.lemmas.Bool.{cases_eq}
-use Rattle.std.proofs.lemmas.List.{get_or-set_same, get_or-set_other}
 use Rattle.inno_types.specs.declared.value.Schema.{Schema}
-use Rattle.inno_model.specs.{declared.event.Event.Event, Past.own}
-use Rattle.txn_table.specs.Txns.{Txns}
-use Rattle.row_versions.specs.{declared.place.Place.Place, Chains.Chains}
-use Rattle.law_past_agreement.specs.{Slots.Slot, Slots.fresh, Rows.place_in, Agreement.IsAgreed, Agreement.WorkAgrees, Agreement.SlotAgrees}
-use Rattle.law_past_agreement.specs.{Agreement.owed_by_all}
-use Rattle.world.specs.State.{Session, Work}
-use Rattle.law_world_agreement.specs.Agreement.{work_at, slot_of, slots_from}
-
-some_one : (a b : Session) → Some a ≡ Some b → a ≡ b
-some_one a b h = cc
-
-none_some : (a : Session) → None ≡ Some a → ⊥
-none_some a h = cc
+use Rattle.inno_model.specs.{declared.event.Event.Event, Past.is_of, Past.started, Past.level, Past.txn, Past.own, Past.view_of}
+use Rattle.inno_model.proofs.Untouched.{untouched}
+use Rattle.row_versions.specs.{declared.place.Place.Place, Chains.Chains, Chains.versions_at}
+use Rattle.law_past_agreement.specs.{Slots.Slot, Slots.fresh, Ids.id_of, Ids.txns_of, Order.created, Order.IsOrdered, Order.MayCome, Rows.place_in, Rows.is_at}
+use Rattle.law_past_agreement.specs.{Rows.row_opened}
+use Rattle.law_past_agreement.specs.Agreement.{IsIdle, ViewAgrees, WorkAgrees, SlotAgrees, AreVersions, WriterAgrees, owed_by}
+use Rattle.law_past_agreement.proofs.{Ids.AreIds, Ids.ids_of, Standing.other_id, Standing.other_owed, Standing.view_agrees}
+use Rattle.world.specs.State.{WorldState, Session, Work, HasWork}
+use Rattle.law_world_agreement.specs.Agreement.{sight_of, work_at, slot_of, slots_from, Agrees}
 
 -- a slot that is kept of a session, or of nobody
 abbrev pub slot_if : List Event → List Schema → ℕ → Option Session → Slot
@@ -34,88 +28,126 @@ pub slot_at : (u : ℕ) (h : List Event) (schemas : List Schema) (sessions : Lis
     → get_or (slots_from 0 h schemas sessions) u fresh ≡ slot_if h schemas u (slice_get sessions u)
 slot_at u h schemas sessions = slots_at 0 u h schemas sessions ∙ ap (λ n. slot_if h schemas n (slice_get sessions u)) (omega arith)
 
-pub slots_count : (k : ℕ) (h : List Event) (schemas : List Schema) (sessions : List Session) → length (slots_from k h schemas sessions) ≡ length sessions
-slots_count k h schemas [] = refl
-slots_count k h schemas (x ∷ sessions) = ap suc (slots_count (k + 1) h schemas sessions)
+-- ---- what is kept of a session
 
--- what agrees of a session agrees with the places that the past says
-canonical : (h : List Event) (schemas : List Schema) (s : ℕ) (slot : Slot) (session : Session) (places : List (Option Place))
-    → slot.work ≡ option_map (work_at places) session.work → SlotAgrees schemas h s slot → SlotAgrees schemas h s (slot_of h schemas s session)
-canonical h schemas s slot session places same agrees =
-    record { started_is = refl; work_is = go session.work (subst (WorkAgrees schemas h s) same agrees.work_is) }
-  where
-    go : (work : Option Work) → WorkAgrees schemas h s (option_map (work_at places) work)
-        → WorkAgrees schemas h s (option_map (work_at (map (place_in schemas) (own s h))) work)
-    go None a = a
-    go (Some w) a = record { level_is = a.level_is; txn_is = a.txn_is; id_is = a.id_is; places_are = refl; view_is = a.view_is }
+abbrev pub works_at : ℕ → List Session → Option (Option Work)
+works_at s sessions = option_map (λ session. session.work) (slice_get sessions s)
 
-module _ (names : List (List ℕ)) (h : List Event) (schemas : List Schema) (chains : Chains) (txns : Txns) (writer : Option ℕ) where
-  -- the slots may be others that agree, and what is owed is what the past says
-  pub with_slots : (room owed : ℕ) (slots others : List Slot) → IsAgreed names h room schemas chains txns slots owed writer → length names ≤ length others
-      → ((u : ℕ) → SlotAgrees schemas h u (get_or others u fresh))
-      → IsAgreed names h (owed_by_all h (length names)) schemas chains txns others (owed_by_all h (length names)) writer
-  with_slots room owed slots others agreed enough each =
-      record {
-        ordered = agreed.ordered;
-        small = agreed.small;
-        tables = agreed.tables;
-        txns_are = agreed.txns_are;
-        sessions = each;
-        rows = agreed.rows;
-        writes = agreed.writes;
-        enough = enough;
-        owes = omega arith;
-        has_room = omega arith;
-        strangers = agreed.strangers;
-      }
+-- what is kept of an open transaction is what the past says
+pub record IsKept (h : List Event) (s : ℕ) (work : Work) : Type 0 where
+  pub level_is : level s h ≡ Some work.level
+  pub txn_is : txn s h ≡ work.txn
+  pub id_is : id_of h s ≡ work.id
+  pub view_is : ViewAgrees h s (option_map sight_of work.view)
+  pub own_is : work.own ≡ length (own s h)
 
-  -- where each session's slot has its work, the world's sessions agree
-  pub settled : (room owed : ℕ) (slots : List Slot) (sessions : List Session) → IsAgreed names h room schemas chains txns slots owed writer
-      → length names ≤ length sessions
-      → ((u : ℕ) (session : Session) → slice_get sessions u ≡ Some session → (places : List (Option Place)) ×
-      ((get_or slots u fresh).work ≡ option_map (work_at places) session.work))
-      → ((u : ℕ) → slice_get sessions u ≡ None → get_or slots u fresh ≡ fresh)
-      → IsAgreed names h (owed_by_all h (length names)) schemas chains txns (slots_from 0 h schemas sessions) (owed_by_all h (length names)) writer
-  settled room owed slots sessions agreed enough works strangers =
-      with_slots room owed slots (slots_from 0 h schemas sessions) agreed (omega (arith, enough, slots_count 0 h schemas sessions))
-      (λ u. subst (SlotAgrees schemas h u) (sym (slot_at u h schemas sessions)) (go u (slice_get sessions u) refl))
-    where
-      go : (u : ℕ) (found : Option Session) → slice_get sessions u ≡ found → SlotAgrees schemas h u (slot_if h schemas u found)
-      go u None is = subst (SlotAgrees schemas h u) (strangers u is) (agreed.sessions u)
-      go u (Some session) is = let work = works u session is in canonical h schemas u (get_or slots u fresh) session work.0 work.1 (agreed.sessions u)
+abbrev pub KeepsWork : List Event → ℕ → Option Work → Type 0
+KeepsWork h s None = IsIdle h s
+KeepsWork h s (Some work) = IsKept h s work
 
-  -- one session is another now, in lists too
-  pub one_settled : (room owed : ℕ) (g : List Event) (tables : List Schema) (s : ℕ) (before after : List Session) (slot : Slot) (session : Session)
-      (places : List (Option Place))
-      → IsAgreed names h room schemas chains txns (set (slots_from 0 g tables before) s slot) owed writer → s < length before → length before ≡ length names
-      → length after ≡ length before
-      → slice_get after s ≡ Some session → ((u : ℕ) → u ≢ s → slice_get after u ≡ slice_get before u) → slot.work ≡ option_map (work_at places) session.work
-      → IsAgreed names h (owed_by_all h (length names)) schemas chains txns (slots_from 0 h schemas after) (owed_by_all h (length names)) writer
-  one_settled room owed g tables s before after slot session places agreed within count same_count here elsewhere work =
-      settled room owed (set (slots_from 0 g tables before) s slot) after agreed (omega (arith, count, same_count))
-      (λ u x is. ⊎_elim (λ e. mine u x is e) (λ differs. other u x is differs) (cases_eq u s))
-      (λ u is. ⊎_elim (λ e. absurd (nobody u is e)) (λ differs. stranger u is differs) (cases_eq u s))
-    where
-      kept : (u : ℕ) → u ≢ s → get_or (set (slots_from 0 g tables before) s slot) u fresh ≡ slot_if g tables u (slice_get before u)
-      kept u differs = get_or-set_other (slots_from 0 g tables before) s u slot fresh differs ∙ slot_at u g tables before
+-- of a session, or of nobody
+abbrev pub Keeps : List Event → ℕ → Option (Option Work) → Type 0
+Keeps h s None = (started s h ≡ 0) × IsIdle h s
+Keeps h s (Some work) = KeepsWork h s work
 
-      mine : (u : ℕ) (x : Session) → slice_get after u ≡ Some x → u ≡ s
-          → (ps : List (Option Place)) × ((get_or (set (slots_from 0 g tables before) s slot) u fresh).work ≡ option_map (work_at ps) x.work)
-      mine u x is e =
-          let same : session ≡ x = some_one session x (sym here ∙ ap (slice_get after) (sym e) ∙ is) in (
-            places,
-            ap (λ (y : Slot). y.work) (ap (λ n. get_or (set (slots_from 0 g tables before) s slot) n fresh) e ∙ get_or-set_same
-                (slots_from 0 g tables before) s slot fresh (omega (arith, within, slots_count 0 g tables before))) ∙ work ∙ ap
-                (λ (y : Session). option_map (work_at places) y.work) same,
-          )
+pub works_are : {s : ℕ} {session : Session} {work : Work} {state : WorldState} → HasWork s session work state → works_at s state.sessions ≡ Some (Some work)
+works_are has = ap (option_map (λ (x : Session). x.work)) has.session_is ∙ ap Some has.work_is
 
-      other : (u : ℕ) (x : Session) → slice_get after u ≡ Some x → u ≢ s
-          → (ps : List (Option Place)) × ((get_or (set (slots_from 0 g tables before) s slot) u fresh).work ≡ option_map (work_at ps) x.work)
-      other u x is differs =
-          (map (place_in tables) (own u g), ap (λ (y : Slot). y.work) (kept u differs ∙ ap (slot_if g tables u) (sym (elsewhere u differs) ∙ is)))
+module _ {chains : Chains} {writer : Option ℕ} {state : WorldState} (agrees : Agrees chains writer state) where
+  keeps_if : (s : ℕ) (found : Option Session) → slice_get state.sessions s ≡ found
+      → SlotAgrees state.schemas state.past s (slot_if state.past state.schemas s found) → Keeps state.past s (option_map (λ (x : Session). x.work) found)
+  keeps_if s found there slot = grind (arith, there, slot, agrees.own s)
 
-      stranger : (u : ℕ) → slice_get after u ≡ None → u ≢ s → get_or (set (slots_from 0 g tables before) s slot) u fresh ≡ fresh
-      stranger u is differs = kept u differs ∙ ap (slot_if g tables u) (sym (elsewhere u differs) ∙ is)
+  pub keeps_of : (s : ℕ) → Keeps state.past s (works_at s state.sessions)
+  keeps_of s = keeps_if s (slice_get state.sessions s) refl (rw (slot_at s state.past state.schemas state.sessions) at (agrees.lists.sessions s))
 
-      nobody : (u : ℕ) → slice_get after u ≡ None → u ≡ s → ⊥
-      nobody u is e = none_some session (sym is ∙ ap (slice_get after) e ∙ here)
+  pub kept_of : {s : ℕ} {session : Session} {work : Work} → HasWork s session work state → IsKept state.past s work
+  kept_of {s} has = subst (Keeps state.past s) (works_are has) (keeps_of s)
+
+  -- the rows, in the tables that the past has made
+  pub rows_told : (place : Place) → AreVersions state.past (row_opened state.past place) (is_at (created state.past) place) (versions_at place chains)
+  rows_told place = rw (← agrees.lists.tables) (agrees.lists.rows place)
+
+-- the other way
+pub work_from : (h : List Event) (schemas : List Schema) (s : ℕ) (work : Option Work) → KeepsWork h s work
+    → WorkAgrees schemas h s (option_map (work_at (map (place_in schemas) (own s h))) work)
+work_from h schemas s work k = grind (arith, k)
+
+slot_from : (h : List Event) (schemas : List Schema) (s : ℕ) (found : Option Session) → Keeps h s (option_map (λ (x : Session). x.work) found)
+    → SlotAgrees schemas h s (slot_if h schemas s found)
+slot_from h schemas s found k = grind (arith, k, work_from h schemas s)
+
+-- a world agrees with its past where each of its parts does
+pub agreeing : {chains : Chains} {writer : Option ℕ} {state : WorldState} → IsOrdered state.past → length state.past < 2 ^ 63
+    → state.schemas ≡ created state.past → state.txns ≡ txns_of state.past → ((s : ℕ) → Keeps state.past s (works_at s state.sessions))
+    → ((place : Place) → AreVersions state.past (row_opened state.past place) (is_at state.schemas place) (versions_at place chains))
+    → WriterAgrees state.past writer → ((s : ℕ) → length state.names ≤ s → owed_by state.past s ≡ 0) → length state.sessions ≡ length state.names
+    → Agrees chains writer state
+agreeing {state = state} ordered small tables txns keeps rows writes strangers count =
+    record {
+      lists = record {
+        ordered = ordered;
+        small = small;
+        tables = tables;
+        txns_are = txns;
+        sessions = λ s. rw (slot_at s state.past state.schemas state.sessions) (slot_from state.past state.schemas s (slice_get state.sessions s) (keeps s));
+        rows = rows;
+        writes = writes;
+        strangers = strangers;
+      };
+      count = count;
+      own = λ s session work has. let k : IsKept state.past s work = subst (Keeps state.past s) (works_are has) (keeps s) in k.own_is;
+    }
+
+-- indexes, versions and counts are not spoken of
+pub agrees_alike : (chains : Chains) (writer : Option ℕ) (a b : WorldState) → Agrees chains writer a → b.names ≡ a.names → b.past ≡ a.past
+    → b.schemas ≡ a.schemas → b.txns ≡ a.txns → b.sessions ≡ a.sessions → Agrees chains writer b
+agrees_alike chains writer a b agrees names past schemas txns sessions =
+    record {
+      lists = rw (names, past, schemas, txns, sessions) agrees.lists;
+      count = rw (names, sessions) agrees.count;
+      own = λ s session work has. rw past
+          (agrees.own s session work (record { session_is = ap (λ xs. slice_get xs s) (sym sessions) ∙ has.session_is; work_is = has.work_is }));
+    }
+
+-- ---- an entry
+
+-- What is kept of a transaction stays right while its level, its number, its id, its changes and its view do.
+pub work_stays : (e : Event) (h : List Event) (s : ℕ) → MayCome h e → AreIds h → level s (e ∷ h) ≡ level s h → txn s (e ∷ h) ≡ txn s h
+    → id_of (e ∷ h) s ≡ id_of h s → own s (e ∷ h) ≡ own s h → view_of s (e ∷ h) ≡ view_of s h → (work : Option Work) → KeepsWork h s work
+    → KeepsWork (e ∷ h) s work
+work_stays e h s may ids same-level same-txn same-id same-own same-view work k =
+    grind (arith, same-level, same-txn, same-id, same-own, k, view_agrees e h s may ids (λ id some same. same ∙ sym same-id) same-view)
+
+-- an entry of another session leaves it
+other_stays : (e : Event) (h : List Event) (s : ℕ) → MayCome h e → AreIds h → is_of s e ≡ false → (found : Option (Option Work)) → Keeps h s found
+    → Keeps (e ∷ h) s found
+other_stays e h s may ids other found k =
+    let same = untouched e h s other in
+    let stays = work_stays e h s may ids same.level_is same.txn_is (other_id e h s other) same.own_is same.view_is in
+    grind (arith, k, same.count, same.level_is, same.own_is, stays)
+
+-- an entry of session s has come, and the work of the others is what it was
+pub record Adds (e : Event) (s : ℕ) (old new : WorldState) : Type 0 where
+  pub past : new.past ≡ e ∷ old.past
+  pub names : new.names ≡ old.names
+  pub count : length new.sessions ≡ length old.sessions
+  pub others : (u : ℕ) → u ≢ s → works_at u new.sessions ≡ works_at u old.sessions
+
+-- The world agrees then, once its tables, its transactions, the session's work, its rows and who may write do.
+pub after : {chains chains' : Chains} {writer writer' : Option ℕ} {old new : WorldState} → Agrees chains writer old → (e : Event) (s : ℕ)
+    → ((u : ℕ) → u ≢ s → is_of u e ≡ false) → MayCome old.past e → length old.past + 1 < 2 ^ 63 → s < length old.names → Adds e s old new
+    → new.schemas ≡ created (e ∷ old.past) → new.txns ≡ txns_of (e ∷ old.past)
+    → (work : Option Work) → works_at s new.sessions ≡ Some work → KeepsWork (e ∷ old.past) s work
+    → ((place : Place) → AreVersions (e ∷ old.past) (row_opened (e ∷ old.past) place) (is_at new.schemas place) (versions_at place chains'))
+    → WriterAgrees (e ∷ old.past) writer' → Agrees chains' writer' new
+after {chains' = chains'} {writer' = writer'} {old = old} {new = new} agrees e s mine may few joined by tables txns work here keeps rows writes =
+    let h = e ∷ old.past in
+    let each : (u : ℕ) → Keeps h u (works_at u new.sessions) =
+    λ u. ⊎_elim (λ same. subst (λ v. Keeps h v (works_at v new.sessions)) (sym same) (subst (Keeps h s) (sym here) keeps))
+    (λ differs. subst (Keeps h u) (sym (by.others u differs))
+    (other_stays e old.past u may (ids_of old.past agrees.lists.ordered) (mine u differs) (works_at u old.sessions) (keeps_of agrees u))) (cases_eq u s) in
+    agrees_alike chains' writer' (record new { past = h; names = old.names }) new
+    (agreeing (may, agrees.lists.ordered) (omega (arith, few)) tables txns each rows writes
+    (λ u le. other_owed e old.past u (mine u (omega (arith, joined, le))) ∙ agrees.lists.strangers u le) (by.count ∙ agrees.count))
+    by.names by.past refl refl refl

@@ -1,12 +1,12 @@
 -- That a world agrees with its past.
-use Rattle.std.specs.Prelude.{◌≡◌, ℕ, ◌+◌, List, [], ◌∷◌, map, length, Option, Some, None, option_map}
+use Rattle.std.specs.Prelude.{◌≡◌, ℕ, ◌+◌, List, [], ◌∷◌, map, length, Option, option_map}
 use Rattle.inno_types.specs.declared.value.Schema.{Schema}
 use Rattle.inno_model.specs.{declared.event.Event.Event, Past.own, Past.started}
 use Rattle.read_view.specs.Sight.{Sight}
 use Rattle.row_versions.specs.{declared.place.Place.Place, Chains.Chains}
 use Rattle.law_past_agreement.specs.Slots.{Slot}
 use Rattle.law_past_agreement.specs.Slots as slots
-use Rattle.law_past_agreement.specs.{Rows.place_in, Agreement.IsAgreed, Agreement.owed_by_all}
+use Rattle.law_past_agreement.specs.{Rows.place_in, Agreement.IsAgreed}
 use Rattle.world.specs.State.{WorldState, Session, Work, Seen, HasWork}
 
 -- ---- sessions and transactions
@@ -30,7 +30,6 @@ slots_from s past schemas (session ∷ sessions) = slot_of past schemas s sessio
 
 -- The world's tables, transactions and sessions are what its past says, and so are these rows; who may write is this.
 pub record Agrees (chains : Chains) (writer : Option ℕ) (state : WorldState) : Type 0 where
-  pub lists : IsAgreed state.names state.past (owed_by_all state.past (length state.names)) state.schemas chains state.txns
-      (slots_from 0 state.past state.schemas state.sessions) (owed_by_all state.past (length state.names)) writer
+  pub lists : IsAgreed state.names state.past state.schemas chains state.txns (slots_from 0 state.past state.schemas state.sessions) writer
   pub count : length state.sessions ≡ length state.names
   pub own : (s : ℕ) (session : Session) (work : Work) → HasWork s session work state → work.own ≡ length (own s state.past)

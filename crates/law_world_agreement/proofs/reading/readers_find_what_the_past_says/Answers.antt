@@ -1,20 +1,13 @@
+use Rattle.law_past_agreement.proofs.Agree.{first_is, none_is, next_is, last_is}
+use Rattle.law_world_agreement.proofs.{Settled.rows_told, Readers.seen_by_view, Readers.seen_newest}
 use Rattle.law_world_agreement.proofs.reading.readers_find_what_the_past_says.Goals as goal
-use Rattle.law_world_agreement.proofs.Readers.{seen_by_view, seen_newest, first_place, no_place, next_place, last_place}
 
-pub returns-clause-by_view : goal.returns-clause-by_view
-returns-clause-by_view c = seen_by_view
-
-pub returns-clause-newest : goal.returns-clause-newest
-returns-clause-newest c = seen_newest
-
-pub returns-clause-first : goal.returns-clause-first
-returns-clause-first c = first_place
-
-pub returns-clause-none : goal.returns-clause-none
-returns-clause-none c = no_place
-
-pub returns-clause-next : goal.returns-clause-next
-returns-clause-next c = next_place
-
-pub returns-clause-last : goal.returns-clause-last
-returns-clause-last c = last_place
+pub returns : goal.returns
+returns c = record {
+  by_view = seen_by_view;
+  newest = seen_newest;
+  first = λ chains writer state agrees. first_is state.past chains (rows_told agrees);
+  none = λ chains writer state agrees. none_is state.past chains (rows_told agrees);
+  next = λ chains writer state agrees. next_is state.past chains (rows_told agrees);
+  last = λ chains writer state agrees. last_is state.past chains (rows_told agrees);
+}
