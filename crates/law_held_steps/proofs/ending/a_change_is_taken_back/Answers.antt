@@ -1,5 +1,5 @@
-use Rattle.law_held_steps.proofs.{Putting.cut_at_once, TakenBack.own_number, TakenBack.has_logged, TakenBack.may_add, TakenBack.held_then}
 use Rattle.law_held_steps.proofs.ending.a_change_is_taken_back.Goals as goal
+use Rattle.law_held_steps.proofs.{Putting.cut_at_once, TakenBack.own_number, TakenBack.has_logged, TakenBack.may_add, TakenBack.held_then}
 
 pub returns : goal.returns
 returns c = record {

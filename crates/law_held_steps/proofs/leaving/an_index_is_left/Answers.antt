@@ -1,5 +1,5 @@
-use Rattle.law_held_steps.proofs.{Left.one_left, Left.none_left, Left.held_left, Places.moves_then}
 use Rattle.law_held_steps.proofs.leaving.an_index_is_left.Goals as goal
+use Rattle.law_held_steps.proofs.{Left.one_left, Left.none_left, Left.held_left, Places.moves_then}
 
 pub returns : goal.returns
 returns c = record {

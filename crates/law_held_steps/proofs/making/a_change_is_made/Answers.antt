@@ -1,6 +1,6 @@
 use Rattle.std.proofs.Common.{refl}
-use Rattle.law_held_steps.proofs.{Made.change_made, Putting.rows_mine}
 use Rattle.law_held_steps.proofs.making.a_change_is_made.Goals as goal
+use Rattle.law_held_steps.proofs.{Made.change_made, Putting.rows_mine}
 
 pub returns : goal.returns
 returns c = record {

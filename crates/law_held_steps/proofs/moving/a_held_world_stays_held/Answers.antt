@@ -1,7 +1,7 @@
 use Rattle.std.proofs.Common.{refl}
 use Rattle.desks.specs.declared.desk.Doing.TheVariants.{Nothing}
-use Rattle.law_held_steps.proofs.{Desks.doing_twice, Places.held_stays, Places.held_idle, Places.views_stay}
 use Rattle.law_held_steps.proofs.moving.a_held_world_stays_held.Goals as goal
+use Rattle.law_held_steps.proofs.{Desks.doing_twice, Places.held_stays, Places.held_idle, Places.views_stay}
 
 pub returns : goal.returns
 returns c = record {

@@ -1,8 +1,8 @@
 use Rattle.std.proofs.Common.{sym, ◌∙◌}
-use Rattle.desks.specs.{declared.desk.Doing.TheVariants.Nothing, Desks.doing_at, Undoing.undo_left_in}
 use Rattle.desks.proofs.Showing.{task_is, idle_shown, places_are}
 use Rattle.law_held_steps.proofs.Showing.{turns_now, search_shown, has_desk, turns_to_search, searches_on}
 use Rattle.law_held_steps.proofs.search_seen.what_callers_see_of_a_search.Goals as goal
+use Rattle.desks.specs.{declared.desk.Doing.TheVariants.Nothing, Desks.doing_at, Undoing.undo_left_in}
 
 pub returns : goal.returns
 returns c = record {

@@ -1,5 +1,5 @@
-use Rattle.law_logged_changes.proofs.readers.others_leave_a_change.Goals as goal
 use Rattle.law_logged_changes.proofs.ReadersLeft.{change_left, has_rows_left}
+use Rattle.law_logged_changes.proofs.readers.others_leave_a_change.Goals as goal
 
 pub returns : goal.returns
 returns c = record {
