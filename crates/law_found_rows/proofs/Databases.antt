@@ -87,11 +87,6 @@ module _ (chains : Chains) (writer : Option ℕ) (state : WorldState) (table : �
         found_are schema table view_rows view_database (view_shows chains writer state agrees table s n session work view has is at)
         (homes_of schema kept pairs chains table (sights.View (sight_of view) work.id) clustered)
 
-    pub view_rows_fit : All (IsRowOf schema.columns) (rows_of table view_database)
-    view_rows_fit =
-        rows_fit schema table view_rows view_database (view_shows chains writer state agrees table s n session work view has is at)
-        (homes_of schema kept pairs chains table (sights.View (sight_of view) work.id) clustered)
-
   module _ (w : ℕ) (alone : (u : ℕ) → u ≢ w → own u state.past ≡ []) where
     abbrev newest_rows : Value → Option (List Value)
     newest_rows = rows_seen sights.Newest (in_table table chains)
@@ -103,9 +98,4 @@ module _ (chains : Chains) (writer : Option ℕ) (state : WorldState) (table : �
         → map (λ (found : FoundRow). found.row) rows ≡ filter passes (rows_of table newest_database)
     found_newest =
         found_are schema table newest_rows newest_database (newest_shows chains writer state agrees table w alone)
-        (homes_of schema kept pairs chains table sights.Newest clustered)
-
-    pub newest_rows_fit : All (IsRowOf schema.columns) (rows_of table newest_database)
-    newest_rows_fit =
-        rows_fit schema table newest_rows newest_database (newest_shows chains writer state agrees table w alone)
         (homes_of schema kept pairs chains table sights.Newest clustered)

@@ -9,7 +9,7 @@ use Rattle.inno_model.specs.declared.event.Event.TheVariants as events
 use Rattle.inno_model.specs.Past.{own, commits, committed, opening, changed}
 use Rattle.law_past_agreement.proofs.Tables.{key_stays}
 use Rattle.sql_history.specs.Items.{own_before, base}
-use Rattle.sql_lists.specs.Kept.{made, AreInOrder, IsInOrder, AreStanding}
+use Rattle.sql_lists.specs.Kept.{made, AreInOrder, IsInOrder}
 use Rattle.sql_lists.proofs.Standing.{schemas_after}
 use Rattle.shared_lists.specs.Fitting.{CanBeCoded, FitsWell, FitsThen}
 use Rattle.law_found_rows.proofs.FittingChanges.{none_there, tables_storable, own_fits, own_before_fits, committed_fits}
@@ -134,11 +134,3 @@ latest_coded past s later fits ordered in_order parts tables =
           (order_of_rest (opening past).schemas later changes mine) (tables_fit (created past) changes all));
       numbers = changed-Has64Bits (opening past) changes opened.numbers (numbers_fit (created past) changes all);
     }
-
-pub unchanged_coded : (past : List Event) (s : ℕ) → FitsThen past → IsOrdered past → IsInOrder past → AreStanding past
-    → own s past ≡ own_before s past → CanBeCoded (base s past)
-unchanged_coded past s fits ordered in_order stands unchanged =
-    let tables : created past ≡ (changed (opening past) (own s past ++ committed (commits past) past)).schemas =
-    stands.tables s in
-    latest_coded past s [] fits ordered in_order unchanged
-    (tables ∙ ap (λ changes. (changed (opening past) (changes ++ committed (commits past) past)).schemas) unchanged)

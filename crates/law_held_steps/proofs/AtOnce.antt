@@ -4,7 +4,6 @@ use Rattle.std.specs.Prelude.{◌<◌, ◌≤◌}
 use Rattle.inno_db.specs.Database.{rows_of}
 use Rattle.inno_model.specs.Past.{own, commits, changed}
 use Rattle.store_api.specs.declared.moves.Move.{Move}
-use Rattle.entries.specs.Calls.{Leaves}
 use Rattle.row_versions.specs.Chains.{Chains}
 use Rattle.law_stored_rows.specs.Tables.{Said, what_is_there, in_table}
 use Rattle.row_changes.specs.Told.{AreRowsAs}
@@ -17,7 +16,7 @@ use Rattle.law_held_steps.proofs.Stepping.{columns_held, new_finding, few_held, 
 use Rattle.inno_types.specs.{declared.value.Schema.Schema, declared.value.Value.Value, declared.stmt.Range.Range, Ranges.is_within}
 use Rattle.sql_plan.specs.{declared.choice.Plan.Plan, Plans.whole_index, Visits.index_key}
 use Rattle.law_past_agreement.specs.{Rows.seen, DatabaseTables.with_all_tables}
-use Rattle.world.specs.{State.WorldState, Told.IsTold, Told.pairs_of, Indexes.Calls, Undoing.read_into, declared.undo_room.UndoRoom.UndoRoom}
+use Rattle.world.specs.{State.WorldState, Told.IsTold, Told.pairs_of, Undoing.read_into, declared.undo_room.UndoRoom.UndoRoom}
 use Rattle.row_search.specs.{declared.found.FoundRow.FoundRow, declared.scan.Scan.Scan, declared.search.RowSearch.RowSearch, declared.sight.Sight.Sight}
 use Rattle.row_search.specs.{declared.sight.Sight.TheVariants.Newest, FoundRows.AreFound, Ranges.lies_in, Sights.rows_seen, Steps.IsSameScan, Steps.GoesOn}
 use Rattle.row_search.specs.{Steps.Waits, Steps.Ends, Tables.ShowsRows}
@@ -149,7 +148,3 @@ module _ (chains : Chains) (s table : ℕ) (plan : Plan) (schema : Schema) where
           record { readable = is.readable; found = in_plan search.scan rows is.scan found.0; rise = found.1 },
           moves_then is.moves (leaving_moves s _ old new ends.leaves),
         )
-
-    pub reading_stops : {index : ℕ} {state later : WorldState} {search : RowSearch} → IsReadingNewest chains s table plan schema first state search
-        → Calls index (Leaves s) state later → MovesPlaces s first later
-    reading_stops {index} {state} {later} is leaves = moves_then is.moves (leaving_moves s index state later leaves)

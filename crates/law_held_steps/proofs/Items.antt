@@ -36,7 +36,6 @@ use Rattle.law_world_agreement.specs.{Agreement.Agrees, Steps.opened, Steps.view
 use Rattle.inno_types.specs.{declared.reply.Item.Item, declared.reply.Reply.Reply, declared.lock.Level.Level}
 use Rattle.law_world_agreement.proofs.{Opening.set_here, Opening.set_other, Opening.opened_agrees, Opening.viewed_agrees, Ending.one_session_of}
 use Rattle.law_world_agreement.proofs.{Ending.committed_agrees, Ending.rolled_back_agrees}
-use Rattle.row_changes.proofs.Ids.{found_kept}
 
 -- a transaction whose log and changes are as they were
 pub same_log : {t : ℕ} {old new : WorldState} {session : Session} {before work : Work} → HasWork t session before old → work.log ≡ before.log
@@ -169,6 +168,10 @@ other_kept : (n : ℕ) (f : Session → Session) (session : Session) (work : Opt
 other_kept n f session None is differs = refl
 other_kept n f session (Some other) is differs =
     ap (λ (b : Bool). cond b (f session) session) (⊎_elim (λ t. absurd (differs other refl t.1)) (λ k. k.0) (eqb_tells other.txn n))
+
+found_kept : (g : Session → Session) (found : Option Session) → ((session : Session) → found ≡ Some session → g session ≡ session) → option_map g found ≡ found
+found_kept g None same = refl
+found_kept g (Some session) same = ap Some (same session refl)
 
 pub txn_elsewhere : (n u : ℕ) (f : Session → Session) (sessions : List Session) → ((session : Session) (other : Work) → slice_get sessions u ≡ Some session
     → session.work ≡ Some other → other.txn ≢ n) → slice_get (change_txn n f sessions) u ≡ slice_get sessions u

@@ -11,8 +11,8 @@ use Rattle.undo_apply.specs.declared.work_room.WorkRoom.{WorkRoom}
 use Rattle.law_held_steps.proofs.Desks.{desk_elsewhere, started_still, doing_mine, as_many, doing_stays}
 use Rattle.entries.specs.{Pairs.Pair, Index.AreKept, Calls.Leaves, Calls.released}
 use Rattle.world.specs.{State.WorldState, Told.IsTold, Told.LeavesRows, Indexes.Calls, Undoing.IsUnchanged, declared.undo_room.UndoRoom.UndoRoom}
-use Rattle.law_logged_changes.proofs.{ReadersLeft.left_told, Leaving.rows_leave, Leaving.all_left, GoingOn.logs_beside, GoingOn.work_beside}
-use Rattle.law_held_steps.specs.{Moving.MovesPlaces, Begun.ViewsHaveNext}
+use Rattle.law_logged_changes.proofs.{ReadersLeft.left_told, Leaving.rows_leave, Leaving.all_left, GoingOn.logs_beside}
+use Rattle.law_held_steps.specs.{Moving.MovesPlaces}
 use Rattle.desks.specs.{declared.desk.Desk.Desk, declared.desk.Doing.Doing, declared.desk.Doing.TheVariants.Nothing, Desks.doing_at, Desks.with_doing}
 use Rattle.desks.specs.{Desks.is_quiet_doing, Holding.SearchHeld, Holding.IsHeld}
 
@@ -113,9 +113,6 @@ module _ {s : ℕ} {old new : WorldState} (moves : MovesPlaces s old new) where
       search) (λ none. subst (SearchHeld held.chains new writer cuts s) (sym none) (record {})) (doing_mine s doing desks)) (quiet_step (with_doing s doing
       desks) held others rows (λ u. desk_elsewhere s u doing desks) (λ u differs might. might) was quiet) (all_left old new (rows_leave old new rows)
       (logs_beside old new moves.rest) held.logs) held.whole
-
-  pub views_stay : ViewsHaveNext old → ViewsHaveNext new
-  views_stay views u session work seen has = views u session work seen (work_beside u session work old new moves.rest has)
 
 pub held_idle : {s : ℕ} {old new : WorldState} {writer : Option ℕ} {desks : List Desk} {cuts : ℕ} {undo : UndoRoom} {room : WorkRoom} → IsHeld old writer desks
     cuts undo room → doing_at s desks ≡ Nothing → MovesPlaces s old new → IsTold new → IsHeld new writer desks cuts undo room

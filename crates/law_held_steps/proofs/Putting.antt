@@ -5,13 +5,13 @@ use Rattle.std.proofs.Common.{Bool, ◌+◌, ◌*◌, ◌^◌, ◌<◌, inl, inr
 use Rattle.std.proofs.lemmas.Bool.{cases_eq}
 use Rattle.inno_types.specs.declared.value.Schema.{Schema}
 use Rattle.world.specs.State.{WorldState, Logged, Session, Work, HasWork}
-use Rattle.world.specs.Undoing.{read_into, ReadsLast, CutsBack, newest, IsRead}
+use Rattle.world.specs.Undoing.{read_into, ReadsLast, newest, IsRead}
 use Rattle.law_world_agreement.specs.Agreement.{Agrees}
 use Rattle.desks.specs.Holding.{RowsHeld, RowsHeldBy, IsLast, SearchHeld, IsHeld, IsGoingBack}
 use Rattle.law_logged_changes.proofs.GoingOn.{own_beside, agrees_beside, step_all, step_beside, logs_beside}
 use Rattle.law_held_steps.proofs.AnyStep.{some_same, last_left, held_beside, rows_left, last_log}
 use Rattle.undo_apply.specs.Stages.{Stops, StopsAt, IsPuttingBack, GoesOn, IsHindered, IsDone, PutsBack, StageHolds, WalksOn}
-use Rattle.world.proofs.Memory.{no_pages, not_delayed}
+use Rattle.world.proofs.Memory.{no_pages}
 use Rattle.law_stored_rows.specs.Records.{LeadTo}
 use Rattle.desks.proofs.Counting.{versions_most, versions_are}
 use Rattle.law_held_steps.specs.Undoing.{HasPutBack, HasLast, IsReady}
@@ -91,17 +91,6 @@ module _ (s : ℕ) {old : WorldState} {writer : Option ℕ} {desks : List Desk} 
       held_beside s held leaves.rest leaves.versions told tells (λ t index differs. ap (λ (place : ℕ → Option _). place t) (leaves.places index)) now
       gives.others gives.started gives.count (λ other. absurd (other mine)) (subst (SearchHeld held.chains new writer cuts s) (sym gives.here) search)
       (rows_by_writer s held.chains new now (read_into other) next mine gives.here rows) logs whole
-
--- the newest record of a log is read at once
-pub read_at_once : (actor slot : ℕ) (read : Undo) (there : Bool) (old new : WorldState) (answer : Move) → IsInMemory old
-    → ReadsLast actor slot read there old new answer → answer ≡ Done
-read_at_once actor slot read there old new Done memory reads = refl
-read_at_once actor slot read there old new answer memory reads = absurd (not_delayed actor old new answer memory reads)
-
--- and taken away at once
-pub cut_at_once : (actor slot : ℕ) (old new : WorldState) (answer : Move) → IsInMemory old → CutsBack actor slot old new answer → answer ≡ Done
-cut_at_once actor slot old new Done memory cuts = refl
-cut_at_once actor slot old new answer memory cuts = absurd (not_delayed actor old new answer memory cuts)
 
 -- a step that was hindered doesn't answer that it went on
 module _ (actor : ℕ) (old new : WorldState) (memory : IsInMemory old) where
@@ -348,12 +337,6 @@ module _ (s : ℕ) {old : WorldState} {writer : Option ℕ} {desks : List Desk} 
               undo_is = going.undo_is;
               putting = stays.putting;
             }) (step_all held.chains going.place s (read_into undo) room next old new answer answers not_done held.logs) (record {}) stays.putting.whole
-
-        pub same_left : answer ≢ Step → IsInMemory new → undo_left_in undo.table next.stage new ≡ undo_left_in undo.table room.stage old
-        same_left not_step later =
-            let is = hindered_by held.chains going.place s (read_into undo) room next old new answer not_done not_step answers in
-            ap (λ (stage : Stage). undo_left_in undo.table stage new) is.stage_is
-            ∙ left_same undo.table room.stage old new (ap (λ (x : WorldState). x.schemas) is.stays.rest) (is.stays.versions.kept later.told.versions)
 
     module _ (new : WorldState) (next : WorkRoom) (put : HasPutBack s (read_into undo) room next old new Step) (memory : IsInMemory old)
         (later : IsInMemory new) where

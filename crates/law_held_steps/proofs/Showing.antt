@@ -105,10 +105,6 @@ module _ {s : ℕ} (left : ℕ) {old new : WorldState} (writer : Option ℕ) (de
       others = λ u differs. task_now u (doing_at u desks) (doing_elsewhere s u doing desks differs) ∙ sym (task_is u left old writer desks);
     }
 
-    pub rest_stays : ((lists_of new writer (with_doing s doing desks) left).settings ≡ (lists_of old writer desks left).settings) ×
-        ((lists_of new writer (with_doing s doing desks) left).rows ≡ (lists_of old writer desks left).rows)
-    rest_stays = (ap (λ (state : WorldState). (lists_of state writer desks left).settings) moves.rest, ap (λ (state : WorldState). state.rows) moves.rest)
-
 -- with what is left of a change that is being taken back
 pub seen_stay : {s : ℕ} (table : ℕ) (stage : Stage) {old new : WorldState} (writer : Option ℕ) (desks : List Desk) → MovesPlaces s old new → IsTold new
     → ((on : TableSearch) → doing_at s desks ≡ Searching on → ⊥) → seen_of table stage new writer desks ≡ seen_of table stage old writer desks

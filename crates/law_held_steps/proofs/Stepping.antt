@@ -32,7 +32,7 @@ use Rattle.law_found_rows.proofs.{Databases.found_newest}
 use Rattle.desks.specs.{declared.desk.Desk.Desk, declared.desk.Doing.TheVariants.Nothing, declared.desk.Doing.TheVariants.Searching}
 use Rattle.desks.specs.{declared.desk.TableSearch.TableSearch, Desks.doing_at, Desks.with_doing, Desks.is_quiet_doing, Searching.keys_left}
 use Rattle.desks.specs.{Searching.places_in, Shown.reading_of}
-use Rattle.law_held_steps.specs.{Begun.IsNewSearch, Begun.IsBegun, Begun.HasView, Begun.ViewsHaveNext, Moving.MovesPlaces, TakenUp.IsTakenUp, TakenUp.MayStep}
+use Rattle.law_held_steps.specs.{Begun.IsNewSearch, Begun.IsBegun, Begun.HasView, Moving.MovesPlaces, TakenUp.IsTakenUp, TakenUp.MayStep}
 use Rattle.law_held_steps.specs.{TakenUp.plan_of}
 use Rattle.law_held_steps.proofs.{Shows.HasSome, Shows.some_rows_by, Shows.columns_of, Shows.shows_held, Keeping.open_work, AnyStep.some_same}
 use Rattle.law_held_steps.proofs.{Putting.alone_if}
@@ -114,14 +114,8 @@ module _ {s : ℕ} {state : WorldState} (active : List ℕ) (next : Option ℕ) 
   shown_seen : (active ≡ has.seen.active) × (next ≡ Some has.seen.next)
   shown_seen = subst (λ view. IsShown view active next) has.view_is shown
 
-  pub next_there : next ≢ None
-  next_there none = let some = shown_seen.1 in cc
-
   next_is : (n : ℕ) → next ≡ Some n → n ≡ has.seen.next
   next_is n is = let some = shown_seen.1 in cc
-
-  pub next_some : (n : ℕ) → next ≡ Some n → ViewsHaveNext state → 0 < n
-  next_some n is views = subst (λ (m : ℕ). 0 < m) (sym (next_is n is)) (views s has.session has.work has.seen has.has_work has.view_is)
 
   pub own_view : (n reader : ℕ) → next ≡ Some n → reader ≡ (standing_of has.session).id
       → IsOwnView state s (record { active = active; own = 0; next = n }) reader

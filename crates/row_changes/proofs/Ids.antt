@@ -36,7 +36,7 @@ mine_changed : (txn : ℕ) (f : Session → Session) (session : Session) (work :
     → of_txn txn f session session.work ≡ f session
 mine_changed txn f session work is same = ap (λ w. of_txn txn f session w) is ∙ cond-true (work.txn == txn) (f session) session (eq-eqb work.txn txn same)
 
-pub found_kept : (g : Session → Session) (found : Option Session) → ((session : Session) → found ≡ Some session → g session ≡ session) → option_map g found ≡ found
+found_kept : (g : Session → Session) (found : Option Session) → ((session : Session) → found ≡ Some session → g session ≡ session) → option_map g found ≡ found
 found_kept g None same = refl
 found_kept g (Some session) same = ap Some (same session refl)
 
