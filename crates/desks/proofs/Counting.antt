@@ -3,9 +3,9 @@ use Rattle.std.proofs.Common.{◌≡◌, ℕ, zero, suc, ◌+◌, ◌==◌, ◌�
 use Rattle.std.proofs.Common.{◌∙◌, arith, eq-eqb}
 use Rattle.std.proofs.lemmas.Bool.{ne_eqb}
 use Rattle.inno_types.specs.declared.value.Schema.{Schema}
-use Rattle.row_versions.specs.{declared.kept.Kept.Kept, declared.version.Version.Version}
 use Rattle.law_stored_rows.specs.Records.{LeadTo}
 use Rattle.desks.specs.Undoing.{one_more, versions_from}
+use Rattle.row_versions.specs.{declared.kept.Kept.Kept, declared.version.Version.Version}
 
 cond_most : (b : Bool) (n most : ℕ) → n ≤ most → cond b 0 n ≤ most
 cond_most true n most few = omega arith

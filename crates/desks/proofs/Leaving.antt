@@ -1,20 +1,18 @@
 -- Steps of others keep what a search has found.
-use Rattle.std.proofs.Common.{◌≡◌, ◌≢◌, ℕ, ◌+◌, ◌<◌, ◌≤◌, ◌==◌, Bool, true, false, Option, Some, None, List, length, refl, sym, ap, subst, ◌∙◌, inl, inr}
-use Rattle.std.proofs.Common.{arith, ◌⊎◌, eqb}
-use Rattle.std.specs.Prelude.{slice_get}
-use Rattle.std.proofs.lemmas.Bool.Decides.{nat_tests, eqb_tells}
+use Rattle.std.proofs.Common.{◌≡◌, ◌≢◌, ℕ, ◌+◌, ◌≤◌, ◌==◌, Bool, true, false, Option, Some, refl, sym, ap, subst, ◌∙◌, inl, inr}
+use Rattle.std.proofs.Common.{arith}
+use Rattle.std.proofs.lemmas.Bool.Decides.{nat_tests}
 use Rattle.inno_types.specs.declared.value.Value.{Value}
 use Rattle.row_versions.specs.Chains.{Chains}
-use Rattle.law_stored_rows.specs.{Tables.in_table, Records.KeepsMore}
-use Rattle.world.specs.State.{WorldState, HasWork}
-use Rattle.row_search.specs.{Sights.rows_seen, declared.sight.Sight.Sight, declared.sight.Sight.TheVariants.View, declared.sight.Sight.TheVariants.Newest}
-use Rattle.row_search.specs.{declared.search.RowSearch.RowSearch}
+use Rattle.world.specs.State.{WorldState}
 use Rattle.law_world_agreement.specs.Agreement.{sight_of}
-use Rattle.law_found_rows.specs.Finding.{IsFinding, IsFindingAnew, LeavesScan}
-use Rattle.law_found_rows.proofs.{Finding.keeps_finding, Finding.may_come_anew, Finding.finds_anew, Seen.same_rows}
-use Rattle.desks.specs.{declared.desk.Doing.Doing, declared.desk.TableSearch.TableSearch, Leaves.LeavesOthers, Leaves.KeepsOrCuts}
+use Rattle.law_found_rows.specs.Finding.{IsFindingAnew, LeavesScan}
 use Rattle.desks.specs.declared.desk.Doing.TheVariants.{Nothing, Searching, Changing, Lagging, Undoing}
 use Rattle.desks.specs.Holding.{IsOwnView, SightHolds, FindsSince, IsSearchHeld, SearchHeld}
+use Rattle.law_stored_rows.specs.{Tables.in_table, Records.KeepsMore}
+use Rattle.row_search.specs.{Sights.rows_seen, declared.sight.Sight.Sight, declared.sight.Sight.TheVariants.View, declared.sight.Sight.TheVariants.Newest}
+use Rattle.law_found_rows.proofs.{Finding.keeps_finding, Finding.may_come_anew, Finding.finds_anew, Seen.same_rows}
+use Rattle.desks.specs.{declared.desk.Doing.Doing, declared.desk.TableSearch.TableSearch, Leaves.LeavesOthers, Leaves.KeepsOrCuts}
 
 some_same : (a b : ℕ) → Some a ≡ Some b → a ≡ b
 some_same a b same = cc

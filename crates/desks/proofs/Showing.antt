@@ -1,18 +1,17 @@
 -- What a session's desk shows of it.
-use Rattle.std.proofs.Common.{◌≡◌, ◌≢◌, ◌⊎◌, inl, inr, ℕ, zero, suc, ◌+◌, List, [], ◌∷◌, length, Option, None, Some, refl, sym, ap, ◌∙◌, arith}
+use Rattle.std.proofs.Common.{◌≡◌, ◌≢◌, inl, inr, ℕ, zero, suc, ◌+◌, List, [], ◌∷◌, length, Option, None, Some, refl, sym, ap, ◌∙◌, arith}
 use Rattle.std.specs.Prelude.{◌-◌, IsSome, slice_index_or}
 use Rattle.std.proofs.lemmas.Bool.Decides.{eqb_tells}
 use Rattle.std.proofs.Math.ListN.{get_or-map}
 use Rattle.inno_types.specs.declared.value.Schema.{Schema}
-use Rattle.inno_model.specs.declared.event.Event.{Event}
-use Rattle.entries.specs.{Pairs.Pair, Index.AreKept}
-use Rattle.row_versions.specs.{Versions.Stays, declared.kept.Kept.Kept}
-use Rattle.world.specs.{State.WorldState, State.index_of, Told.IsTold, Told.pairs_in, Told.pairs_of}
 use Rattle.shared_lists.specs.Tasks as tasks
 use Rattle.shared_lists.specs.State.{Places, Lists, no_places, task_of, places_before}
+use Rattle.desks.specs.declared.desk.Doing.TheVariants.{Nothing, Searching, Changing, Lagging, Undoing}
+use Rattle.entries.specs.{Pairs.Pair, Index.AreKept}
+use Rattle.row_versions.specs.{Versions.Stays}
+use Rattle.world.specs.{State.WorldState, State.index_of, Told.IsTold, Told.pairs_in, Told.pairs_of}
 use Rattle.desks.specs.{declared.desk.Desk.Desk, declared.desk.Doing.Doing, Desks.fresh_desk, Desks.doing_at, declared.desk.TableSearch.TableSearch}
 use Rattle.desks.specs.{Searching.keys_left, Searching.visit_left, Searching.places_of, Searching.places_from, Shown.shown, Shown.lists_of}
-use Rattle.desks.specs.declared.desk.Doing.TheVariants.{Nothing, Searching, Changing, Lagging, Undoing}
 
 pub task_is : (s left : ℕ) (state : WorldState) (writer : Option ℕ) (desks : List Desk)
     → task_of s (lists_of state writer desks left).state ≡ shown state.schemas left (doing_at s desks)

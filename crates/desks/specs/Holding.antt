@@ -1,27 +1,27 @@
 -- What holds of the lists between calls.
-use Rattle.std.specs.Prelude.{◌≡◌, ◌≢◌, ℕ, ◌+◌, ◌<◌, ◌≤◌, ◌^◌, ◌==◌, Bool, true, false, List, [], ◌∷◌, length, slice_get, Option, None, Some, is_some}
+use Rattle.std.specs.Prelude.{◌≡◌, ◌≢◌, ℕ, ◌+◌, ◌≤◌, ◌^◌, ◌==◌, Bool, true, false, List, [], ◌∷◌, length, slice_get, Option, None, Some, is_some}
 use Rattle.std.specs.FinMap.{get}
-use Rattle.inno_db.specs.{Database.Database, declared.limits.TheConstants.MOST_TABLES, declared.change.Change.Change}
-use Rattle.inno_model.specs.{declared.event.Event.Event, declared.event.Event.TheVariants.Opened}
 use Rattle.sql_history.specs.Counts.{rows_in, most_rows}
 use Rattle.inno_model.specs.Past.{own, started, under_way, of_item, awaits_ack}
 use Rattle.store_api.specs.declared.answers.Undo.{Undo}
 use Rattle.read_view.specs.Sight.{Sight as ReadSight}
+use Rattle.world.specs.State.{WorldState, Session, Work, Logged, Seen, IsSession, HasWork}
+use Rattle.law_world_agreement.specs.Agreement.{Agrees, sight_of}
+use Rattle.shared_lists.specs.Fitting.{CanBeCoded, FitsThen}
+use Rattle.law_found_rows.specs.Finding.{IsFinding, IsFindingAnew}
+use Rattle.desks.specs.declared.desk.Doing.TheVariants.{Nothing, Searching, Changing, Lagging, Undoing}
+use Rattle.inno_db.specs.{Database.Database, declared.limits.TheConstants.MOST_TABLES, declared.change.Change.Change}
+use Rattle.inno_model.specs.{declared.event.Event.Event, declared.event.Event.TheVariants.Opened}
 use Rattle.row_versions.specs.{declared.place.Place.Place, Chains.Chains, Chains.in_model, Chains.versions_at}
 use Rattle.law_past_agreement.specs.{Rows.place_in, Agreement.IsOpenedWith}
-use Rattle.world.specs.State.{WorldState, Session, Work, Logged, Seen, IsSession, HasWork}
 use Rattle.world.specs.{declared.undo_room.UndoRoom.UndoRoom, Undoing.read_into}
-use Rattle.law_world_agreement.specs.Agreement.{Agrees, sight_of}
 use Rattle.row_changes.specs.{Told.HasRows, Rows.IsChangingRow, declared.keys_change.KeysChange.KeysChange, declared.row_change.RowChange.RowChange}
 use Rattle.row_changes.specs.{declared.row_change.RowChange.TheVariants.Record, declared.row_change.RowChange.TheVariants.Keys}
 use Rattle.row_search.specs.{declared.sight.Sight.Sight, declared.sight.Sight.TheVariants.View, declared.sight.Sight.TheVariants.Newest}
 use Rattle.undo_apply.specs.{declared.work_room.WorkRoom.WorkRoom, declared.work_room.Stage.TheVariants.Find, Rooms.IsWhole, Stages.IsPuttingBack}
-use Rattle.shared_lists.specs.Fitting.{CanBeCoded, FitsThen}
 use Rattle.law_logged_changes.specs.{Pointers.PointersApart, Logs.LogsAgree}
-use Rattle.law_found_rows.specs.Finding.{IsFinding, IsFindingAnew}
 use Rattle.desks.specs.{declared.desk.Desk.Desk, declared.desk.Doing.Doing, declared.desk.TableSearch.TableSearch, Desks.desk_at, Desks.doing_at}
 use Rattle.desks.specs.{Desks.is_quiet_doing}
-use Rattle.desks.specs.declared.desk.Doing.TheVariants.{Nothing, Searching, Changing, Lagging, Undoing}
 
 -- each place has few versions: those of this history, and not too many older ones
 abbrev pub AreFew : Chains → List Event → Type 0
@@ -66,16 +66,6 @@ pub record IsLast (state : WorldState) (w : ℕ) (logged : Logged) (place : Plac
   pub own_is : own w state.past ≡ change ∷ before
   pub place_is : place_in state.schemas change ≡ Some place
 
--- its keys lag
-pub record IsLagging (chains : Chains) (state : WorldState) (w : ℕ) : Type 0 where
-  pub change : KeysChange
-  pub changing : IsChangingRow w chains state (Keys change)
-  pub logged : Logged
-  pub place : Place
-  pub last : IsLast state w logged place
-  pub table_is : place.table ≡ change.table
-  pub key_is : logged.undo.key ≡ change.key
-
 -- The change that its keys take over is the newest one, and the newest undo record is of the same row.
 pub record IsLastOf (state : WorldState) (w : ℕ) (change : KeysChange) : Type 0 where
   pub logged : Logged
@@ -83,6 +73,12 @@ pub record IsLastOf (state : WorldState) (w : ℕ) (change : KeysChange) : Type 
   pub last : IsLast state w logged place
   pub table_is : place.table ≡ change.table
   pub key_is : logged.undo.key ≡ change.key
+
+-- its keys lag
+pub record IsLagging (chains : Chains) (state : WorldState) (w : ℕ) : Type 0 where
+  pub change : KeysChange
+  pub changing : IsChangingRow w chains state (Keys change)
+  pub newest : IsLastOf state w change
 
 -- the same of a change that the history tells
 abbrev pub IsLastIfTold : WorldState → ℕ → RowChange → Type 0

@@ -1,11 +1,11 @@
 -- What a step of one session leaves to the searches of the others.
-use Rattle.std.specs.Prelude.{◌≡◌, ◌≢◌, ◌⊎◌, ℕ, ◌+◌, List, Option, Some, slice_get}
+use Rattle.std.specs.Prelude.{◌≡◌, ◌≢◌, ◌⊎◌, ℕ, ◌+◌, Option, Some, slice_get}
 use Rattle.inno_types.specs.declared.value.Schema.{Schema}
 use Rattle.row_versions.specs.Chains.{Chains}
 use Rattle.law_stored_rows.specs.Records.{KeepsMore}
-use Rattle.world.specs.{State.WorldState, Told.IsTold}
 use Rattle.law_world_agreement.specs.Agreement.{Agrees}
 use Rattle.law_found_rows.specs.Pasts.{AddsAtMostOne}
+use Rattle.world.specs.{State.WorldState, Told.IsTold}
 
 -- whatever was kept is kept still, or one older version more was dropped
 abbrev pub KeepsOrCuts : ℕ → ℕ → WorldState → WorldState → Type 0

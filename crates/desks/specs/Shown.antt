@@ -3,17 +3,17 @@ use Rattle.std.specs.Prelude.{ℕ, List, Option, Some, None, map, slice_get}
 use Rattle.inno_types.specs.declared.value.Schema.{Schema}
 use Rattle.inno_db.specs.declared.change.Change.{Change}
 use Rattle.world.specs.State.{WorldState, Session}
-use Rattle.row_changes.specs.{declared.row_change.RowChange.RowChange, declared.row_change.RowChange.TheVariants.Record}
-use Rattle.row_changes.specs.{declared.row_change.RowChange.TheVariants.Keys, Edits.change_of, Rows.row_steps, Rows.table_of}
 use Rattle.undo_apply.specs.declared.work_room.Stage.{Stage}
 use Rattle.row_search.specs.declared.sight.Sight.{Sight}
 use Rattle.row_search.specs.declared.sight.Sight.TheVariants as sights
+use Rattle.shared_lists.specs.Tasks as tasks
+use Rattle.shared_lists.specs.State.{Lists}
+use Rattle.desks.specs.declared.desk.Doing.TheVariants.{Nothing, Searching, Changing, Lagging, Undoing}
+use Rattle.row_changes.specs.{declared.row_change.RowChange.RowChange, declared.row_change.RowChange.TheVariants.Record}
+use Rattle.row_changes.specs.{declared.row_change.RowChange.TheVariants.Keys, Edits.change_of, Rows.row_steps, Rows.table_of}
 use Rattle.shared_lists.specs.{declared.answers.Reading.Reading, declared.answers.Reading.TheVariants.View, declared.answers.Reading.TheVariants.Newest}
 use Rattle.shared_lists.specs.{Tasks.Task}
-use Rattle.shared_lists.specs.Tasks as tasks
-use Rattle.shared_lists.specs.State.{State, Lists}
 use Rattle.desks.specs.{declared.desk.Desk.Desk, declared.desk.Doing.Doing, Undoing.keys_if, Undoing.undo_left_in, Searching.places_from}
-use Rattle.desks.specs.declared.desk.Doing.TheVariants.{Nothing, Searching, Changing, Lagging, Undoing}
 
 abbrev pub reading_of : Sight → Reading
 reading_of (sights.View view own) = View

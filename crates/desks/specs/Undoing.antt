@@ -1,5 +1,5 @@
 -- How much of a change that is being taken back is left, as one number.
-use Rattle.std.specs.Prelude.{ℕ, zero, suc, ◌+◌, ◌*◌, ◌^◌, ◌==◌, if◌then◌else◌, List, length, slice_get, Option, None, Some}
+use Rattle.std.specs.Prelude.{ℕ, zero, suc, ◌+◌, ◌*◌, ◌^◌, ◌==◌, if◌then◌else◌, length, slice_get, Option, None, Some}
 use Rattle.inno_types.specs.declared.value.Schema.{Schema}
 use Rattle.row_versions.specs.declared.kept.Kept.{Kept}
 use Rattle.world.specs.State.{WorldState}

@@ -3,19 +3,19 @@ use Rattle.std.proofs.Common.{◌≡◌, ◌∙◌, sym, ap, subst, refl, ℕ, B
 use Rattle.std.proofs.lemmas.List.Elements.{recursion_from_All}
 use Rattle.std.specs.Prelude.{filter, not, ◌&&◌, All, slice_get}
 use Rattle.std.specs.List.{AllByRecursion}
+use Rattle.inno_types.specs.declared.stmt.Stmt.TheVariants.{CreateTable, Select, Insert, Update, Delete, Begin, Commit, Rollback, RollbackTo, Savepoint}
+use Rattle.inno_types.specs.declared.stmt.Stmt.TheVariants.{SetAutocommit, SetLevel}
+use Rattle.inno_db.specs.Outcome.{outcome, matching, unless_refused, on_rows, on_number, on_schema, select_answer, update_answer, delete_answer, answered}
+use Rattle.inno_db.specs.Outcome.{counted, updated, deleted, selected_of}
+use Rattle.law_found_rows.specs.Plans.{SearchesFor, IsOpenRange}
+use Rattle.law_found_rows.proofs.Passing.{passing_map, rows_of-passing}
 use Rattle.inno_types.specs.{declared.value.Value.Value, declared.value.Schema.Schema, declared.stmt.Bound.Bound, declared.stmt.Filter.Filter}
 use Rattle.inno_types.specs.{declared.stmt.Range.Range, declared.reply.Reply.TheVariants.Rows, declared.stmt.Selected.Selected, declared.stmt.Set.Set}
 use Rattle.inno_types.specs.{declared.stmt.Stmt.Stmt, Ranges.is_from, Ranges.is_up_to, Ranges.is_within}
-use Rattle.inno_types.specs.declared.stmt.Stmt.TheVariants.{CreateTable, Select, Insert, Update, Delete, Begin, Commit, Rollback, RollbackTo, Savepoint}
-use Rattle.inno_types.specs.declared.stmt.Stmt.TheVariants.{SetAutocommit, SetLevel}
 use Rattle.inno_db.specs.{declared.truth.Truth.Truth, declared.truth.Truth.TheVariants.True, declared.truth.Truth.TheVariants.False}
 use Rattle.inno_db.specs.{declared.truth.Truth.TheVariants.Unknown, Conditions.matches, Conditions.truth_of, Conditions.is_true, Database.Database}
 use Rattle.inno_db.specs.{Database.RowMap, Database.rows_of, Names.table_place, declared.outcome.Outcome.Outcome, Refusals.refusal}
-use Rattle.inno_db.specs.Outcome.{outcome, matching, unless_refused, on_rows, on_number, on_schema, select_answer, update_answer, delete_answer, answered}
-use Rattle.inno_db.specs.Outcome.{counted, updated, deleted, selected_of}
 use Rattle.sql_plan.specs.{declared.choice.Plan.Plan, Covers.CoversMatches, Visits.index_key, Visits.IsRowOf}
-use Rattle.law_found_rows.specs.Plans.{SearchesFor, IsOpenRange}
-use Rattle.law_found_rows.proofs.Passing.{passing_map, rows_of-passing}
 
 -- a test that lets no more through may come before
 filter_twice : (p q : List Value → Bool) (rows : List (List Value)) → AllByRecursion (λ row. p row ≡ true → q row ≡ true) rows

@@ -3,21 +3,21 @@ use Rattle.std.proofs.Common.{◌≡◌, ◌≢◌, ◌∙◌, sym, ap, ℕ, Boo
 use Rattle.std.proofs.lemmas.List.Elements.{All-from_recursion}
 use Rattle.std.specs.Prelude.{filter, All}
 use Rattle.std.specs.FinMap.{get}
-use Rattle.inno_types.specs.{declared.value.Value.Value, declared.value.Schema.Schema}
 use Rattle.inno_db.specs.Database.{Database, rows_of}
 use Rattle.inno_model.specs.Past.{own, view_of, commits, changed}
 use Rattle.entries.specs.Pairs.{Pair}
-use Rattle.row_versions.specs.{declared.kept.Kept.Kept, Chains.Chains, Chains.newest}
-use Rattle.law_stored_rows.specs.{Records.IsClustered, Tables.in_table}
 use Rattle.sql_plan.specs.Visits.{IsRowOf}
-use Rattle.law_past_agreement.specs.{Rows.seen, DatabaseTables.with_all_tables}
-use Rattle.law_past_agreement.proofs.{Gets.seen_is, Walk.rows_are}
 use Rattle.law_found_rows.proofs.Latest.{at_key, latest}
 use Rattle.world.specs.State.{WorldState, Session, Work, Seen, HasWork}
 use Rattle.law_world_agreement.specs.Agreement.{sight_of, Agrees}
 use Rattle.law_world_agreement.proofs.Readers.{seen_by_view, seen_newest}
-use Rattle.row_search.specs.{declared.found.FoundRow.FoundRow, declared.sight.Sight.Sight}
 use Rattle.row_search.specs.declared.sight.Sight.TheVariants as sights
+use Rattle.inno_types.specs.{declared.value.Value.Value, declared.value.Schema.Schema}
+use Rattle.row_versions.specs.{declared.kept.Kept.Kept, Chains.Chains, Chains.newest}
+use Rattle.law_stored_rows.specs.{Records.IsClustered, Tables.in_table}
+use Rattle.law_past_agreement.specs.{Rows.seen, DatabaseTables.with_all_tables}
+use Rattle.law_past_agreement.proofs.{Gets.seen_is, Walk.rows_are}
+use Rattle.row_search.specs.{declared.found.FoundRow.FoundRow, declared.sight.Sight.Sight}
 use Rattle.row_search.specs.{Sights.sees_by, Sights.rows_seen, FoundRows.RiseByKey, FoundRows.AreFound}
 use Rattle.row_search.proofs.{Keys.IsHome, Keys.home, Others.newest_seen}
 use Rattle.law_found_rows.proofs.{Passing.passing_map, Passing.get-passing, Passing.rows_of-passing, Passing.kept_if, FoundPlaces.keyed}
@@ -87,11 +87,6 @@ module _ (chains : Chains) (writer : Option ℕ) (state : WorldState) (table : �
         found_are schema table view_rows view_database (view_shows chains writer state agrees table s n session work view has is at)
         (homes_of schema kept pairs chains table (sights.View (sight_of view) work.id) clustered)
 
-    pub view_rows_fit : All (IsRowOf schema.columns) (rows_of table view_database)
-    view_rows_fit =
-        rows_fit schema table view_rows view_database (view_shows chains writer state agrees table s n session work view has is at)
-        (homes_of schema kept pairs chains table (sights.View (sight_of view) work.id) clustered)
-
   module _ (w : ℕ) (alone : (u : ℕ) → u ≢ w → own u state.past ≡ []) where
     abbrev newest_rows : Value → Option (List Value)
     newest_rows = rows_seen sights.Newest (in_table table chains)
@@ -103,9 +98,4 @@ module _ (chains : Chains) (writer : Option ℕ) (state : WorldState) (table : �
         → map (λ (found : FoundRow). found.row) rows ≡ filter passes (rows_of table newest_database)
     found_newest =
         found_are schema table newest_rows newest_database (newest_shows chains writer state agrees table w alone)
-        (homes_of schema kept pairs chains table sights.Newest clustered)
-
-    pub newest_rows_fit : All (IsRowOf schema.columns) (rows_of table newest_database)
-    newest_rows_fit =
-        rows_fit schema table newest_rows newest_database (newest_shows chains writer state agrees table w alone)
         (homes_of schema kept pairs chains table sights.Newest clustered)

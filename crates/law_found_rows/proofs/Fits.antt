@@ -5,14 +5,14 @@ use Rattle.std.proofs.lemmas.List.Elements.{All-from_recursion}
 use Rattle.std.specs.Prelude.{filter, ◌==◌, All, slice_get}
 use Rattle.std.specs.List.{AllByRecursion}
 use Rattle.std.specs.FinMap.{get, entries, entries_sorted, get-entries}
-use Rattle.inno_types.specs.{declared.value.Value.Value, declared.value.Schema.Schema}
 use Rattle.inno_db.specs.Database.{Database, Place, rows_of}
 use Rattle.key_codec.specs.Keys.{Has64Bits}
 use Rattle.row_codec.specs.Rows.{IsRowOf as IsCodableRow}
 use Rattle.sql_plan.specs.Visits.{IsRowOf}
+use Rattle.law_stored_rows.proofs.Rows.{IsFoundIn, all_found, at_schema}
+use Rattle.inno_types.specs.{declared.value.Value.Value, declared.value.Schema.Schema}
 use Rattle.row_search.proofs.{Keys.fits_in, Others.bits_in}
 use Rattle.law_stored_rows.specs.{Fitting.FitsTable, Fitting.AreFitting, Numbers.RowsHave64Bits}
-use Rattle.law_stored_rows.proofs.Rows.{IsFoundIn, all_found, at_schema}
 
 -- what holds of the row of each key of a table holds of the table's rows
 module _ (P : List Value → Type 0) (db : Database) (n : ℕ) (each : (key : Value) (row : List Value) → get db.rows (n, key) ≡ Some row → P row) where

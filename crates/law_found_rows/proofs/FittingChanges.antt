@@ -10,9 +10,9 @@ use Rattle.inno_model.specs.declared.event.Event.TheVariants as events
 use Rattle.inno_model.specs.Past.{own, oldest, committed}
 use Rattle.law_past_agreement.specs.Order.{created, MayCome, IsOrdered}
 use Rattle.sql_history.specs.Items.{before_turn, own_before}
-use Rattle.law_stored_rows.specs.{Storable.IsStorable, Storable.AreStorable, Fitting.FitsTables}
 use Rattle.law_stored_rows.proofs.Applying.{FitsTables-more}
 use Rattle.shared_lists.specs.Fitting.{FitsWell, FitsThen}
+use Rattle.law_stored_rows.specs.{Storable.IsStorable, Storable.AreStorable, Fitting.FitsTables}
 
 -- ---- tables
 

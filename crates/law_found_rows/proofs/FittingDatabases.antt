@@ -1,26 +1,26 @@
 -- Databases of a history whose changes fitted when they were made.
-use Rattle.std.proofs.Common.{◌≡◌, ◌≢◌, ℕ, ◌<◌, List, [], ◌∷◌, ◌++◌, length, refl, sym, ap, subst, ◌∙◌}
+use Rattle.std.proofs.Common.{◌≡◌, ℕ, ◌<◌, List, [], ◌∷◌, ◌++◌, length, refl, sym, ap, subst, ◌∙◌}
 use Rattle.std.specs.Prelude.{All}
-use Rattle.std.specs.List.{list_any}
 use Rattle.std.specs.FinMap.{insert}
 use Rattle.std.proofs.lemmas.List.{append-nil, append_assoc}
 use Rattle.std.proofs.lemmas.List.Elements.{All-nil, All-cons, All-head, All-tail, All-append, All-weaker}
-use Rattle.inno_types.specs.{declared.value.Value.Value, declared.value.Schema.Schema, declared.stmt.Stmt.Stmt}
-use Rattle.inno_db.specs.{declared.change.Change.Change, declared.change.Change.TheVariants.Create, declared.change.Change.TheVariants.Put}
-use Rattle.inno_db.specs.{declared.change.Change.TheVariants.Remove, Database.Database, Database.RowMap, Database.key_in, Outcome.outcome}
 use Rattle.inno_model.specs.declared.event.Event.{Event}
 use Rattle.inno_model.specs.declared.event.Event.TheVariants as events
 use Rattle.inno_model.specs.Past.{own, commits, committed, opening, changed}
-use Rattle.law_past_agreement.specs.{Order.created, Order.is_creation, Order.IsOrdered, Rows.seen, DatabaseTables.with_all_tables}
 use Rattle.law_past_agreement.proofs.Tables.{key_stays}
 use Rattle.sql_history.specs.Items.{own_before, base}
-use Rattle.sql_lists.specs.Kept.{made, AreInOrder, IsInOrder, AreStanding}
-use Rattle.law_stored_rows.specs.{Storable.AreStorable, Fitting.FitsTables, Fitting.AreFitting, Numbers.ChangeHas64Bits, Numbers.RowsHave64Bits}
+use Rattle.sql_lists.specs.Kept.{made, AreInOrder, IsInOrder}
+use Rattle.sql_lists.proofs.Standing.{schemas_after}
+use Rattle.shared_lists.specs.Fitting.{CanBeCoded, FitsWell, FitsThen}
+use Rattle.law_found_rows.proofs.FittingChanges.{none_there, tables_storable, own_fits, own_before_fits, committed_fits}
+use Rattle.inno_types.specs.{declared.value.Value.Value, declared.value.Schema.Schema, declared.stmt.Stmt.Stmt}
+use Rattle.inno_db.specs.{declared.change.Change.Change, declared.change.Change.TheVariants.Create, declared.change.Change.TheVariants.Put}
+use Rattle.inno_db.specs.{declared.change.Change.TheVariants.Remove, Database.Database, Database.key_in, Outcome.outcome}
+use Rattle.law_past_agreement.specs.{Order.created, Order.IsOrdered, Rows.seen, DatabaseTables.with_all_tables}
+use Rattle.law_stored_rows.specs.{Storable.AreStorable, Fitting.FitsTables, Fitting.AreFitting, Numbers.ChangeHas64Bits}
 use Rattle.law_stored_rows.specs.{Numbers.Stores64Bits}
 use Rattle.law_stored_rows.proofs.{Applying.AreFitting-apply_one, Applying.AreFitting-changed, Applying.AreFitting-no_rows, Applying.AreFitting-mixed}
 use Rattle.law_stored_rows.proofs.{Numbers.changed-Has64Bits, Numbers.empty-Has64Bits, Numbers.outcome-Has64Bits, Outcomes.outcome-FitsTables}
-use Rattle.shared_lists.specs.Fitting.{CanBeCoded, FitsWell, FitsThen}
-use Rattle.law_found_rows.proofs.FittingChanges.{none_there, tables_storable, own_fits, own_before_fits, committed_fits}
 
 -- ---- the two parts of what fits
 
@@ -84,14 +84,6 @@ seen_coded past s n fits ordered =
 
 -- ---- over the tables that changes make themselves
 
--- the tables of a database after changes
-schemas_after : (db : Database) (changes : List Change) → (changed db changes).schemas ≡ db.schemas ++ made changes
-schemas_after db [] = sym (append-nil db.schemas)
-schemas_after db (Create schema ∷ changes) =
-    ap (λ (schemas : List Schema). schemas ++ schema ∷ []) (schemas_after db changes) ∙ append_assoc db.schemas (made changes) (schema ∷ [])
-schemas_after db (Put table row ∷ changes) = schemas_after db changes
-schemas_after db (Remove table key ∷ changes) = schemas_after db changes
-
 module _ (db : Database) (fits : AreFitting db) (tables : List Schema) (storable : AreStorable tables) where
   key_after : (more : List Schema) (earlier : List Change) (table : ℕ) (row : List Value) → tables ≡ (db.schemas ++ made earlier) ++ more
       → table < length (db.schemas ++ made earlier) → key_in tables table row ≡ key_in (changed db earlier).schemas table row
@@ -142,11 +134,3 @@ latest_coded past s later fits ordered in_order parts tables =
           (order_of_rest (opening past).schemas later changes mine) (tables_fit (created past) changes all));
       numbers = changed-Has64Bits (opening past) changes opened.numbers (numbers_fit (created past) changes all);
     }
-
-pub unchanged_coded : (past : List Event) (s : ℕ) → FitsThen past → IsOrdered past → IsInOrder past → AreStanding past
-    → own s past ≡ own_before s past → CanBeCoded (base s past)
-unchanged_coded past s fits ordered in_order stands unchanged =
-    let tables : created past ≡ (changed (opening past) (own s past ++ committed (commits past) past)).schemas =
-    stands.tables s in
-    latest_coded past s [] fits ordered in_order unchanged
-    (tables ∙ ap (λ changes. (changed (opening past) (changes ++ committed (commits past) past)).schemas) unchanged)

@@ -1,6 +1,7 @@
 -- Rows that were found, each at its key, in the order of places.
-use Rattle.std.proofs.Common.{◌≡◌, ◌∙◌, sym, ap, refl, ℕ, zero, suc, ◌+◌, Bool, true, false, cond, ◌&&◌, List, [], ◌∷◌, map, Option, None, Some, arith}
+use Rattle.std.proofs.Common.{◌≡◌, ◌∙◌, sym, ap, refl, ℕ, zero, suc, ◌+◌, Bool, true, false, cond, List, [], ◌∷◌, map, Option, None, Some, arith}
 use Rattle.std.proofs.lemmas.Bool.Decides.{nat_tests}
+use Rattle.std.proofs.lemmas.Bool.{and_from}
 use Rattle.std.specs.List.{AllByRecursion}
 use Rattle.std.specs.Ordering.{is_lt, nat_cmp, ordering_then}
 use Rattle.std.specs.FinMap.{find, is_sorted}
@@ -8,17 +9,17 @@ use Rattle.std.specs.FinMap.Entries.{below_all}
 use Rattle.std.specs.declared.cmp.Ordering.{Ordering}
 use Rattle.std.specs.declared.cmp.Ordering.TheVariants.{Less, Equal}
 use Rattle.std.proofs.lemmas.List.Sums.{sum_by-cons}
-use Rattle.inno_types.specs.{declared.value.Value.Value, declared.value.Schema.Schema}
 use Rattle.inno_db.specs.Database.{place_cmp, value_cmp, key_of}
 use Rattle.entries.specs.Pairs.{key_cmp}
 use Rattle.law_stored_rows.specs.Entries.{is_same_value}
-use Rattle.law_stored_rows.proofs.{Values.in_one_table, Values.same_value, FirstPlaces.keys_order}
 use Rattle.sql_plan.specs.Visits.{kind_at, primary_key}
 use Rattle.law_past_agreement.specs.DatabaseTables.{at_places, rows_in}
 use Rattle.row_search.specs.declared.found.FoundRow.{FoundRow}
 use Rattle.row_search.specs.FoundRows.{IsSeenRow, times_found, once_if, RiseByKey, AreFound}
 use Rattle.row_search.proofs.Keys.{IsHome}
 use Rattle.law_found_rows.proofs.Passing.{kept_if}
+use Rattle.inno_types.specs.{declared.value.Value.Value, declared.value.Schema.Schema}
+use Rattle.law_stored_rows.proofs.{Values.in_one_table, Values.same_value, FirstPlaces.keys_order}
 
 -- the rows behind their primary values
 abbrev pub keyed : Schema → List FoundRow → List (Value × List Value)
@@ -36,10 +37,6 @@ one_plus n = omega arith
 
 none_plus : (n : ℕ) → 0 + n ≡ n
 none_plus n = omega arith
-
-both : (a b : Bool) → a ≡ true → b ≡ true → (a && b) ≡ true
-both true b p q = q
-both false b p q = cc
 
 -- the row, where it was found
 abbrev found_if : ℕ → Option (List Value) → Option (List Value)
@@ -99,7 +96,7 @@ module _ (schema : Schema) (row_at : Value → Option (List Value)) (table : ℕ
         → below_all place_cmp (table, key_of schema found.row) (at_places table (keyed schema rows)) ≡ true
     below_rows found [] seen all less = refl
     below_rows found (next ∷ rows) seen all less =
-        both (is_lt (place_cmp (table, key_of schema found.row) (table, key_of schema next.row)))
+        and_from (is_lt (place_cmp (table, key_of schema found.row) (table, key_of schema next.row)))
         (below_all place_cmp (table, key_of schema found.row) (at_places table (keyed schema rows)))
         (below_by_place found next seen all.0 less.0) (below_rows found rows seen all.1 less.1)
 
@@ -107,6 +104,6 @@ module _ (schema : Schema) (row_at : Value → Option (List Value)) (table : ℕ
         → is_sorted place_cmp (at_places table (keyed schema rows)) ≡ true
     sorted_found [] seen rise = refl
     sorted_found (found ∷ rows) seen rise =
-        both (below_all place_cmp (table, key_of schema found.row) (at_places table (keyed schema rows)))
+        and_from (below_all place_cmp (table, key_of schema found.row) (at_places table (keyed schema rows)))
         (is_sorted place_cmp (at_places table (keyed schema rows)))
         (below_rows found rows seen.0 seen.1 rise.0) (sorted_found rows seen.1 rise.1)

@@ -1,22 +1,16 @@
 -- The newest row of a place, for the session that alone has changes.
-use Rattle.std.proofs.Common.{◌≡◌, ◌≢◌, ◌∙◌, sym, ap, refl, ℕ, Bool, false, Option, List, [], ◌∷◌, ◌++◌, inl, inr, arith}
-use Rattle.std.proofs.lemmas.Bool.Decides.{nat_tests, eqb_tells}
-use Rattle.std.specs.List.{list_any}
+use Rattle.std.proofs.Common.{◌≡◌, ◌≢◌, ◌∙◌, sym, ap, ℕ, Option, List, [], ◌++◌, inl, inr}
+use Rattle.std.proofs.lemmas.Bool.Decides.{eqb_tells}
 use Rattle.inno_types.specs.declared.value.Value.{Value}
 use Rattle.inno_db.specs.declared.change.Change.{Change}
-use Rattle.inno_model.specs.{declared.event.Event.Event, Past.own, Past.commits, Past.committed}
 use Rattle.row_versions.specs.declared.place.Place.{Place}
 use Rattle.law_past_agreement.specs.Order.{created}
 use Rattle.law_past_agreement.specs.Rows.{is_at, row_at, row_opened, row_seen, IsNewestSeen}
+use Rattle.law_past_agreement.proofs.Rows.{row_at-append}
+use Rattle.inno_model.specs.{declared.event.Event.Event, Past.own, Past.commits, Past.committed}
 
 abbrev pub at_key : ℕ → Value → Place
 at_key table key = record { table = table; key = key }
-
--- changes of other places are passed over
-passed_over : (before : Option (List Value)) (at : Change → Bool) (xs ys : List Change) → list_any at xs ≡ false
-    → row_at before at (xs ++ ys) ≡ row_at before at ys
-passed_over before at [] ys none = refl
-passed_over before at (change ∷ xs) ys none = grind (arith, nat_tests, passed_over before at xs ys, none)
 
 pub latest : (h : List Event) (s : ℕ) (place : Place) (row : Option (List Value)) → ((u : ℕ) → u ≢ s → own u h ≡ []) → IsNewestSeen h place row
     → row ≡ row_seen h s (commits h) place
@@ -27,5 +21,5 @@ latest h s place row alone newest =
       | inl same ↦ newest.2 ∙ ap (λ u. row_seen h u (commits h) place) same.1
       | inr differ ↦
           newest.2 ∙ (ap (λ (changes : List Change). row_at opened at (changes ++ committed (commits h) h)) (alone newest.0 differ.1)
-          ∙ sym (passed_over opened at (own s h) (committed (commits h) h) (newest.1 s (λ is. differ.1 (sym is)))))
+          ∙ sym (row_at-append opened at (own s h) (committed (commits h) h) (newest.1 s (λ is. differ.1 (sym is)))))
     ]

@@ -9,24 +9,24 @@ use Rattle.inno_model.specs.declared.event.Event.{Event}
 use Rattle.inno_model.specs.Past.{own, started, under_way, of_item, awaits_ack}
 use Rattle.inno_model.proofs.Untouched.{IsUntouched, untouched}
 use Rattle.store_api.specs.declared.answers.Undo.{Undo}
-use Rattle.row_versions.specs.{Versions.Stays, declared.place.Place.Place, Chains.Chains}
 use Rattle.law_past_agreement.specs.Rows.{place_in}
 use Rattle.world.specs.State.{WorldState, Session, Work, Logged, IsSession, HasWork}
-use Rattle.world.specs.{Told.IsTold, Told.LeavesRows, Undoing.read_into, declared.undo_room.UndoRoom.UndoRoom}
 use Rattle.law_world_agreement.specs.Agreement.{Agrees}
-use Rattle.row_changes.specs.{Told.HasRows, declared.row_change.RowChange.RowChange, declared.row_change.RowChange.TheVariants.Record}
-use Rattle.row_changes.specs.{declared.row_change.RowChange.TheVariants.Keys}
-use Rattle.undo_apply.specs.{declared.work_room.WorkRoom.WorkRoom, declared.work_room.Stage.TheVariants.Find, Rooms.IsWhole}
 use Rattle.undo_apply.proofs.Goes.{others_leave}
 use Rattle.shared_lists.specs.Fitting.{FitsThen}
-use Rattle.law_logged_changes.specs.{Logs.IsLogOf, Logs.LogsAgree, Steps.ChangesPairsAlone}
-use Rattle.law_logged_changes.proofs.{GoingOn.work_beside, GoingOn.agrees_beside, ReadersLeft.has_rows_left, ReadersLeft.change_left}
 use Rattle.law_found_rows.specs.Pasts.{AddsAtMostOne}
 use Rattle.law_found_rows.proofs.Seen.{other_of}
-use Rattle.desks.specs.{declared.desk.Desk.Desk, declared.desk.Doing.Doing, Desks.desk_at, Desks.doing_at, Desks.is_quiet_doing, Leaves.LeavesOthers}
 use Rattle.desks.specs.declared.desk.Doing.TheVariants.{Nothing, Searching, Changing, Lagging, Undoing}
 use Rattle.desks.specs.Holding.{AreFew, IsLast, IsLastIfTold, RowsHeld, RowsHeldBy, SearchHeld, IsHeld}
 use Rattle.desks.proofs.Leaving.{search_left}
+use Rattle.row_versions.specs.{Versions.Stays, declared.place.Place.Place, Chains.Chains}
+use Rattle.world.specs.{Told.IsTold, Told.LeavesRows, Undoing.read_into, declared.undo_room.UndoRoom.UndoRoom}
+use Rattle.row_changes.specs.{Told.HasRows, declared.row_change.RowChange.RowChange, declared.row_change.RowChange.TheVariants.Record}
+use Rattle.row_changes.specs.{declared.row_change.RowChange.TheVariants.Keys}
+use Rattle.undo_apply.specs.{declared.work_room.WorkRoom.WorkRoom, declared.work_room.Stage.TheVariants.Find, Rooms.IsWhole}
+use Rattle.law_logged_changes.specs.{Logs.IsLogOf, Logs.LogsAgree, Steps.ChangesPairsAlone}
+use Rattle.law_logged_changes.proofs.{GoingOn.work_beside, GoingOn.agrees_beside, ReadersLeft.has_rows_left, ReadersLeft.change_left}
+use Rattle.desks.specs.{declared.desk.Desk.Desk, declared.desk.Doing.Doing, Desks.desk_at, Desks.doing_at, Desks.is_quiet_doing, Leaves.LeavesOthers}
 
 pub some_same : {X : Type 0} (a b : X) → Some a ≡ Some b → a ≡ b
 some_same a b same = cc
@@ -95,11 +95,7 @@ module _ (w : ℕ) {chains : Chains} {later : Option ℕ} {old new : WorldState}
     record {
       change = rows.0.change;
       changing = change_left old new leaves w chains later (Keys rows.0.change) rows.0.changing session agrees;
-      logged = rows.0.logged;
-      place = rows.0.place;
-      last = last_left w leaves.schemas session own_is rows.0.last;
-      table_is = rows.0.table_is;
-      key_is = rows.0.key_is;
+      newest = newest_left (Keys rows.0.change) rows.0.newest;
     },
     rows.1,
   )

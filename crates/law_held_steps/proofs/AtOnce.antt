@@ -1,30 +1,29 @@
 -- A whole search of the newest rows.
 use Rattle.std.proofs.Common.{◌≡◌, ◌≢◌, ◌⊎◌, inl, inr, ℕ, Bool, true, false, List, [], map, Option, Some, refl, sym, ap, subst, ◌∙◌, length, slice_get, arith}
 use Rattle.std.specs.Prelude.{◌<◌, ◌≤◌}
-use Rattle.inno_types.specs.{declared.value.Schema.Schema, declared.value.Value.Value, declared.stmt.Range.Range, Ranges.is_within}
 use Rattle.inno_db.specs.Database.{rows_of}
 use Rattle.inno_model.specs.Past.{own, commits, changed}
 use Rattle.store_api.specs.declared.moves.Move.{Move}
-use Rattle.entries.specs.Calls.{Leaves}
 use Rattle.row_versions.specs.Chains.{Chains}
 use Rattle.law_stored_rows.specs.Tables.{Said, what_is_there, in_table}
-use Rattle.sql_plan.specs.{declared.choice.Plan.Plan, Plans.whole_index, Visits.index_key}
-use Rattle.law_past_agreement.specs.{Rows.seen, DatabaseTables.with_all_tables}
-use Rattle.world.specs.{State.WorldState, Told.IsTold, Told.pairs_of, Indexes.Calls, Undoing.read_into, declared.undo_room.UndoRoom.UndoRoom}
 use Rattle.row_changes.specs.Told.{AreRowsAs}
 use Rattle.law_logged_changes.proofs.ReadersLeft.{rows_left}
 use Rattle.undo_apply.specs.declared.work_room.WorkRoom.{WorkRoom}
+use Rattle.shared_lists.specs.Steps.{AreRowsSeen, AreNewestRows, rows_in_range}
+use Rattle.law_held_steps.specs.Newest.{plan_read, TellsTable, IsReadingNewest, AreRead, left_in}
+use Rattle.law_held_steps.proofs.Places.{none_moves, moves_then, moves_in_one, moves_nothing, leaving_moves, moves_leave, moves_told}
+use Rattle.law_held_steps.proofs.Stepping.{columns_held, new_finding, few_held, may_step, rows_on}
+use Rattle.inno_types.specs.{declared.value.Schema.Schema, declared.value.Value.Value, declared.stmt.Range.Range, Ranges.is_within}
+use Rattle.sql_plan.specs.{declared.choice.Plan.Plan, Plans.whole_index, Visits.index_key}
+use Rattle.law_past_agreement.specs.{Rows.seen, DatabaseTables.with_all_tables}
+use Rattle.world.specs.{State.WorldState, Told.IsTold, Told.pairs_of, Undoing.read_into, declared.undo_room.UndoRoom.UndoRoom}
 use Rattle.row_search.specs.{declared.found.FoundRow.FoundRow, declared.scan.Scan.Scan, declared.search.RowSearch.RowSearch, declared.sight.Sight.Sight}
 use Rattle.row_search.specs.{declared.sight.Sight.TheVariants.Newest, FoundRows.AreFound, Ranges.lies_in, Sights.rows_seen, Steps.IsSameScan, Steps.GoesOn}
 use Rattle.row_search.specs.{Steps.Waits, Steps.Ends, Tables.ShowsRows}
 use Rattle.law_found_rows.proofs.{Finding.goes_on, Finding.waits_on, Showing.shows_coded, Showing.shows_clustered, Databases.found_newest}
-use Rattle.shared_lists.specs.Steps.{AreRowsSeen, AreNewestRows, rows_in_range}
 use Rattle.desks.specs.{declared.desk.Desk.Desk, Desks.is_quiet, Holding.IsHeld}
 use Rattle.law_held_steps.specs.{Begun.IsScanOf, Begun.IsNewSearch, Moving.MovesPlaces, TakenUp.MayStep}
-use Rattle.law_held_steps.specs.Newest.{plan_read, TellsTable, IsReadingNewest, AreRead, left_in}
-use Rattle.law_held_steps.proofs.Places.{none_moves, moves_then, moves_in_one, moves_nothing, leaving_moves, moves_leave, moves_told}
 use Rattle.law_held_steps.proofs.{Shows.HasSome, Shows.some_rows_by, Shows.coded_while_quiet, Nearing.steps_nearer, Nearing.nearer_in, AnyStep.some_same}
-use Rattle.law_held_steps.proofs.Stepping.{columns_held, new_finding, few_held, may_step, rows_on}
 
 module _ {state : WorldState} {writer : Option ℕ} {desks : List Desk} {cuts : ℕ} {undo : UndoRoom} {room : WorkRoom} (table : ℕ) (plan : Plan)
     (schema : Schema) (held : IsHeld state writer desks cuts undo room) where
@@ -149,7 +148,3 @@ module _ (chains : Chains) (s table : ℕ) (plan : Plan) (schema : Schema) where
           record { readable = is.readable; found = in_plan search.scan rows is.scan found.0; rise = found.1 },
           moves_then is.moves (leaving_moves s _ old new ends.leaves),
         )
-
-    pub reading_stops : {index : ℕ} {state later : WorldState} {search : RowSearch} → IsReadingNewest chains s table plan schema first state search
-        → Calls index (Leaves s) state later → MovesPlaces s first later
-    reading_stops {index} {state} {later} is leaves = moves_then is.moves (leaving_moves s index state later leaves)

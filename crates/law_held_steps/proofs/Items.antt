@@ -10,32 +10,32 @@ use Rattle.std.specs.Prelude.{slice_get, is_some, option_map, ◌≤◌, slice_s
 use Rattle.inno_model.specs.Past.{own, started, under_way, of_item, awaits_ack, IsClosed}
 use Rattle.inno_model.specs.declared.event.Event.{Event}
 use Rattle.inno_model.specs.declared.event.Event.TheVariants.{Started, Ended, Acked, Signal, Begin, View, Committed, RolledBack}
-use Rattle.law_past_agreement.specs.{Slots.writer_without, Order.MayCome}
 use Rattle.world.specs.State.{WorldState, Session, Work, IsSession, HasWork}
-use Rattle.world.specs.{Told.IsTold, Told.LeavesRows, declared.undo_room.UndoRoom.UndoRoom, EngineCalls.item_started, EngineCalls.acknowledged}
-use Rattle.world.specs.{EngineCalls.signalled, Sessions.fresh_work, Sessions.of_txn, Sessions.change_txn, Sessions.with_save, Endings.IsCommitted}
-use Rattle.world.specs.{Endings.IsRolledBack}
 use Rattle.law_logged_changes.specs.Steps.{LeavesLog, HasNoLog, LeavesLogs, OfAll}
-use Rattle.desks.specs.{declared.desk.Desk.Desk, declared.desk.Doing.TheVariants.Nothing, Holding.SearchHeld, Holding.IsHeld, Leaves.LeavesOthers}
 use Rattle.desks.specs.Desks.{fresh_desk, desk_at, with_start, doing_at, is_quiet_doing}
 use Rattle.law_held_steps.specs.Entries.{LeavesDesks, HasSameRows, IsEntered}
 use Rattle.entries.specs.Index.{Index, AreKept}
 use Rattle.row_versions.specs.Versions.{Stays}
-use Rattle.row_changes.proofs.Sessions.{same_pairs, same_versions}
 use Rattle.undo_apply.specs.declared.work_room.WorkRoom.{WorkRoom}
-use Rattle.law_world_agreement.specs.{Agreement.Agrees, Steps.opened, Steps.viewed, Steps.session_begun}
 use Rattle.shared_lists.specs.Fitting.{FitsThen}
 use Rattle.law_found_rows.specs.Pasts.{AddsAtMostOne}
 use Rattle.law_logged_changes.proofs.Leaving.{rows_leave, all_left}
 use Rattle.law_held_steps.proofs.AnyStep.{some_same, each, others_past, past_grows, quiet_step, held_after, waits_not}
-use Rattle.inno_types.specs.{declared.reply.Item.Item, declared.reply.Reply.Reply, declared.lock.Level.Level}
-use Rattle.law_world_agreement.proofs.{Opening.set_here, Opening.set_other, Opening.opened_agrees, Opening.viewed_agrees, Ending.one_session_of}
-use Rattle.law_world_agreement.proofs.{Ending.committed_agrees, Ending.rolled_back_agrees}
 use Rattle.law_world_agreement.proofs.Entries.{started_agrees, ended_agrees, acked_agrees, signal_agrees, unentered_agrees}
 use Rattle.sql_history.specs.Settings.{at_end, saved}
 use Rattle.law_past_agreement.proofs.Ids.{ids_of}
 use Rattle.law_world_agreement.specs.Steps.{IsEntered as IsSettled}
 use Rattle.txn_table.specs.Txns.{ids_of as listed_ids}
+use Rattle.law_past_agreement.specs.{Slots.writer_without, Order.MayCome}
+use Rattle.world.specs.{Told.IsTold, Told.LeavesRows, declared.undo_room.UndoRoom.UndoRoom, EngineCalls.item_started, EngineCalls.acknowledged}
+use Rattle.world.specs.{EngineCalls.signalled, Sessions.fresh_work, Sessions.of_txn, Sessions.change_txn, Sessions.with_save, Endings.IsCommitted}
+use Rattle.world.specs.{Endings.IsRolledBack}
+use Rattle.desks.specs.{declared.desk.Desk.Desk, declared.desk.Doing.TheVariants.Nothing, Holding.SearchHeld, Holding.IsHeld, Leaves.LeavesOthers}
+use Rattle.row_changes.proofs.Sessions.{same_pairs, same_versions}
+use Rattle.law_world_agreement.specs.{Agreement.Agrees, Steps.opened, Steps.viewed, Steps.session_begun}
+use Rattle.inno_types.specs.{declared.reply.Item.Item, declared.reply.Reply.Reply, declared.lock.Level.Level}
+use Rattle.law_world_agreement.proofs.{Opening.set_here, Opening.set_other, Opening.opened_agrees, Opening.viewed_agrees, Ending.one_session_of}
+use Rattle.law_world_agreement.proofs.{Ending.committed_agrees, Ending.rolled_back_agrees}
 
 -- a transaction whose log and changes are as they were
 pub same_log : {t : ℕ} {old new : WorldState} {session : Session} {before work : Work} → HasWork t session before old → work.log ≡ before.log

@@ -3,26 +3,26 @@
 use Rattle.std.proofs.Common.{◌≡◌, inl, inr, ℕ, ◌≤◌, true, false, List, ◌∷◌, length, refl, sym, subst, arith, eq-eqb, suc, ◌<◌, [], map, Option, Some, None}
 use Rattle.std.proofs.Common.{ap, ◌∙◌}
 use Rattle.inno_db.specs.declared.change.Change.{Change}
-use Rattle.inno_model.specs.{declared.event.Event.Event, declared.event.Event.TheVariants.Changed}
 use Rattle.inno_model.specs.Past.{started, under_way, of_item, awaits_ack, level, IsOpen, own}
 use Rattle.law_found_rows.specs.Pasts.{AddsAtMostOne}
 use Rattle.std.specs.Prelude.{slice_get, is_some}
 use Rattle.std.proofs.lemmas.Option.{slice_get_within}
+use Rattle.world.specs.State.{WorldState, Session, Work, IsSession, HasWork, Logged}
+use Rattle.law_world_agreement.specs.Agreement.{Agrees}
+use Rattle.entries.specs.Pairs.{Pair}
+use Rattle.row_changes.specs.declared.keys_change.KeysChange.{KeysChange}
+use Rattle.undo_apply.specs.declared.work_room.WorkRoom.{WorkRoom}
+use Rattle.shared_lists.specs.Fitting.{FitsThen}
+use Rattle.desks.specs.Holding.{AreFew, IsHeld, IsLast, IsLastOf, RowsHeld, SearchHeld}
+use Rattle.inno_model.specs.{declared.event.Event.Event, declared.event.Event.TheVariants.Changed}
 use Rattle.inno_types.specs.{declared.lock.Level.Level, declared.value.Schema.Schema}
 use Rattle.row_versions.specs.{Chains.Chains, declared.place.Place.Place}
 use Rattle.law_past_agreement.specs.{Slots.fresh, Agreement.SlotAgrees, Agreement.IsIdle, Rows.place_in}
-use Rattle.world.specs.State.{WorldState, Session, Work, IsSession, HasWork, Logged}
-use Rattle.law_world_agreement.specs.Agreement.{Agrees}
 use Rattle.law_world_agreement.proofs.{Settled.slot_if, Settled.slot_at, Opening.idle_of}
-use Rattle.entries.specs.Pairs.{Pair}
 use Rattle.world.specs.{Told.IsTold, Undoing.read_into, declared.undo_room.UndoRoom.UndoRoom}
-use Rattle.row_changes.specs.declared.keys_change.KeysChange.{KeysChange}
 use Rattle.row_changes.proofs.{Sessions.one_session, Ids.one_work}
 use Rattle.law_logged_changes.specs.{GoingOn.StaysOpen, GoingOn.KeepsBeside, Logs.LogsAgree}
-use Rattle.undo_apply.specs.declared.work_room.WorkRoom.{WorkRoom}
-use Rattle.shared_lists.specs.Fitting.{FitsThen}
 use Rattle.desks.specs.{declared.desk.Desk.Desk, declared.desk.Doing.Doing, Desks.with_doing, Leaves.LeavesOthers}
-use Rattle.desks.specs.Holding.{AreFew, IsHeld, IsLast, IsLastOf, RowsHeld, SearchHeld}
 use Rattle.law_held_steps.specs.{Making.LeavesLists, Leaving.is_searching}
 use Rattle.law_held_steps.proofs.{AnyStep.each, AnyStep.waits_not, AnyStep.past_grows, AnyStep.held_after, Desks.given, Left.no_search}
 

@@ -5,16 +5,16 @@ use Rattle.std.proofs.lemmas.Bool.{cases_eq}
 use Rattle.inno_types.specs.declared.value.Schema.{Schema}
 use Rattle.entries.specs.Calls.{Leaves}
 use Rattle.row_versions.specs.Chains.{Chains}
+use Rattle.undo_apply.specs.declared.work_room.WorkRoom.{WorkRoom}
+use Rattle.row_changes.specs.Awaited.{IsOfTable}
+use Rattle.law_held_steps.proofs.Places.{left_over, none_moves, moves_then, leaving_moves, moves_leave, moves_told}
+use Rattle.law_held_steps.proofs.AnyStep.{rows_left, held_beside}
 use Rattle.world.specs.{State.WorldState, State.index_of, Indexes.Calls, Told.IsTold, Undoing.read_into, declared.undo_room.UndoRoom.UndoRoom}
 use Rattle.law_logged_changes.proofs.{ReadersLeft.has_rows_left, Leaving.all_left, Leaving.rows_leave, GoingOn.logs_beside, GoingOn.own_beside}
 use Rattle.law_logged_changes.proofs.{GoingOn.agrees_beside}
-use Rattle.undo_apply.specs.declared.work_room.WorkRoom.{WorkRoom}
 use Rattle.desks.specs.{declared.desk.Desk.Desk, declared.desk.Doing.Doing, declared.desk.Doing.TheVariants.Searching, Desks.doing_at, Holding.IsHeld}
 use Rattle.desks.specs.{Holding.RowsHeldBy, Holding.SearchHeld}
-use Rattle.row_changes.specs.Awaited.{IsOfTable}
 use Rattle.law_held_steps.specs.{Leaving.LeavesIndexes, Leaving.LeavesTable, Leaving.is_searching}
-use Rattle.law_held_steps.proofs.Places.{left_over, none_moves, moves_then, leaving_moves, moves_leave, moves_told}
-use Rattle.law_held_steps.proofs.AnyStep.{rows_left, held_beside}
 
 pub one_left : (s index : ℕ) (old new : WorldState) → Calls index (λ before after. Leaves s before after) old new → LeavesIndexes s old new
 one_left = leaving_moves

@@ -3,8 +3,16 @@ use Rattle.std.proofs.Common.{◌≡◌, ◌≢◌, ℕ, List, Option, Some, Non
 use Rattle.std.proofs.Common.{◌∷◌}
 use Rattle.std.proofs.lemmas.Option.{slice_get_within}
 use Rattle.std.specs.Prelude.{slice_get, IsSomeAnd}
-use Rattle.inno_types.specs.{declared.value.Schema.Schema, declared.value.Value.Value}
 use Rattle.law_stored_rows.specs.Fitting.{IsKeyFor, FitsTable}
+use Rattle.row_changes.specs.Rows.{primary_of, table_of, place_of, row_steps, IsChangingRow, ChangesRow}
+use Rattle.law_past_agreement.specs.Order.{created}
+use Rattle.undo_apply.specs.declared.work_room.WorkRoom.{WorkRoom}
+use Rattle.desks.specs.Holding.{IsHeld, RowsHeld, SearchHeld, AreFew, IsLastOf}
+use Rattle.law_held_steps.proofs.Keeping.{open_work, open_joined, goes_same, goes_changed, leaves_lists, last_of_kept, keeps}
+use Rattle.law_found_rows.proofs.FittingChanges.{tables_storable}
+use Rattle.law_world_agreement.specs.Agreement.{Agrees}
+use Rattle.law_logged_changes.proofs.Listed.{begun as begun_row}
+use Rattle.inno_types.specs.{declared.value.Schema.Schema, declared.value.Value.Value}
 use Rattle.world.specs.{State.WorldState, Undoing.read_into, declared.undo_room.UndoRoom.UndoRoom, Told.IsTold}
 use Rattle.row_changes.specs.{declared.row_edit.RowEdit.RowEdit, declared.row_edit.RowEdit.TheVariants.Put, declared.row_edit.RowEdit.TheVariants.Remove}
 use Rattle.row_changes.specs.{Edits.change_of, Edits.FitsEdit, Edits.rows_put, declared.record_change.RecordChange.RecordChange}
@@ -12,25 +20,17 @@ use Rattle.row_changes.specs.{declared.keys_change.KeysChange.KeysChange, declar
 use Rattle.row_changes.specs.{declared.row_change.RowChange.TheVariants.Record, declared.row_change.RowChange.TheVariants.Keys}
 use Rattle.row_changes.specs.{declared.reached.Reached.Reached, declared.reached.Reached.TheVariants.Went, declared.reached.Reached.TheVariants.Done}
 use Rattle.row_changes.specs.{declared.reached.Reached.TheVariants.Hindered}
-use Rattle.row_changes.specs.Rows.{primary_of, table_of, place_of, row_steps, IsChangingRow, ChangesRow}
 use Rattle.shared_lists.specs.{Fitting.FitsWell, Fitting.FitsThen, Steps.rows_of_change}
 use Rattle.law_held_steps.specs.{Beginning.IsEditable, Beginning.IsKeyOfEdit, Beginning.begun, Leaving.is_searching, Making.doing_after, Making.Comes}
 use Rattle.law_held_steps.specs.{Making.MakesChange}
 use Rattle.inno_model.specs.{Past.IsOpen, Past.own, declared.event.Event.TheVariants.Changed}
-use Rattle.law_past_agreement.specs.Order.{created}
-use Rattle.undo_apply.specs.declared.work_room.WorkRoom.{WorkRoom}
 use Rattle.desks.specs.{declared.desk.Desk.Desk, declared.desk.Doing.Doing, declared.desk.Doing.TheVariants.Nothing, declared.desk.Doing.TheVariants.Changing}
 use Rattle.desks.specs.{Desks.doing_at, Desks.with_doing, Desks.is_quiet_doing, Undoing.keys_if}
-use Rattle.desks.specs.Holding.{IsHeld, RowsHeld, SearchHeld, AreFew, IsLastOf}
 use Rattle.law_held_steps.proofs.{Desks.given, Desks.started_still, Desks.changes_at_a_desk, AnyStep.each, Putting.rows_mine}
-use Rattle.law_held_steps.proofs.Keeping.{open_work, open_joined, goes_same, goes_changed, leaves_lists, last_of_kept, keeps}
-use Rattle.law_found_rows.proofs.FittingChanges.{tables_storable}
 use Rattle.row_versions.specs.{declared.place.Place.Place, declared.version.Version.Version, Chains.Chains, Chains.versions_at, Chains.is_same_place}
 use Rattle.row_versions.specs.{Chains.Pushes}
 use Rattle.law_logged_changes.specs.{GoingOn.KeepsBeside, GoingOn.StaysAgreed, GoingOn.EntersAgreed, GoingOn.EndsAgreed, Logs.LogsAgree}
 use Rattle.law_logged_changes.proofs.{Entering.goes_on, Entering.place_there, Logging.change_logged, Crossing.row_all}
-use Rattle.law_world_agreement.specs.Agreement.{Agrees}
-use Rattle.law_logged_changes.proofs.Listed.{begun as begun_row}
 
 some_there : (found : Option Schema) (P : Schema → Type 0) → IsSomeAnd found P → (schema : Schema) × (found ≡ Some schema) × P schema
 some_there None P fits = absurd fits
@@ -253,19 +253,9 @@ module _ {s : ℕ} {desks : List Desk} {cuts : ℕ} {undo : UndoRoom} {room : Wo
       let given = goes_on s held.chains old new (Keys change) (Hindered same why) held.agrees rows.0 c told few in
       let a : StaysAgreed s held.chains old new same = given.1 in
       let p : IsChangingRow s held.chains new (Keys change) = subst (IsChangingRow s held.chains new) c.0 a.changing in
-      let last = last_of_kept held a.beside change a.past refl refl rows.2 in
-      still (Keys change) (Hindered same why) a.beside rows.0 c a.past a.agrees refl (
-        record {
-          change = change;
-          changing = p;
-          logged = last.logged;
-          place = last.place;
-          last = last.last;
-          table_is = last.table_is;
-          key_is = last.key_is;
-        },
-        rows.1,
-      ) (record { past = a.past; rows = a.rows }, c.0)
+      still (Keys change) (Hindered same why) a.beside rows.0 c a.past a.agrees refl
+      (record { change = change; changing = p; newest = last_of_kept held a.beside change a.past refl refl rows.2 }, rows.1)
+      (record { past = a.past; rows = a.rows }, c.0)
 
 pub change_made : {s : ℕ} {desks : List Desk} {cuts : ℕ} {undo : UndoRoom} {room : WorkRoom} {old new : WorldState} {change : RowChange}
     {reached : Reached RowChange} → IsHeld old (Some s) desks cuts undo room → doing_at s desks ≡ Changing change

@@ -1,18 +1,18 @@
 -- A step of a search that goes on leaves less before it.
 use Rattle.std.proofs.Common.{⊎_elim, ◌≡◌, ◌⊎◌, inl, inr, ℕ, ◌+◌, ◌*◌, ◌^◌, ◌<◌, ◌≤◌, List, [], ◌∷◌, length, Option, refl, ap, subst, ◌∙◌, arith}
 use Rattle.std.specs.Prelude.{IsTrue}
-use Rattle.inno_types.specs.{declared.value.Value.Value, declared.value.Schema.Schema, Order.IsBelow}
 use Rattle.entries.specs.Pairs.{Pair}
-use Rattle.row_versions.specs.{declared.kept.Kept.Kept, declared.version.Version.Version}
 use Rattle.law_stored_rows.specs.Records.{LeadTo}
+use Rattle.row_search.specs.declared.phase.Phase.TheVariants.{Seek, Follow, Fetch, Look, Walk, Keep, Sort, Leave}
+use Rattle.row_search.specs.Searches.{place_in, pairs_behind, PhaseHolds, IsSearching, Finds, HasToGo}
+use Rattle.law_held_steps.specs.Newest.{left_in}
+use Rattle.inno_types.specs.{declared.value.Value.Value, declared.value.Schema.Schema, Order.IsBelow}
+use Rattle.row_versions.specs.{declared.kept.Kept.Kept, declared.version.Version.Version}
 use Rattle.world.specs.{State.WorldState, State.index_of, Told.IsTold, Told.pairs_in, Told.pairs_of}
 use Rattle.row_search.specs.{declared.scan.Scan.Scan, declared.phase.Phase.Phase, declared.search.RowSearch.RowSearch, Ranges.primary_part, Steps.GoesOn}
 use Rattle.row_search.specs.{Tables.most_versions, Tables.ShowsRows, Visits.phase_anew}
-use Rattle.row_search.specs.declared.phase.Phase.TheVariants.{Seek, Follow, Fetch, Look, Walk, Keep, Sort, Leave}
-use Rattle.row_search.specs.Searches.{place_in, pairs_behind, PhaseHolds, IsSearching, Finds, HasToGo}
 use Rattle.desks.specs.{Searching.keys_left, Searching.visit_left}
 use Rattle.desks.proofs.{Counting.versions_most, Counting.versions_are, Counting.as_many, Showing.same_pairs}
-use Rattle.law_held_steps.specs.Newest.{left_in}
 
 -- at a key
 record IsAtKey (n : List ℕ) (keys visit : ℕ) : Type 0 where

@@ -2,19 +2,19 @@
 use Rattle.std.proofs.Common.{◌≡◌, ◌≢◌, ◌⊎◌, ⊎_elim, ℕ, Bool, true, false, List, Option, Some, None, refl, sym, ap, subst, ◌∙◌}
 use Rattle.std.specs.Prelude.{◌==◌, if◌then◌else◌}
 use Rattle.std.proofs.lemmas.Bool.Decides.{eqb_tells}
-use Rattle.entries.specs.{Pairs.Pair, Index.AreKept, Calls.Leaves, Calls.released}
 use Rattle.row_versions.specs.Versions.{Versions, Stays}
 use Rattle.row_changes.proofs.Sessions.{same_pairs, same_versions}
-use Rattle.world.specs.{State.WorldState, Told.IsTold, Told.LeavesRows, Indexes.Calls, Undoing.IsUnchanged, declared.undo_room.UndoRoom.UndoRoom}
 use Rattle.world.proofs.Stores.{store_stays, store_goes_on}
 use Rattle.row_search.specs.Steps.{OnlyMoves}
-use Rattle.law_logged_changes.proofs.{ReadersLeft.left_told, Leaving.rows_leave, Leaving.all_left, GoingOn.logs_beside, GoingOn.work_beside}
-use Rattle.law_held_steps.specs.{Moving.MovesPlaces, Begun.ViewsHaveNext}
 use Rattle.law_held_steps.proofs.AnyStep.{each, quiet_step, others_beside, held_beside}
 use Rattle.undo_apply.specs.declared.work_room.WorkRoom.{WorkRoom}
+use Rattle.law_held_steps.proofs.Desks.{desk_elsewhere, started_still, doing_mine, as_many, doing_stays}
+use Rattle.entries.specs.{Pairs.Pair, Index.AreKept, Calls.Leaves, Calls.released}
+use Rattle.world.specs.{State.WorldState, Told.IsTold, Told.LeavesRows, Indexes.Calls, Undoing.IsUnchanged, declared.undo_room.UndoRoom.UndoRoom}
+use Rattle.law_logged_changes.proofs.{ReadersLeft.left_told, Leaving.rows_leave, Leaving.all_left, GoingOn.logs_beside}
+use Rattle.law_held_steps.specs.{Moving.MovesPlaces}
 use Rattle.desks.specs.{declared.desk.Desk.Desk, declared.desk.Doing.Doing, declared.desk.Doing.TheVariants.Nothing, Desks.doing_at, Desks.with_doing}
 use Rattle.desks.specs.{Desks.is_quiet_doing, Holding.SearchHeld, Holding.IsHeld}
-use Rattle.law_held_steps.proofs.Desks.{desk_elsewhere, started_still, doing_mine, as_many, doing_stays}
 
 kept_same : {old new : Option (List Pair)} → new ≡ old → AreKept old new
 kept_same {old} same = subst (AreKept old) (sym same) (same_pairs old)
@@ -113,9 +113,6 @@ module _ {s : ℕ} {old new : WorldState} (moves : MovesPlaces s old new) where
       search) (λ none. subst (SearchHeld held.chains new writer cuts s) (sym none) (record {})) (doing_mine s doing desks)) (quiet_step (with_doing s doing
       desks) held others rows (λ u. desk_elsewhere s u doing desks) (λ u differs might. might) was quiet) (all_left old new (rows_leave old new rows)
       (logs_beside old new moves.rest) held.logs) held.whole
-
-  pub views_stay : ViewsHaveNext old → ViewsHaveNext new
-  views_stay views u session work seen has = views u session work seen (work_beside u session work old new moves.rest has)
 
 pub held_idle : {s : ℕ} {old new : WorldState} {writer : Option ℕ} {desks : List Desk} {cuts : ℕ} {undo : UndoRoom} {room : WorkRoom} → IsHeld old writer desks
     cuts undo room → doing_at s desks ≡ Nothing → MovesPlaces s old new → IsTold new → IsHeld new writer desks cuts undo room

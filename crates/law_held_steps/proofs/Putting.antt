@@ -3,14 +3,24 @@
 use Rattle.std.proofs.Common.{[], ◌≡◌, ◌≤◌, true, false, List, ◌∷◌, length, Some, refl, sym, ap, subst, arith, ℕ, Option, None, ◌≢◌, ⊎_elim, ◌∙◌, slice_get}
 use Rattle.std.proofs.Common.{Bool, ◌+◌, ◌*◌, ◌^◌, ◌<◌, inl, inr, ◌⊎◌}
 use Rattle.std.proofs.lemmas.Bool.{cases_eq}
+use Rattle.inno_types.specs.declared.value.Schema.{Schema}
+use Rattle.world.specs.State.{WorldState, Logged, Session, Work, HasWork}
+use Rattle.world.specs.Undoing.{read_into, ReadsLast, newest, IsRead}
+use Rattle.law_world_agreement.specs.Agreement.{Agrees}
+use Rattle.desks.specs.Holding.{RowsHeld, RowsHeldBy, IsLast, SearchHeld, IsHeld, IsGoingBack}
+use Rattle.law_logged_changes.proofs.GoingOn.{own_beside, agrees_beside, step_all, step_beside, logs_beside}
+use Rattle.law_held_steps.proofs.AnyStep.{some_same, last_left, held_beside, rows_left, last_log}
+use Rattle.undo_apply.specs.Stages.{Stops, StopsAt, IsPuttingBack, GoesOn, IsHindered, IsDone, PutsBack, StageHolds, WalksOn}
+use Rattle.world.proofs.Memory.{no_pages}
+use Rattle.law_stored_rows.specs.Records.{LeadTo}
+use Rattle.desks.proofs.Counting.{versions_most, versions_are}
+use Rattle.law_held_steps.specs.Undoing.{HasPutBack, HasLast, IsReady}
+use Rattle.row_changes.specs.Awaited.{IsAwaitedAlone}
+use Rattle.std.specs.Prelude.{is_some}
 use Rattle.row_versions.specs.{declared.place.Place.Place, declared.version.Version.Version, declared.kept.Kept.Kept, Versions.Stays, Chains.Chains}
 use Rattle.row_versions.specs.{Chains.older, Chains.versions_at}
-use Rattle.inno_types.specs.declared.value.Schema.{Schema}
 use Rattle.law_past_agreement.specs.{Agreement.WriterAgrees, Order.IsOfRow, Order.IsUndoable, Order.MayCome}
-use Rattle.world.specs.State.{WorldState, Logged, Session, Work, HasWork}
-use Rattle.world.specs.Undoing.{read_into, ReadsLast, CutsBack, newest, IsRead}
 use Rattle.world.specs.{Told.IsTold, Told.TellsTogether, Told.LeavesRows, declared.undo_room.UndoRoom.UndoRoom, Memory.IsInMemory}
-use Rattle.law_world_agreement.specs.Agreement.{Agrees}
 use Rattle.law_logged_changes.specs.{Logs.IsAlone, Logs.LogsAgree, Logs.IsLogOf, Steps.ChangesPairsAlone}
 use Rattle.store_api.specs.{declared.answers.Undo.Undo, declared.moves.Move.Move, declared.moves.Move.TheVariants.Done, declared.moves.Move.TheVariants.Step}
 use Rattle.undo_apply.specs.{declared.work_room.Stage.Stage, Rooms.IsWhole, Rooms.steps_left, declared.work_room.WorkRoom.WorkRoom}
@@ -19,20 +29,10 @@ use Rattle.undo_apply.specs.{Standing.HasWalked}
 use Rattle.desks.specs.{Undoing.left_at, Undoing.keys_if, Undoing.undo_left_in, Undoing.most_versions, declared.desk.Desk.Desk, declared.desk.Doing.Doing}
 use Rattle.desks.specs.{Desks.doing_at, Desks.is_quiet_doing, Desks.with_doing, declared.desk.Doing.TheVariants.Undoing}
 use Rattle.desks.specs.{declared.desk.Doing.TheVariants.Nothing, declared.desk.Doing.TheVariants.Lagging}
-use Rattle.desks.specs.Holding.{RowsHeld, RowsHeldBy, IsLast, SearchHeld, IsHeld, IsGoingBack}
-use Rattle.law_logged_changes.proofs.GoingOn.{own_beside, agrees_beside, step_all, step_beside, logs_beside}
-use Rattle.law_held_steps.proofs.AnyStep.{some_same, last_left, held_beside, rows_left, last_log}
 use Rattle.law_held_steps.proofs.{Desks.GivesDoing, Desks.kept_on, Desks.given, Keeping.open_work}
 use Rattle.law_logged_changes.proofs.{Leaving.rows_leave, Leaving.all_left, Beginning.tells_of_it, Beginning.begins_settled, Beginning.begins_lagging}
 use Rattle.inno_db.specs.{declared.change.Change.Change, declared.change.Change.TheVariants.Create}
-use Rattle.undo_apply.specs.Stages.{Stops, StopsAt, IsPuttingBack, GoesOn, IsHindered, IsDone, PutsBack, StageHolds, WalksOn}
-use Rattle.world.proofs.Memory.{no_pages, not_delayed}
-use Rattle.law_stored_rows.specs.Records.{LeadTo}
-use Rattle.desks.proofs.Counting.{versions_most, versions_are}
-use Rattle.law_held_steps.specs.Undoing.{HasPutBack, HasLast, IsReady}
-use Rattle.row_changes.specs.Awaited.{IsAwaitedAlone}
 use Rattle.undo_apply.proofs.{Hindrances.never_hindered, Telling.leaves_told, Columns.few_keys}
-use Rattle.std.specs.Prelude.{is_some}
 use Rattle.inno_model.specs.{declared.event.Event.Event, declared.event.Event.TheVariants.Undone, Past.own}
 
 -- nobody else has changes
@@ -91,17 +91,6 @@ module _ (s : ℕ) {old : WorldState} {writer : Option ℕ} {desks : List Desk} 
       held_beside s held leaves.rest leaves.versions told tells (λ t index differs. ap (λ (place : ℕ → Option _). place t) (leaves.places index)) now
       gives.others gives.started gives.count (λ other. absurd (other mine)) (subst (SearchHeld held.chains new writer cuts s) (sym gives.here) search)
       (rows_by_writer s held.chains new now (read_into other) next mine gives.here rows) logs whole
-
--- the newest record of a log is read at once
-pub read_at_once : (actor slot : ℕ) (read : Undo) (there : Bool) (old new : WorldState) (answer : Move) → IsInMemory old
-    → ReadsLast actor slot read there old new answer → answer ≡ Done
-read_at_once actor slot read there old new Done memory reads = refl
-read_at_once actor slot read there old new answer memory reads = absurd (not_delayed actor old new answer memory reads)
-
--- and taken away at once
-pub cut_at_once : (actor slot : ℕ) (old new : WorldState) (answer : Move) → IsInMemory old → CutsBack actor slot old new answer → answer ≡ Done
-cut_at_once actor slot old new Done memory cuts = refl
-cut_at_once actor slot old new answer memory cuts = absurd (not_delayed actor old new answer memory cuts)
 
 -- a step that was hindered doesn't answer that it went on
 module _ (actor : ℕ) (old new : WorldState) (memory : IsInMemory old) where
@@ -244,11 +233,11 @@ module _ (chains : Chains) (state : WorldState) (s : ℕ) (room : WorkRoom) (rea
       let putting = begins_settled chains state logged last.log last.change last.before place room log last.place_is rows.0 whole rows.1 in
       (going_if logged place last putting, rows.1)
   begin_from undo Lagging is rows has =
-      let lag = rows.0 in
+      let lag = rows.0.newest in
       let last = lag.last in
       let log = last_log agree last in
       let tells = tells_of_it chains state lag.logged last.log last.change last.before lag.place room log last.place_is in
-      let putting = begins_lagging chains state lag.logged last.log last.change last.before lag.place room log last.place_is lag.change lag.changing
+      let putting = begins_lagging chains state lag.logged last.log last.change last.before lag.place room log last.place_is rows.0.change rows.0.changing
       (sym lag.table_is ∙ tells.table_is) (sym lag.key_is) whole rows.1 in
       (going_if lag.logged lag.place last putting, rows.1)
   begin_from undo other is rows last = absurd is
@@ -348,12 +337,6 @@ module _ (s : ℕ) {old : WorldState} {writer : Option ℕ} {desks : List Desk} 
               undo_is = going.undo_is;
               putting = stays.putting;
             }) (step_all held.chains going.place s (read_into undo) room next old new answer answers not_done held.logs) (record {}) stays.putting.whole
-
-        pub same_left : answer ≢ Step → IsInMemory new → undo_left_in undo.table next.stage new ≡ undo_left_in undo.table room.stage old
-        same_left not_step later =
-            let is = hindered_by held.chains going.place s (read_into undo) room next old new answer not_done not_step answers in
-            ap (λ (stage : Stage). undo_left_in undo.table stage new) is.stage_is
-            ∙ left_same undo.table room.stage old new (ap (λ (x : WorldState). x.schemas) is.stays.rest) (is.stays.versions.kept later.told.versions)
 
     module _ (new : WorldState) (next : WorkRoom) (put : HasPutBack s (read_into undo) room next old new Step) (memory : IsInMemory old)
         (later : IsInMemory new) where

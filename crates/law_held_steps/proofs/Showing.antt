@@ -4,34 +4,34 @@ use Rattle.std.proofs.Common.{None, arith}
 use Rattle.std.proofs.lemmas.List.{length-set, map-set, set-get_or}
 use Rattle.std.proofs.lemmas.Bool.{true≢false}
 use Rattle.std.specs.Prelude.{slice_get, slice_set, slice_index_or}
-use Rattle.law_held_steps.specs.{SeenEntries.settings_of, Begun.IsBegun, Moving.MovesPlaces, TakenUp.IsSearchOf, Beginning.begun, Leaving.LeavesIndexes}
-use Rattle.law_held_steps.specs.{Leaving.is_searching}
 use Rattle.law_held_steps.specs.Making.{given_up, LeavesLists, AddsNothing, IsNearer, IsEntered}
-use Rattle.law_held_steps.proofs.{Putting.left_same, Keeping.same_settings, AnyStep.some_same, AnyStep.each, Places.none_moves}
 use Rattle.law_held_steps.proofs.Desks.{doing_here, doing_elsewhere, busy_at_a_desk, GivesDoing, given, changes_at_a_desk}
 use Rattle.inno_types.specs.declared.value.Schema.{Schema}
-use Rattle.inno_model.specs.{declared.event.Event.Event}
 use Rattle.row_versions.specs.Versions.{Versions}
 use Rattle.sql_history.specs.Settings.{Setting, at_first}
-use Rattle.world.specs.{State.WorldState, State.Session, Told.IsTold, declared.undo_room.UndoRoom.UndoRoom}
-use Rattle.undo_apply.specs.{declared.work_room.Stage.Stage, declared.work_room.WorkRoom.WorkRoom}
-use Rattle.shared_lists.specs.{State.task_of, State.IsNow, State.Turns, State.Lists, declared.answers.Reading.Reading, Steps.Changes, Steps.rows_of_change}
-use Rattle.shared_lists.specs.{Steps.rows_entered}
 use Rattle.shared_lists.specs.Tasks.{Task, is_changing, asked, steps_left, left_by}
-use Rattle.desks.specs.{declared.desk.Desk.Desk, declared.desk.Doing.TheVariants.Nothing, declared.desk.Doing.TheVariants.Searching}
-use Rattle.desks.specs.{declared.desk.Doing.TheVariants.Changing, Desks.doing_at, Desks.with_doing, Desks.is_quiet_doing, Undoing.undo_left_in}
-use Rattle.desks.specs.{Undoing.keys_if, declared.desk.Doing.Doing, declared.desk.TableSearch.TableSearch, Holding.IsHeld}
 use Rattle.desks.specs.Shown.{shown, seen_of, lists_of, reading_of, change_in}
 use Rattle.desks.proofs.Showing.{task_is, idle_shown, lists_stay}
 use Rattle.law_world_agreement.proofs.Opening.{set_here, set_other}
 use Rattle.sql_plan.specs.declared.choice.Plan.{Plan}
-use Rattle.row_search.specs.{declared.sight.Sight.Sight, declared.search.RowSearch.RowSearch, Steps.IsSameScan}
 use Rattle.law_stored_rows.specs.Storable.{IsStorable}
-use Rattle.row_changes.specs.{declared.row_edit.RowEdit.RowEdit, declared.row_change.RowChange.RowChange, declared.row_change.RowChange.TheVariants.Record}
-use Rattle.row_changes.specs.{declared.row_change.RowChange.TheVariants.Keys, Edits.change_of, Rows.row_steps, Rows.table_of}
 use Rattle.law_found_rows.proofs.FittingChanges.{tables_storable}
 use Rattle.shared_lists.specs.Tasks as tasks
 use Rattle.shared_lists.specs.declared.answers.Changed.TheVariants as answers
+use Rattle.law_held_steps.specs.{SeenEntries.settings_of, Begun.IsBegun, Moving.MovesPlaces, TakenUp.IsSearchOf, Beginning.begun, Leaving.LeavesIndexes}
+use Rattle.law_held_steps.specs.{Leaving.is_searching}
+use Rattle.law_held_steps.proofs.{Putting.left_same, Keeping.same_settings, AnyStep.some_same, AnyStep.each, Places.none_moves}
+use Rattle.inno_model.specs.{declared.event.Event.Event}
+use Rattle.world.specs.{State.WorldState, State.Session, Told.IsTold, declared.undo_room.UndoRoom.UndoRoom}
+use Rattle.undo_apply.specs.{declared.work_room.Stage.Stage, declared.work_room.WorkRoom.WorkRoom}
+use Rattle.shared_lists.specs.{State.task_of, State.IsNow, State.Turns, State.Lists, declared.answers.Reading.Reading, Steps.Changes, Steps.rows_of_change}
+use Rattle.shared_lists.specs.{Steps.rows_entered}
+use Rattle.desks.specs.{declared.desk.Desk.Desk, declared.desk.Doing.TheVariants.Nothing, declared.desk.Doing.TheVariants.Searching}
+use Rattle.desks.specs.{declared.desk.Doing.TheVariants.Changing, Desks.doing_at, Desks.with_doing, Desks.is_quiet_doing, Undoing.undo_left_in}
+use Rattle.desks.specs.{Undoing.keys_if, declared.desk.Doing.Doing, declared.desk.TableSearch.TableSearch, Holding.IsHeld}
+use Rattle.row_search.specs.{declared.sight.Sight.Sight, declared.search.RowSearch.RowSearch, Steps.IsSameScan}
+use Rattle.row_changes.specs.{declared.row_edit.RowEdit.RowEdit, declared.row_change.RowChange.RowChange, declared.row_change.RowChange.TheVariants.Record}
+use Rattle.row_changes.specs.{declared.row_change.RowChange.TheVariants.Keys, Edits.change_of, Rows.row_steps, Rows.table_of}
 
 pub rests_of : (s table : ℕ) (stage : Stage) (state : WorldState) (writer : Option ℕ) (desks : List Desk)
     → task_of s (seen_of table stage state writer desks).state ≡ tasks.Idle → doing_at s desks ≡ Nothing
@@ -104,10 +104,6 @@ module _ {s : ℕ} (left : ℕ) {old new : WorldState} (writer : Option ℕ) (de
       task_is = task_now s doing (doing_here s doing desks within);
       others = λ u differs. task_now u (doing_at u desks) (doing_elsewhere s u doing desks differs) ∙ sym (task_is u left old writer desks);
     }
-
-    pub rest_stays : ((lists_of new writer (with_doing s doing desks) left).settings ≡ (lists_of old writer desks left).settings) ×
-        ((lists_of new writer (with_doing s doing desks) left).rows ≡ (lists_of old writer desks left).rows)
-    rest_stays = (ap (λ (state : WorldState). (lists_of state writer desks left).settings) moves.rest, ap (λ (state : WorldState). state.rows) moves.rest)
 
 -- with what is left of a change that is being taken back
 pub seen_stay : {s : ℕ} (table : ℕ) (stage : Stage) {old new : WorldState} (writer : Option ℕ) (desks : List Desk) → MovesPlaces s old new → IsTold new

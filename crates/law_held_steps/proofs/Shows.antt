@@ -9,21 +9,27 @@ use Rattle.std.specs.List.{list_any}
 use Rattle.inno_db.specs.declared.change.Change.{Change}
 use Rattle.inno_model.specs.Past.{own, IsOpen}
 use Rattle.read_view.specs.Sight.{is_seen}
-use Rattle.row_versions.specs.{declared.place.Place.Place, declared.version.Version.Version, Chains.Chains, Chains.versions_at, Chains.sees}
-use Rattle.row_versions.specs.{Chains.is_same_place}
 use Rattle.law_stored_rows.proofs.Values.{place_itself, same_place, one_key}
-use Rattle.law_past_agreement.specs.{Ids.id_of, Rows.is_at, Rows.is_place, Rows.row_of, Rows.row_opened, Agreement.AreVersionsBy, Agreement.ViewAgrees}
-use Rattle.law_past_agreement.specs.{Agreement.versions_of}
 use Rattle.law_past_agreement.proofs.Ids.{AreIds, ids_of}
-use Rattle.world.specs.{State.WorldState, State.Logged, Told.IsTold, Told.pairs_of}
 use Rattle.law_world_agreement.specs.Agreement.{sight_of, Agrees}
 use Rattle.law_world_agreement.proofs.Ending.{work_of}
 use Rattle.desks.specs.Holding.{IsLast, IsOwnView, IsLastOf, RowsHeld, RowsHeldBy, SightHolds}
-use Rattle.desks.specs.{declared.desk.Desk.Desk, declared.desk.Doing.Doing, Desks.doing_at, Desks.is_quiet_doing, Desks.is_quiet}
 use Rattle.desks.specs.declared.desk.Doing.TheVariants.{Nothing, Searching, Changing, Lagging, Undoing}
-use Rattle.inno_types.specs.{declared.value.Value.Value, declared.value.Column.Column, declared.value.Schema.Schema}
 use Rattle.key_codec.specs.Keys.{HasKey, key_code}
 use Rattle.law_stored_rows.specs.Tables.{Said, HasItsColumns, AreCodedAs, LagAt, in_table, what_is_there, AreCoded}
+use Rattle.law_held_steps.proofs.AnyStep.{some_same, last_log, quiet_rows}
+use Rattle.law_found_rows.proofs.Showing.{shows_coded, shows_lagging}
+use Rattle.store_api.specs.declared.answers.Undo.{Undo}
+use Rattle.read_view.specs.Sight.{Sight as ReadSight}
+use Rattle.law_logged_changes.specs.EntriesLag.{LagsAt as EntriesLagAt}
+use Rattle.inno_db.specs.declared.change.Change.TheVariants as changes
+use Rattle.row_versions.specs.{declared.place.Place.Place, declared.version.Version.Version, Chains.Chains, Chains.versions_at, Chains.sees}
+use Rattle.row_versions.specs.{Chains.is_same_place}
+use Rattle.law_past_agreement.specs.{Ids.id_of, Rows.is_at, Rows.is_place, Rows.row_of, Rows.row_opened, Agreement.AreVersionsBy, Agreement.ViewAgrees}
+use Rattle.law_past_agreement.specs.{Agreement.versions_of}
+use Rattle.world.specs.{State.WorldState, State.Logged, Told.IsTold, Told.pairs_of}
+use Rattle.desks.specs.{declared.desk.Desk.Desk, declared.desk.Doing.Doing, Desks.doing_at, Desks.is_quiet_doing, Desks.is_quiet}
+use Rattle.inno_types.specs.{declared.value.Value.Value, declared.value.Column.Column, declared.value.Schema.Schema}
 use Rattle.row_changes.specs.{declared.keys_change.KeysChange.KeysChange, Keys.IsChangingKeys, declared.row_change.RowChange.TheVariants.Record}
 use Rattle.row_changes.specs.{declared.row_change.RowChange.TheVariants.Keys, Told.AreRowsAs}
 use Rattle.law_logged_changes.proofs.{Readable.lags, Lags.lags_while, Logs.newest_stands}
@@ -31,12 +37,6 @@ use Rattle.undo_apply.specs.{Standing.TellsOf, declared.work_room.WorkRoom.WorkR
 use Rattle.law_logged_changes.specs.{Logs.records_of, Logs.Stands, Logs.LogsAgree, Lagging.LagsAt}
 use Rattle.row_search.specs.{declared.scan.Scan.Scan, Sights.sees_by, Tables.ShowsRows, declared.sight.Sight.Sight, declared.sight.Sight.TheVariants.View}
 use Rattle.row_search.specs.{declared.sight.Sight.TheVariants.Newest}
-use Rattle.law_held_steps.proofs.AnyStep.{some_same, last_log, quiet_rows}
-use Rattle.law_found_rows.proofs.Showing.{shows_coded, shows_lagging}
-use Rattle.store_api.specs.declared.answers.Undo.{Undo}
-use Rattle.read_view.specs.Sight.{Sight as ReadSight}
-use Rattle.law_logged_changes.specs.EntriesLag.{LagsAt as EntriesLagAt}
-use Rattle.inno_db.specs.declared.change.Change.TheVariants as changes
 
 -- ---- the newest version of a place that an open transaction has changed is its own, and no other reader sees it by a view
 
@@ -240,9 +240,7 @@ module _ {chains : Chains} {writer : Option ℕ} {state : WorldState} (agrees : 
   shows_other undo room (Searching on) holds rows = shows_coded schema scan state chains told there columns le (rows.0 told)
   shows_other undo room (Changing (Record change key after)) holds rows = shows_coded schema scan state chains told there columns le (rows.0.1 told)
   shows_other undo room (Changing (Keys change)) holds rows = shows_keys rows.0 holds rows.2
-  shows_other undo room Lagging holds rows =
-      shows_keys rows.0.changing holds
-      (record { logged = rows.0.logged; place = rows.0.place; last = rows.0.last; table_is = rows.0.table_is; key_is = rows.0.key_is })
+  shows_other undo room Lagging holds rows = shows_keys rows.0.changing holds rows.0.newest
   shows_other undo room Undoing holds rows = shows_back rows.last holds (lags_while chains rows.place undo room state rows.putting told)
 
 module _ {chains : Chains} {state : WorldState} (logs : LogsAgree state) (told : IsTold state) (s : ℕ) (desks : List Desk)

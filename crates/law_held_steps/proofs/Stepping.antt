@@ -2,41 +2,41 @@
 use Rattle.std.proofs.Common.{◌≡◌, ◌≢◌, ℕ, ◌<◌, Bool, true, List, Option, Some, None, refl, sym, ap, subst, ◌∙◌, length, slice_get, arith, eq-eqb, inl, inr}
 use Rattle.std.proofs.Common.{◌≤◌, false, map}
 use Rattle.std.specs.Prelude.{is_some, option_map, ◌==◌, ◌-◌, filter}
-use Rattle.inno_types.specs.{declared.value.Schema.Schema, Order.IsBelow}
 use Rattle.inno_model.specs.Past.{view_of, IsOpen, commits, changed}
 use Rattle.sql_plan.specs.declared.choice.Plan.{Plan}
-use Rattle.row_versions.specs.{Chains.Chains, Chains.versions_at, declared.place.Place.Place}
 use Rattle.law_stored_rows.specs.Tables.{HasItsColumns, in_table}
-use Rattle.law_past_agreement.specs.{Agreement.ViewAgrees, Rows.seen, DatabaseTables.with_all_tables}
 use Rattle.world.specs.State.{WorldState, Session, Work, Seen, HasWork, id_of, standing_of, index_of}
-use Rattle.world.specs.{Sessions.IsShown, Told.IsTold, Told.pairs_of, Undoing.read_into, declared.undo_room.UndoRoom.UndoRoom, Indexes.Calls}
 use Rattle.law_world_agreement.specs.Agreement.{sight_of, Agrees}
 use Rattle.undo_apply.specs.declared.work_room.WorkRoom.{WorkRoom}
-use Rattle.row_search.specs.{declared.sight.Sight.Sight, declared.scan.Scan.Scan, declared.search.RowSearch.RowSearch, Searches.BeginsWithNothing}
-use Rattle.row_search.specs.{Searches.MayBegin, Searches.IsSearching, Searches.place_in, declared.found.FoundRow.FoundRow}
-use Rattle.row_search.specs.{declared.sight.Sight.TheVariants.View, declared.sight.Sight.TheVariants.Newest, FoundRows.AreFound, FoundRows.RiseByKey}
-use Rattle.row_search.specs.{Ranges.lies_in, Sights.rows_seen, Steps.IsSameScan, Steps.GoesOn, Steps.Waits, Steps.Ends, Tables.most_versions}
-use Rattle.row_search.specs.{Tables.ShowsRows}
 use Rattle.law_found_rows.specs.Finding.{IsFinding, IsFindingAnew}
-use Rattle.law_found_rows.proofs.{Finding.begins, Finding.may_come_anew, Finding.goes_on, Showing.holds_table, Databases.found_by_view}
-use Rattle.law_found_rows.proofs.{Databases.found_newest}
-use Rattle.desks.specs.{declared.desk.Desk.Desk, declared.desk.Doing.TheVariants.Nothing, declared.desk.Doing.TheVariants.Searching}
-use Rattle.desks.specs.{declared.desk.TableSearch.TableSearch, Desks.doing_at, Desks.with_doing, Desks.is_quiet_doing, Searching.keys_left}
-use Rattle.desks.specs.{Searching.places_in, Shown.reading_of}
 use Rattle.desks.specs.Holding.{SightHolds, FindsSince, IsSearchHeld, IsOwnView, IsHeld, SearchHeld}
-use Rattle.law_held_steps.specs.{Begun.IsNewSearch, Begun.IsBegun, Begun.HasView, Begun.ViewsHaveNext, Moving.MovesPlaces, TakenUp.IsTakenUp, TakenUp.MayStep}
-use Rattle.law_held_steps.specs.{TakenUp.plan_of}
 use Rattle.law_held_steps.proofs.Places.{none_moves, held_stays, moves_then, moves_in_one, moves_nothing, leaving_moves, moves_leave, moves_told}
-use Rattle.law_held_steps.proofs.{Shows.HasSome, Shows.some_rows_by, Shows.columns_of, Shows.shows_held, Keeping.open_work, AnyStep.some_same}
-use Rattle.law_held_steps.proofs.{Putting.alone_if}
 use Rattle.law_held_steps.proofs.Nearing.{IsLess, keys_before, visit_before, keys_anew, steps_nearer, still_nearer, anew_nearer}
 use Rattle.law_world_agreement.proofs.Ending.{work_of}
 use Rattle.inno_db.specs.Database.{rows_of}
 use Rattle.store_api.specs.declared.moves.Move.{Move}
 use Rattle.entries.specs.Calls.{Leaves}
 use Rattle.law_logged_changes.proofs.ReadersLeft.{rows_left}
-use Rattle.shared_lists.specs.{State.counted, Steps.AreRowsSeen, Steps.AreFoundBy, Steps.rows_in_range}
 use Rattle.read_view.specs.Sight.{Sight as ReadSight}
+use Rattle.inno_types.specs.{declared.value.Schema.Schema, Order.IsBelow}
+use Rattle.row_versions.specs.{Chains.Chains, Chains.versions_at, declared.place.Place.Place}
+use Rattle.law_past_agreement.specs.{Agreement.ViewAgrees, Rows.seen, DatabaseTables.with_all_tables}
+use Rattle.world.specs.{Sessions.IsShown, Told.IsTold, Told.pairs_of, Undoing.read_into, declared.undo_room.UndoRoom.UndoRoom, Indexes.Calls}
+use Rattle.row_search.specs.{declared.sight.Sight.Sight, declared.scan.Scan.Scan, declared.search.RowSearch.RowSearch, Searches.BeginsWithNothing}
+use Rattle.row_search.specs.{Searches.MayBegin, Searches.IsSearching, Searches.place_in, declared.found.FoundRow.FoundRow}
+use Rattle.row_search.specs.{declared.sight.Sight.TheVariants.View, declared.sight.Sight.TheVariants.Newest, FoundRows.AreFound, FoundRows.RiseByKey}
+use Rattle.row_search.specs.{Ranges.lies_in, Sights.rows_seen, Steps.IsSameScan, Steps.GoesOn, Steps.Waits, Steps.Ends, Tables.most_versions}
+use Rattle.row_search.specs.{Tables.ShowsRows}
+use Rattle.law_found_rows.proofs.{Finding.begins, Finding.may_come_anew, Finding.goes_on, Showing.holds_table, Databases.found_by_view}
+use Rattle.law_found_rows.proofs.{Databases.found_newest}
+use Rattle.desks.specs.{declared.desk.Desk.Desk, declared.desk.Doing.TheVariants.Nothing, declared.desk.Doing.TheVariants.Searching}
+use Rattle.desks.specs.{declared.desk.TableSearch.TableSearch, Desks.doing_at, Desks.with_doing, Desks.is_quiet_doing, Searching.keys_left}
+use Rattle.desks.specs.{Searching.places_in, Shown.reading_of}
+use Rattle.law_held_steps.specs.{Begun.IsNewSearch, Begun.IsBegun, Begun.HasView, Moving.MovesPlaces, TakenUp.IsTakenUp, TakenUp.MayStep}
+use Rattle.law_held_steps.specs.{TakenUp.plan_of}
+use Rattle.law_held_steps.proofs.{Shows.HasSome, Shows.some_rows_by, Shows.columns_of, Shows.shows_held, Keeping.open_work, AnyStep.some_same}
+use Rattle.law_held_steps.proofs.{Putting.alone_if}
+use Rattle.shared_lists.specs.{State.counted, Steps.AreRowsSeen, Steps.AreFoundBy, Steps.rows_in_range}
 
 pub columns_held : {state : WorldState} {writer : Option ℕ} {desks : List Desk} {cuts : ℕ} {undo : UndoRoom} {room : WorkRoom} (table : ℕ) {schema : Schema}
     → IsHeld state writer desks cuts undo room → IsTold state → slice_get state.schemas table ≡ Some schema → HasItsColumns schema
@@ -114,14 +114,8 @@ module _ {s : ℕ} {state : WorldState} (active : List ℕ) (next : Option ℕ) 
   shown_seen : (active ≡ has.seen.active) × (next ≡ Some has.seen.next)
   shown_seen = subst (λ view. IsShown view active next) has.view_is shown
 
-  pub next_there : next ≢ None
-  next_there none = let some = shown_seen.1 in cc
-
   next_is : (n : ℕ) → next ≡ Some n → n ≡ has.seen.next
   next_is n is = let some = shown_seen.1 in cc
-
-  pub next_some : (n : ℕ) → next ≡ Some n → ViewsHaveNext state → 0 < n
-  next_some n is views = subst (λ (m : ℕ). 0 < m) (sym (next_is n is)) (views s has.session has.work has.seen has.has_work has.view_is)
 
   pub own_view : (n reader : ℕ) → next ≡ Some n → reader ≡ (standing_of has.session).id
       → IsOwnView state s (record { active = active; own = 0; next = n }) reader

@@ -4,32 +4,32 @@ use Rattle.std.proofs.Common.{◌≡◌, ◌≢◌, ℕ, zero, suc, ◌+◌, ◌
 use Rattle.std.proofs.Common.{inl, arith, get_or, ◌≤◌, ◌^◌, ⊎_elim, inr, eq-eqb, ◌⊎◌}
 use Rattle.std.proofs.lemmas.List.{length-append}
 use Rattle.std.specs.Prelude.{slice_get, is_some}
-use Rattle.inno_types.specs.{declared.reply.Item.Item, declared.lock.Level.Level, declared.value.Schema.Schema}
 use Rattle.inno_model.specs.Past.{own, started, under_way, of_item, level, awaits_ack}
 use Rattle.law_past_agreement.specs.Agreement.{owed_by, owed_by_txn, owed_by_item}
 use Rattle.shared_lists.specs.Fitting.{FitsThen}
 use Rattle.world.specs.State.{WorldState, Session, Work, IsSession, HasWork, index_of}
+use Rattle.std.proofs.lemmas.Option.{slice_get_within, get_or_from_slice_get}
+use Rattle.std.proofs.lemmas.Bool.{cases_eq}
+use Rattle.std.proofs.lemmas.Bool.Decides.{nat_tests}
+use Rattle.inno_db.specs.declared.change.Change.TheVariants.{Create}
+use Rattle.inno_model.specs.declared.event.Event.TheVariants.{Changed}
+use Rattle.law_stored_rows.proofs.Made.{a_table_more}
+use Rattle.row_changes.specs.Told.{HasRows}
+use Rattle.law_logged_changes.proofs.Leaving.{more_grow}
+use Rattle.law_held_steps.proofs.AnyStep.{each, waits_not, others_past, past_grows, held_after}
+use Rattle.law_found_rows.specs.Pasts.{AddsAtMostOne}
+use Rattle.inno_types.specs.{declared.reply.Item.Item, declared.lock.Level.Level, declared.value.Schema.Schema}
 use Rattle.world.specs.{Told.IsTold, Told.pairs_in, Told.pairs_of, declared.undo_room.UndoRoom.UndoRoom, EngineCalls.fresh_session, EngineCalls.joined}
 use Rattle.world.specs.{Undoing.read_into}
 use Rattle.undo_apply.specs.{declared.work_room.WorkRoom.WorkRoom, declared.work_room.Stage.TheVariants.Find, Rooms.IsWhole}
 use Rattle.law_world_agreement.proofs.{Joining.first_agrees, Joining.joined_agrees, Changing.created_agrees}
 use Rattle.desks.specs.{declared.desk.Desk.Desk, Desks.fresh_desk, Desks.doing_at, Holding.IsFresh, Holding.IsHeld, Holding.RowsHeld, Holding.SearchHeld}
 use Rattle.desks.specs.{declared.desk.Doing.TheVariants.Nothing, Leaves.LeavesOthers}
-use Rattle.std.proofs.lemmas.Option.{slice_get_within, get_or_from_slice_get}
-use Rattle.std.proofs.lemmas.Bool.{cases_eq}
-use Rattle.std.proofs.lemmas.Bool.Decides.{nat_tests}
-use Rattle.inno_db.specs.declared.change.Change.TheVariants.{Create}
-use Rattle.inno_model.specs.declared.event.Event.TheVariants.{Changed}
 use Rattle.entries.specs.{Pairs.Pair, Pairs.value_of, Index.Index, Lists.empty_index}
 use Rattle.law_stored_rows.specs.{Storable.IsStorable, Storable.IsKeyOn, Edits.clustered_index, Edits.key_index, Tables.HasItsColumns, Tables.HasNoPairs}
 use Rattle.law_stored_rows.specs.{Tables.AreCoded}
-use Rattle.law_stored_rows.proofs.Made.{a_table_more}
-use Rattle.row_changes.specs.Told.{HasRows}
 use Rattle.law_world_agreement.specs.{Steps.IsChangedBy, Agreement.Agrees}
 use Rattle.law_logged_changes.specs.{Logs.LogsAgree, Logs.IsLogOf, Pointers.IsNeededBy, Pointers.Reaches}
-use Rattle.law_logged_changes.proofs.Leaving.{more_grow}
-use Rattle.law_held_steps.proofs.AnyStep.{each, waits_not, others_past, past_grows, held_after}
-use Rattle.law_found_rows.specs.Pasts.{AddsAtMostOne}
 
 behind : (desks : List Desk) → get_or desks (length desks) fresh_desk ≡ fresh_desk
 behind [] = refl

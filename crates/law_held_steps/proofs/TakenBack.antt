@@ -2,21 +2,31 @@
 -- it: the session's own task alone has changed.
 use Rattle.law_held_steps.proofs.Putting.{mine, going, done_leaves, rest_beside, nearer, few_begun, may_write, older_fewer, LeavesAll, alone_if}
 use Rattle.law_held_steps.proofs.Putting.{rows_by_writer}
+use Rattle.std.proofs.Common.{[], ◌≡◌, ◌≤◌, Bool, true, false, cond, List, ◌∷◌, length, Some, refl, sym, ap, subst, arith, ℕ, Option, None, ◌+◌, ◌^◌, ◌<◌}
+use Rattle.std.proofs.Common.{◌≢◌, inl, inr, ◌∙◌, slice_get, ◌⊎◌, ◌-◌, map, eq-eqb}
+use Rattle.std.proofs.lemmas.Bool.Decides.{nat_tests}
+use Rattle.std.proofs.lemmas.List.{length-set, set-set}
+use Rattle.row_versions.specs.Chains.{Chains, versions_at, older, is_same_place, Pops}
+use Rattle.inno_types.specs.declared.value.Schema.{Schema}
+use Rattle.world.specs.State.{WorldState, Session, Work, HasWork, IsSession, standing_of}
+use Rattle.std.specs.Prelude.{is_some, slice_set}
+use Rattle.inno_model.specs.Past.{own, is_of, started, under_way, of_item, awaits_ack}
+use Rattle.inno_model.proofs.Untouched.{untouched}
+use Rattle.entries.specs.Index.{Index}
+use Rattle.law_past_agreement.proofs.Rows.{own_undone}
+use Rattle.row_changes.specs.Told.{HasRows}
+use Rattle.row_changes.proofs.Sessions.{same_pairs, same_versions}
+use Rattle.desks.proofs.Showing.{task_is}
+use Rattle.shared_lists.specs.Tasks as tasks
+use Rattle.shared_lists.specs.declared.answers.Undone.TheVariants as undone
 use Rattle.law_held_steps.proofs.{Desks.GivesDoing, Desks.kept_on, Desks.given, AnyStep.last_log, AnyStep.waits_not, AnyStep.held_after}
 use Rattle.law_held_steps.proofs.{Showing.settings_same, Showing.shows_now}
 use Rattle.law_logged_changes.proofs.{Entering.chain_with, GoingOn.own_beside, GoingOn.work_beside, GoingOn.work_again, Leaving.rows_leave, Leaving.cut_left}
 use Rattle.law_logged_changes.proofs.{Leaving.cut_again, ReadersLeft.has_rows_left, TakenBack.rows_then, TakenBack.to_cut_by_history, Cutting.rows_cut}
 use Rattle.law_logged_changes.proofs.{Cutting.has_cut}
-use Rattle.std.proofs.Common.{[], ◌≡◌, ◌≤◌, Bool, true, false, cond, List, ◌∷◌, length, Some, refl, sym, ap, subst, arith, ℕ, Option, None, ◌+◌, ◌^◌, ◌<◌}
-use Rattle.std.proofs.Common.{◌≢◌, inl, inr, ◌∙◌, slice_get, ◌⊎◌, ◌-◌, map, eq-eqb}
-use Rattle.std.proofs.lemmas.Bool.Decides.{nat_tests}
-use Rattle.std.proofs.lemmas.List.{length-set, set-set}
 use Rattle.row_versions.specs.{declared.place.Place.Place, declared.version.Version.Version}
-use Rattle.row_versions.specs.Chains.{Chains, versions_at, older, is_same_place, Pops}
-use Rattle.inno_types.specs.declared.value.Schema.{Schema}
 use Rattle.inno_db.specs.{declared.change.Change.Change, declared.change.Change.TheVariants.Create}
 use Rattle.law_past_agreement.specs.{Order.IsOfRow, Order.MayCome, Rows.place_in}
-use Rattle.world.specs.State.{WorldState, Session, Work, HasWork, IsSession, standing_of}
 use Rattle.world.specs.{Undoing.ReadsLast, Undoing.read_into, Undoing.IsCutBack, Memory.IsInMemory, declared.undo_room.UndoRoom.UndoRoom, Told.LeavesRows}
 use Rattle.world.specs.{Sessions.undone_added}
 use Rattle.law_world_agreement.specs.{Agreement.Agrees, Steps.IsTakenBackBy}
@@ -27,19 +37,9 @@ use Rattle.desks.specs.{declared.desk.Desk.Desk, declared.desk.Doing.Doing, Desk
 use Rattle.desks.specs.{Holding.IsHeld, Holding.IsGoingBack, declared.desk.Doing.TheVariants.Undoing, declared.desk.Doing.TheVariants.Nothing}
 use Rattle.desks.specs.{declared.desk.Doing.TheVariants.Lagging, Undoing.undo_left_in, Leaves.LeavesOthers, Shown.shown, Shown.lists_of}
 use Rattle.law_held_steps.specs.{Undoing.HasPutBack, Undoing.IsReady, SeenUndoing.lists_held, SeenUndoing.TakesBackIn}
-use Rattle.std.specs.Prelude.{is_some, slice_set}
 use Rattle.inno_model.specs.{declared.event.Event.Event, declared.event.Event.TheVariants.Undone}
-use Rattle.inno_model.specs.Past.{own, is_of, started, under_way, of_item, awaits_ack}
-use Rattle.inno_model.proofs.Untouched.{untouched}
-use Rattle.entries.specs.Index.{Index}
-use Rattle.law_past_agreement.proofs.Rows.{own_undone}
 use Rattle.law_world_agreement.proofs.{Opening.set_here, Opening.set_other, Changing.one_session, Changing.one_work, Entries.taken_back_agrees}
-use Rattle.row_changes.specs.Told.{HasRows}
 use Rattle.shared_lists.specs.{Fitting.FitsThen, Tasks.Task, Tasks.MayTakeBack, Tasks.undo_to_go, State.task_of, State.Turns}
-use Rattle.row_changes.proofs.Sessions.{same_pairs, same_versions}
-use Rattle.desks.proofs.Showing.{task_is}
-use Rattle.shared_lists.specs.Tasks as tasks
-use Rattle.shared_lists.specs.declared.answers.Undone.TheVariants as undone
 
 fewer_if : (b : Bool) (versions : List Version) → length (cond b (older versions) versions) ≤ length versions
 fewer_if true versions = older_fewer versions

@@ -1,5 +1,5 @@
 -- Searches that begin, and the views by which they read.
-use Rattle.std.specs.Prelude.{◌≡◌, ℕ, ◌<◌, Some}
+use Rattle.std.specs.Prelude.{◌≡◌, ℕ, Some}
 use Rattle.inno_types.specs.declared.value.Schema.{Schema}
 use Rattle.sql_plan.specs.declared.choice.Plan.{Plan}
 use Rattle.world.specs.State.{WorldState, Session, Work, Seen, HasWork}
@@ -34,7 +34,3 @@ pub record HasView (s : ℕ) (state : WorldState) : Type 0 where
   pub has_work : HasWork s session work state
   pub seen : Seen
   pub view_is : work.view ≡ Some seen
-
--- Each view was taken when some id was the next one.
-abbrev pub ViewsHaveNext : WorldState → Type 0
-ViewsHaveNext state = (s : ℕ) (session : Session) (work : Work) (seen : Seen) → HasWork s session work state → work.view ≡ Some seen → 0 < seen.next

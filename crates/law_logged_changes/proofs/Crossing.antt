@@ -7,7 +7,7 @@ use Rattle.row_changes.specs.{Keys.StaysBesideKeys, Keys.ChangesKeys, Rows.IsCha
 use Rattle.row_changes.specs.declared.reached.Reached.TheVariants.{Went, Done, Hindered}
 use Rattle.row_changes.specs.declared.row_change.RowChange.TheVariants.{Record, Keys}
 use Rattle.row_changes.proofs.Keying.{beside_stay}
-use Rattle.law_logged_changes.specs.{Logs.LogsAgree, Logs.IsAlone, Steps.LeavesRecords, Steps.ChangesPairsAlone}
+use Rattle.law_logged_changes.specs.{Logs.LogsAgree, Logs.IsAlone, Steps.LeavesRecords}
 use Rattle.law_logged_changes.proofs.{Leaving.all_left, Leaving.aside_left, GoingOn.logs_beside, Logging.change_all}
 
 -- ---- keys
@@ -21,10 +21,6 @@ keys_beside : (s : ℕ) (chains : Chains) (old new : WorldState) (change : KeysC
 keys_beside s chains old new change (Went next) c = c.stays
 keys_beside s chains old new change Done c = beside_stay old new c.0
 keys_beside s chains old new change (Hindered same why) c = beside_stay old new c.1
-
-pub keys_leave : (s : ℕ) (chains : Chains) (old new : WorldState) (change : KeysChange) (reached : Reached KeysChange)
-    → ChangesKeys s chains old new change reached → LeavesRecords old new × ChangesPairsAlone old new
-keys_leave s chains old new change reached c = let stays = keys_beside s chains old new change reached c in (beside_leaves old new stays, stays.rest)
 
 beside_all : (old new : WorldState) → StaysBesideKeys old new → LogsAgree old → LogsAgree new
 beside_all old new stays agree = all_left old new (beside_leaves old new stays) (logs_beside old new stays.rest) agree

@@ -1,33 +1,138 @@
--- The step of a change that adds its entry, and so each step.
-use Rattle.std.proofs.Common.{◌≡◌, ⊎_elim, ℕ, zero, suc, ◌^◌, ◌<◌, ◌==◌, Bool, true, false, cond, List, [], ◌∷◌, length, Option, Some, refl, sym, ap, subst}
-use Rattle.std.proofs.Common.{◌∙◌, arith}
-use Rattle.std.specs.Prelude.{slice_get, unwrap_or, IsTrue, None}
+-- Each step of a change: those that add no entry, and the one that adds its entry.
+use Rattle.law_logged_changes.proofs.{Leaving.stay_kept, GoingOn.work_again, GoingOn.agrees_beside}
+use Rattle.std.proofs.Common.{◌≡◌, ⊎_elim, ℕ, ◌^◌, ◌<◌, ◌==◌, Bool, true, false, cond, List, [], ◌∷◌, length, Option, Some, refl, sym, ap, subst, ◌∙◌, arith}
+use Rattle.std.specs.Prelude.{slice_get, unwrap_or, IsTrue, option_map}
 use Rattle.std.specs.Map.{lookup}
-use Rattle.std.proofs.lemmas.Bool.{cases_eq}
-use Rattle.std.proofs.lemmas.Option.{slice_get_within}
+use Rattle.std.proofs.lemmas.{Bool.cases_eq, Option.slice_get_within}
 use Rattle.inno_types.specs.{declared.value.Value.Value, declared.value.Schema.Schema}
-use Rattle.inno_db.specs.Database.{key_of, key_in}
 use Rattle.store_api.specs.declared.answers.Undo.{Undo}
-use Rattle.row_versions.specs.{Versions.Versions, declared.place.Place.Place, declared.version.Version.Version, Chains.Chains, Chains.is_same_place}
-use Rattle.row_versions.specs.{Chains.versions_at, Chains.Pushes}
+use Rattle.row_versions.specs.{Versions.Versions, declared.place.Place.Place, declared.version.Version.Version}
+use Rattle.row_versions.specs.Chains.{Chains, is_same_place, versions_at, Pushes}
 use Rattle.law_past_agreement.specs.{Rows.place_in, Rows.row_of, Order.IsOfRow, Order.IsTabled}
-use Rattle.law_stored_rows.specs.{Edits.clustered_index, Records.KeepsMore}
+use Rattle.law_stored_rows.specs.Records.{KeepsMore}
 use Rattle.law_stored_rows.proofs.Values.{same_place, place_itself}
-use Rattle.world.specs.{State.WorldState, State.Session, State.Work, State.HasWork, Indexes.KeepsVersion, Indexes.KeepsIf, Told.IsTold}
-use Rattle.law_world_agreement.specs.{Agreement.Agrees, Steps.IsChangedBy}
-use Rattle.law_world_agreement.proofs.Changing.{changed_agrees}
-use Rattle.row_changes.specs.{declared.row_edit.RowEdit.RowEdit, declared.row_edit.RowEdit.TheVariants.Put, declared.row_edit.RowEdit.TheVariants.Remove}
-use Rattle.row_changes.specs.{declared.record_change.RecordChange.RecordChange}
+use Rattle.world.specs.{State.WorldState, State.Session, State.Work, State.HasWork, Indexes.KeepsIf, Told.IsTold}
+use Rattle.law_world_agreement.specs.{Agreement.Agrees, Steps.IsChangedBy, Steps.IsEntered}
+use Rattle.law_world_agreement.proofs.{Changing.changed_agrees, Entries.unentered_agrees}
+use Rattle.row_changes.specs.{declared.row_edit.RowEdit.RowEdit, declared.row_edit.RowEdit.TheVariants.Remove, declared.row_change.RowChange.TheVariants.Keys}
+use Rattle.row_changes.specs.{declared.record_change.RecordChange.RecordChange, Keys.StaysBesideKeys, declared.row_change.RowChange.TheVariants.Record}
+use Rattle.row_changes.specs.{declared.keys_change.KeysChange.KeysChange, declared.row_change.RowChange.RowChange, declared.row_edit.RowEdit.TheVariants.Put}
+use Rattle.row_changes.specs.{Keys.IsChangingKeys, Edits.change_of, Edits.rows_put, Asides.StepsAside, declared.reached.Reached.Reached, Told.HasRows}
+use Rattle.row_changes.specs.Records.{Records, IsChangingRecord, ChangesRecord, id_for}
+use Rattle.row_changes.specs.Rows.{IsChangingRow, row_after, primary_of, place_of, PushesEdit, ChangesRow}
+use Rattle.row_changes.specs.declared.reached.Reached.TheVariants.{Went, Done, Hindered}
+use Rattle.row_changes.proofs.{Ids.one_work, Sessions.one_session, Pushed.kept_more, Keying.beside_stay}
+use Rattle.law_logged_changes.specs.GoingOn.{StaysOpen, KeepsBeside, EntersAgreed, GoesOnAgreed, StaysAgreed, EndsAgreed}
+use Rattle.inno_db.proofs.Keys.{key_in-at}
 use Rattle.row_changes.specs.declared.record_change.RecordReached.TheVariants as records
-use Rattle.row_changes.specs.{declared.keys_change.KeysChange.KeysChange, declared.row_change.RowChange.RowChange}
-use Rattle.row_changes.specs.{declared.row_change.RowChange.TheVariants.Record, declared.row_change.RowChange.TheVariants.Keys}
-use Rattle.row_changes.specs.{declared.reached.Reached.Reached, declared.reached.Reached.TheVariants.Went, declared.reached.Reached.TheVariants.Done}
-use Rattle.row_changes.specs.{declared.reached.Reached.TheVariants.Hindered, Edits.change_of, Edits.rows_put, Records.IsChangingRecord, Records.Records}
-use Rattle.row_changes.specs.{Records.ChangesRecord, Records.id_for, Pairs.RowsStay, Keys.IsChangingKeys, Keys.StaysBesideKeys}
-use Rattle.row_changes.specs.Rows.{row_after, primary_of, place_of, PushesEdit, IsChangingRow, ChangesRow}
-use Rattle.row_changes.proofs.{Ids.one_work, Sessions.one_session, Telling.stays_told}
-use Rattle.law_logged_changes.specs.GoingOn.{StaysOpen, KeepsBeside, EntersAgreed, GoesOnAgreed}
-use Rattle.law_logged_changes.proofs.Staying.{aside_agreed, keys_agreed, keys_ended}
+
+-- ---- no entry comes
+
+-- ---- the session has other rooms
+
+module _ (s : ℕ) (old new : WorldState) (aside : StepsAside s old new) where
+  aside_entered : IsEntered old.past old new
+  aside_entered = record {
+    past_is = ap (λ (state : WorldState). state.past) aside.rest;
+    names = ap (λ (state : WorldState). state.names) aside.rest;
+    schemas = ap (λ (state : WorldState). state.schemas) aside.rest;
+    txns = ap (λ (state : WorldState). state.txns) aside.rest;
+    works = λ u.
+        ⊎_elim (λ e. subst (λ n. option_map (λ (x : Session). x.work) (slice_get new.sessions n) ≡ option_map (λ (x : Session). x.work)
+        (slice_get old.sessions n)) (sym e)
+        (ap (option_map (λ (x : Session). x.work)) aside.is ∙ ap Some aside.readied.work ∙ sym (ap (option_map (λ (x : Session). x.work)) aside.was)))
+        (λ differs. ap (option_map (λ (x : Session). x.work)) (aside.others u differs)) (cases_eq u s);
+    count = aside.count;
+  }
+
+  aside_open : (session : Session) (work : Work) → HasWork s session work old → StaysOpen s session work old new
+  aside_open session work has =
+      let one = one_session old s aside.before session aside.was has.session_is in
+      record {
+        session_now = aside.after;
+        work_now = work;
+        has = record { session_is = aside.is; work_is = aside.readied.work ∙ ap (λ (x : Session). x.work) one ∙ has.work_is };
+        setting = aside.readied.setting ∙ ap (λ (x : Session). x.setting) one;
+        can_reply = aside.readied.can_reply ∙ ap (λ (x : Session). x.can_reply) one;
+        can_ack = aside.readied.can_ack ∙ ap (λ (x : Session). x.can_ack) one;
+        txn = refl;
+        level = refl;
+        view = refl;
+        can_end = refl;
+        same = λ past. refl;
+      }
+
+  aside_beside : IsTold new → KeepsBeside s old new
+  aside_beside told = record {
+    names = ap (λ (state : WorldState). state.names) aside.rest;
+    schemas = ap (λ (state : WorldState). state.schemas) aside.rest;
+    others = aside.others;
+    count = aside.count;
+    places = aside.places;
+    kept = stay_kept old new aside.versions told;
+    own = aside_open;
+  }
+
+  pub aside_agreed : (chains : Chains) (next : RowChange) → Agrees chains (Some s) old → IsTold new → IsChangingRow s chains new next
+      → StaysAgreed s chains old new next
+  aside_agreed chains next agrees told changing = record {
+    agrees = unentered_agrees chains (Some s) old new agrees aside_entered;
+    changing = changing;
+    past = ap (λ (state : WorldState). state.past) aside.rest;
+    rows = ap (λ (state : WorldState). state.rows) aside.rest;
+    txns = ap (λ (state : WorldState). state.txns) aside.rest;
+    beside = aside_beside told;
+  }
+
+-- ---- all sessions are as they were
+
+module _ (s : ℕ) (chains : Chains) (old new : WorldState) (stays : StaysBesideKeys old new) (agrees : Agrees chains (Some s) old) (told : IsTold new) where
+  keys_agree : Agrees chains (Some s) new
+  keys_agree = agrees_beside stays.rest agrees
+
+  keys_beside : KeepsBeside s old new
+  keys_beside = record {
+    names = ap (λ (state : WorldState). state.names) stays.rest;
+    schemas = ap (λ (state : WorldState). state.schemas) stays.rest;
+    others = λ t differs. ap (λ (state : WorldState). slice_get state.sessions t) stays.rest;
+    count = ap (λ (state : WorldState). length state.sessions) stays.rest;
+    places = stays.places;
+    kept = stay_kept old new stays.versions told;
+    own = λ session work has.
+        record {
+          session_now = session;
+          work_now = work;
+          has = work_again s session work old new stays.rest has;
+          setting = refl;
+          can_reply = refl;
+          can_ack = refl;
+          txn = refl;
+          level = refl;
+          view = refl;
+          can_end = refl;
+          same = λ past. refl;
+        };
+  }
+
+  pub keys_agreed : (next : RowChange) → IsChangingRow s chains new next → StaysAgreed s chains old new next
+  keys_agreed next changing = record {
+    agrees = keys_agree;
+    changing = changing;
+    past = ap (λ (state : WorldState). state.past) stays.rest;
+    rows = ap (λ (state : WorldState). state.rows) stays.rest;
+    txns = ap (λ (state : WorldState). state.txns) stays.rest;
+    beside = keys_beside;
+  }
+
+  pub keys_ended : HasRows chains new → EndsAgreed s chains old new
+  keys_ended coded = record {
+    agrees = keys_agree;
+    coded = coded;
+    past = ap (λ (state : WorldState). state.past) stays.rest;
+    rows = ap (λ (state : WorldState). state.rows) stays.rest;
+    txns = ap (λ (state : WorldState). state.txns) stays.rest;
+    beside = keys_beside;
+  }
 
 -- ---- rows in which one place has a version more
 
@@ -63,15 +168,9 @@ pushed_version place version chains = chain_with place (λ versions. version ∷
 
 -- ---- the entry is that of a change of this row
 
-key_there : (schemas : List Schema) (table : ℕ) (row : List Value) (schema : Schema) → slice_get schemas table ≡ Some schema
-    → key_in schemas table row ≡ key_of schema row
-key_there [] table row schema there = absurd (cc)
-key_there (first ∷ schemas) zero row schema there = let same : first ≡ schema = cc in ap (λ (s : Schema). key_of s row) same
-key_there (first ∷ schemas) (suc table) row schema there = key_there schemas table row schema there
-
 pub place_there : (schemas : List Schema) (table : ℕ) (edit : RowEdit) (schema : Schema) → slice_get schemas table ≡ Some schema
     → place_in schemas (change_of table edit) ≡ Some (record { table = table; key = primary_of schema edit })
-place_there schemas table (Put row) schema there = ap (λ k. Some (record { table = table; key = k })) (key_there schemas table row schema there)
+place_there schemas table (Put row) schema there = ap (λ k. Some (record { table = table; key = k })) (key_in-at schemas table schema row there)
 place_there schemas table (Remove value) schema there = refl
 
 row_there : (table : ℕ) (edit : RowEdit) → row_of (change_of table edit) ≡ row_after edit
@@ -88,15 +187,9 @@ tabled tables table (Remove value) within = within
 
 -- ---- the version is kept
 
-kept_apart : (schemas : List Schema) (pointer : ℕ) (undo : Undo) (old new : Versions) → KeepsVersion schemas pointer undo old new → IsTrue new.told
-    → KeepsMore old.kept_at new.kept_at
-kept_apart schemas pointer undo old new k told other found is =
-    ⊎_elim (λ e. let none : old.kept_at pointer ≡ None = k.fresh told in let some : old.kept_at pointer ≡ Some found = ap old.kept_at (sym e) ∙ is in absurd
-    (cc)) (λ differs. k.elsewhere other differs told ∙ is) (cases_eq other pointer)
-
 kept_if : (b : Bool) (schemas : List Schema) (pointer : ℕ) (undo : Undo) (old new : Versions) → KeepsIf b schemas pointer undo old new → IsTrue new.told
     → KeepsMore old.kept_at new.kept_at
-kept_if true schemas pointer undo old new k told other found is = kept_apart schemas pointer undo old new k told other found is
+kept_if true schemas pointer undo old new k told other found is = kept_more schemas pointer undo old new k told other found is
 kept_if false schemas pointer undo old new k told other found is = ap (λ (f : ℕ → _). f other) (k.kept told) ∙ is
 
 -- ---- the record stands
@@ -188,22 +281,10 @@ enters : (s : ℕ) (chains : Chains) (old new : WorldState) (change : RecordChan
     → ChangesRecord s old new change (records.Recorded next.before) → IsTold new → Agrees chains (Some s) old → length new.past < 2 ^ 63
     → ((pushed : Chains) → PushesEdit s change old chains pushed → IsChangingKeys pushed new next) → EntersAgreed s chains old new change next
 enters s chains old new change next p c told agrees few keys =
-    ⊎_elim
-    (λ first. entered s chains old new change _ _ first.0.records told next p agrees few keys)
+    ⊎_elim (λ first. entered s chains old new change _ _ first.0.records told next p agrees few keys)
     (λ over. entered s chains old new change _ _ over.1.records told next p agrees few keys) c.2
 
 -- ---- each step
-
--- where no pair changes, no record does
-stays_beside : (old new : WorldState) → RowsStay old new → StaysBesideKeys old new
-stays_beside old new stay = record {
-  told = stays_told old new stay;
-  records = λ table. stay.pairs (clustered_index table);
-  places = stay.places;
-  versions = stay.versions;
-  rest = stay.rest;
-  later = stay.later;
-}
 
 pub goes_on : (s : ℕ) (chains : Chains) (old new : WorldState) (change : RowChange) (reached : Reached RowChange) → Agrees chains (Some s) old
     → IsChangingRow s chains old change → ChangesRow s chains old new change reached → IsTold new → length new.past < 2 ^ 63
@@ -214,12 +295,12 @@ goes_on s chains old new (Record change key after) (Went (Keys next)) agrees p c
 goes_on s chains old new (Keys change) (Went (Record next key after)) agrees p c told few = absurd c.0
 goes_on s chains old new (Keys change) (Went (Keys next)) agrees p c told few = keys_agreed s chains old new c.0.stays agrees told (Keys next) c.0.holds
 goes_on s chains old new (Record change key after) Done agrees p c told few = absurd c
-goes_on s chains old new (Keys change) Done agrees p c told few = keys_ended s chains old new (stays_beside old new c.0) agrees told c.1
+goes_on s chains old new (Keys change) Done agrees p c told few = keys_ended s chains old new (beside_stay old new c.0) agrees told c.1
 goes_on s chains old new (Record change key after) (Hindered same why) agrees p c told few = (
   c.0,
   aside_agreed s old new c.2.0 chains same agrees told (subst (IsChangingRow s chains new) (sym c.0) c.1),
 )
 goes_on s chains old new (Keys change) (Hindered same why) agrees p c told few = (
   c.0,
-  keys_agreed s chains old new (stays_beside old new c.2.0) agrees told same (subst (IsChangingRow s chains new) (sym c.0) c.1),
+  keys_agreed s chains old new (beside_stay old new c.2.0) agrees told same (subst (IsChangingRow s chains new) (sym c.0) c.1),
 )

@@ -5,13 +5,13 @@ use Rattle.inno_db.specs.declared.change.Change.{Change}
 use Rattle.inno_model.specs.Past.{own}
 use Rattle.store_api.specs.{declared.answers.Undo.Undo, declared.moves.Move.Move, declared.moves.Move.TheVariants.Done, declared.moves.Move.TheVariants.Step}
 use Rattle.row_versions.specs.{declared.place.Place.Place, Chains.Chains}
-use Rattle.world.specs.State.{WorldState, Session, Work, Logged, HasWork}
+use Rattle.world.specs.State.{WorldState, Session, Work, HasWork}
 use Rattle.law_world_agreement.specs.Agreement.{Agrees}
 use Rattle.law_world_agreement.proofs.Joining.{agrees_alike}
 use Rattle.undo_apply.specs.{declared.work_room.WorkRoom.WorkRoom, Stages.GoesOn, Stages.IsHindered, Stages.IsDone, Stages.PutsBack}
 use Rattle.undo_apply.proofs.Columns.{few_keys}
 use Rattle.law_logged_changes.specs.{Logs.IsLogOf, Logs.LogsAgree, Steps.LeavesRecords, Steps.LeavesLogs, Steps.OfAll, Steps.ChangesPairsAlone}
-use Rattle.law_logged_changes.proofs.{Logs.empty_log, Leaving.stay_leaves, Leaving.entry_leaves, Leaving.log_left, Leaving.all_left}
+use Rattle.law_logged_changes.proofs.{Logs.empty_log, Leaving.stay_leaves, Leaving.entry_leaves, Leaving.all_left}
 
 -- ---- sessions and the history stay
 
@@ -72,10 +72,6 @@ module _ (chains : Chains) (place : Place) (actor : ℕ) (undo : Undo) (room nex
 
   pub done_beside : IsDone chains place undo room next old new → ChangesPairsAlone old new
   done_beside done = ⊎_elim (λ stays. stays.rest) (λ puts. puts.rest) done.changes
-
-  pub step_logs : (answer : Move) (log : List Logged) (changes : List Change) → PutsBack chains place actor undo room next old new answer → answer ≢ Done
-      → IsLogOf old log changes → IsLogOf new log changes
-  step_logs answer log changes is not_done stands = log_left old new log changes (step_leaves answer is not_done).0 stands
 
   pub step_all : (answer : Move) → PutsBack chains place actor undo room next old new answer → answer ≢ Done → LogsAgree old → LogsAgree new
   step_all answer is not_done agree = let left = step_leaves answer is not_done in all_left old new left.0 (logs_beside old new left.1) agree

@@ -1,7 +1,7 @@
 -- Steps that change no record leave logs as they are.
 use Rattle.law_logged_changes.specs.Logs.{RecordsAt, LogStands, records_of, IsLogOf, LogsAgree, LogsAgreeBut}
 use Rattle.law_logged_changes.specs.Pointers.{Reaches, IsNeededBy, PointersApart}
-use Rattle.law_logged_changes.specs.Steps.{LeavesRecords, LeavesLog, HasNoLog, LeavesLogs, OfAll, IsToCut, HasCut, MakesTable}
+use Rattle.law_logged_changes.specs.Steps.{LeavesRecords, LeavesLog, HasNoLog, LeavesLogs, OfAll, HasCut, MakesTable}
 use Rattle.law_stored_rows.specs.{Records.KeepsMore, Edits.clustered_index, Edits.key_index}
 use Rattle.row_versions.specs.{Versions.Stays, declared.kept.Kept.Kept}
 use Rattle.std.proofs.Common.{Some, ◌≡◌, ◌≢◌, ◌⊎◌, inl, inr, ⊎_elim, ℕ, zero, suc, ◌<◌, List, [], ◌∷◌, ◌++◌, Option, refl, sym, ap, subst, ◌∙◌, slice_get}
@@ -138,22 +138,6 @@ aside_left s old new aside agree = all_left old new
 
 -- ---- a log that is to be cut, or has been
 
-pub to_cut_left : (s : ℕ) (old new : WorldState) (logged : Logged) (log : List Logged) (before : List Change) (session : Session) (work : Work)
-    → LeavesRecords old new → LeavesLogs (λ u. u ≢ s) old new → IsToCut s logged log before old
-    → HasWork s session work new → work.log ≡ logged ∷ log → IsToCut s logged log before new
-to_cut_left s old new logged log before session work leaves logs cut has is = record {
-  session = session;
-  work = work;
-  has_work = has;
-  log_is = is;
-  may = record {
-    kind_is = cut.may.kind_is;
-    unneeded = λ told kind table needed. cut.may.unneeded (leaves.told told) kind table (needed_left old new table logged.pointer leaves told needed);
-    elsewhere = λ told. cut.may.elsewhere (leaves.told told);
-  };
-  logs = but_left s old new log before leaves logs cut.logs;
-}
-
 pub cut_left : (s : ℕ) (old new : WorldState) (log : List Logged) (before : List Change) (session : Session) (work : Work) → LeavesRecords old new
     → LeavesLogs (λ u. u ≢ s) old new → HasCut s log before old → HasWork s session work new → work.log ≡ log → HasCut s log before new
 cut_left s old new log before session work leaves logs cut has is = record {
@@ -165,10 +149,6 @@ cut_left s old new log before session work leaves logs cut has is = record {
 }
 
 -- ---- one session apart
-
-pub but_of : (s : ℕ) (state : WorldState) (session : Session) (work : Work) → LogsAgree state → HasWork s session work state
-    → LogsAgreeBut s work.log (own s state.past) state
-but_of s state session work agree has = record { mine = agree.each s session work has; others = λ u x w differs h. agree.each u x w h; apart = agree.apart }
 
 pub all_again : (s : ℕ) (state : WorldState) (log : List Logged) (changes : List Change) → LogsAgreeBut s log changes state → own s state.past ≡ changes
     → ((session : Session) (work : Work) → HasWork s session work state → work.log ≡ log) → LogsAgree state

@@ -9,7 +9,6 @@ pub mod Cutting
 pub mod Logging
 pub mod Crossing
 pub mod Listed
-pub mod Staying
 pub mod Entering
 pub mod ReadersLeft
 pub mod Readable

@@ -9,9 +9,8 @@ use Rattle.law_past_agreement.proofs.{Ids.ids_of, Ids.given_few, Opens.opens_of}
 use Rattle.world.specs.State.{WorldState, Session, Work, HasWork}
 use Rattle.law_world_agreement.specs.Agreement.{Agrees}
 use Rattle.law_world_agreement.proofs.Ending.{work_of, one_session_of}
-use Rattle.row_changes.specs.{declared.record_change.RecordStage.TheVariants.Enter, declared.row_edit.RowEdit.RowEdit}
-use Rattle.row_changes.specs.{declared.row_change.RowChange.TheVariants.Record, Edits.FitsEdit, Records.IsTable, Records.IsListed, Told.HasRows}
-use Rattle.row_changes.specs.{Rows.IsChangingRow, Rows.row_after}
+use Rattle.row_changes.specs.{declared.record_change.RecordStage.TheVariants.Enter, declared.row_change.RowChange.TheVariants.Record, Rows.IsChangingRow}
+use Rattle.row_changes.specs.{Rows.row_after, declared.row_edit.RowEdit.RowEdit, Edits.FitsEdit, Records.IsTable, Records.IsListed, Told.HasRows}
 
 module _ (chains : Chains) (writer : Option ℕ) (state : WorldState) (s : ℕ) (session : Session) (work : Work) (agrees : Agrees chains writer state)
     (has : HasWork s session work state) where

@@ -38,10 +38,8 @@ module _ (chains : Chains) (place : Place) (done : ℕ) (put : Option EntryPut) 
   where
     tells_others : (which column : ℕ) (value : Value) → some_has column value others ≡ true → some_has column value (said place.table which place.key) ≡ true
     tells_others which column value has =
-        ⊎_elim
-        (λ e. subst (λ n. some_has column value (said place.table n place.key) ≡ true) (sym e.1)
-        (ap (some_has column value) so.here ∙ next_has column value put before others has))
-        (λ apart.
+        ⊎_elim (λ e. subst (λ n. some_has column value (said place.table n place.key) ≡ true) (sym e.1)
+        (ap (some_has column value) so.here ∙ next_has column value put before others has)) (λ apart.
         ⊎_elim
         (λ below. ap (some_has column value) (so.first which (let b = below.1 in omega arith)) ∙ ap (some_has column value) versions ∙ more_has column value
         version others has)

@@ -1,45 +1,25 @@
 -- A step of another session that changes no row leaves a change as it was.
+use Rattle.row_changes.proofs.{Changing.stage_kept, Changing.told_kept, Telling.told_if, Telling.rows_if, Pushed.table_kept, Keying.changing_next}
 use Rattle.std.proofs.Common.{◌≡◌, ℕ, true, false, List, Option, Some, None, sym, subst, ◌∙◌}
 use Rattle.std.specs.Prelude.{slice_get, IfSome, is_some}
 use Rattle.inno_types.specs.{declared.value.Value.Value, declared.value.Schema.Schema}
-use Rattle.entries.specs.{Pairs.Pair, Pairs.value_of, Index.Index, Index.AreKept}
+use Rattle.entries.specs.{Pairs.value_of, Index.Index, Index.AreKept}
 use Rattle.row_versions.specs.{declared.place.Place.Place, declared.version.Version.Version, Chains.Chains}
 use Rattle.law_stored_rows.specs.{Edits.clustered_index, Tables.Said, Tables.what_is_there}
-use Rattle.world.specs.{State.WorldState, State.Session, State.HasWork, State.IsIndex, Told.pairs_of, Told.IsTold, Told.LeavesRows}
+use Rattle.world.specs.{State.WorldState, State.HasWork, State.IsIndex, Told.IsTold, Told.LeavesRows}
 use Rattle.law_world_agreement.specs.Agreement.{Agrees}
-use Rattle.row_changes.specs.{declared.row_edit.RowEdit.RowEdit, declared.entry_put.EntryPut.EntryPut, declared.entry_put.PutPhase.PutPhase}
-use Rattle.row_changes.specs.declared.entry_put.PutPhase.TheVariants as puts
-use Rattle.row_changes.specs.{declared.record_change.RecordChange.RecordChange, declared.record_change.RecordStage.RecordStage}
-use Rattle.row_changes.specs.{declared.record_change.RecordStage.TheVariants.Insert, declared.record_change.RecordStage.TheVariants.Replace}
-use Rattle.row_changes.specs.{declared.keys_change.KeysChange.KeysChange, declared.row_change.RowChange.RowChange}
-use Rattle.row_changes.specs.{declared.row_change.RowChange.TheVariants.Record, declared.row_change.RowChange.TheVariants.Keys, Entries.PutPhaseHolds}
-use Rattle.row_changes.specs.{Records.StageHolds, Records.IsChangingRecord, Keys.said_next, Keys.HasRowsSoFar, Keys.IsEntering, Keys.IsChangingKeys}
-use Rattle.row_changes.specs.{Told.AreRowsAs, Told.HasRows, Rows.IsChangingRow}
-use Rattle.row_changes.proofs.{Telling.told_before, Telling.went, Telling.coded_again, Pushed.table_kept, Keying.changing_next}
+use Rattle.row_changes.specs.{declared.entry_put.PutPhase.PutPhase, declared.keys_change.KeysChange.KeysChange, declared.row_change.RowChange.RowChange}
+use Rattle.row_changes.specs.{Entries.PutPhaseHolds, declared.record_change.RecordChange.RecordChange, declared.record_change.RecordStage.TheVariants.Insert}
+use Rattle.row_changes.specs.{declared.entry_put.EntryPut.EntryPut, Told.HasRows, Told.AreRowsAs, Rows.IsChangingRow, Records.IsChangingRecord}
+use Rattle.row_changes.specs.Keys.{IsChangingKeys, said_next, HasRowsSoFar, IsEntering}
+use Rattle.row_changes.specs.declared.row_change.RowChange.TheVariants.{Keys, Record}
 use Rattle.law_logged_changes.proofs.Listed.{listed_of}
-
--- ---- what an index tells
-
-told_pairs : (P : List Pair → Type 0) (old new : Option (List Pair)) → AreKept old new → IfSome old P → IfSome new P
-told_pairs P old None kept is = record {}
-told_pairs P None (Some new) kept is = absurd kept
-told_pairs P (Some old) (Some new) kept is = subst P (sym kept) is
-
-stage_kept : (stage : RecordStage) (schema : Schema) (edit : RowEdit) (key : List ℕ) (session : Session) (old new : Index) → AreKept old.pairs new.pairs
-    → StageHolds stage schema edit key session old → StageHolds stage schema edit key session new
-stage_kept Insert schema edit key session old new kept is =
-    (is.0, is.1, told_pairs (λ pairs. is_some (value_of key pairs) ≡ false) old.pairs new.pairs kept is.2)
-stage_kept (Replace before bytes) schema edit key session old new kept is = (
-  is.0,
-  is.1,
-  record { there = told_pairs (λ pairs. value_of key pairs ≡ Some bytes) old.pairs new.pairs kept is.2.there; code_is = is.2.code_is },
-)
-stage_kept stage schema edit key session old new kept is = is
+use Rattle.row_changes.specs.declared.entry_put.PutPhase.TheVariants as puts
 
 phase_kept : (phase : PutPhase) (entry : List ℕ) (old new : Index) → AreKept old.pairs new.pairs → PutPhaseHolds phase entry old → PutPhaseHolds phase entry new
 phase_kept puts.Look entry old new kept is = is
-phase_kept puts.Unmark entry old new kept is = told_pairs (λ pairs. is_some (value_of entry pairs) ≡ true) old.pairs new.pairs kept is
-phase_kept puts.Insert entry old new kept is = told_pairs (λ pairs. is_some (value_of entry pairs) ≡ false) old.pairs new.pairs kept is
+phase_kept puts.Unmark entry old new kept is = told_kept (λ pairs. is_some (value_of entry pairs) ≡ true) old new kept is
+phase_kept puts.Insert entry old new kept is = told_kept (λ pairs. is_some (value_of entry pairs) ≡ false) old new kept is
 
 some_kept : (P Q : EntryPut → Type 0) (put : Option EntryPut) → ((x : EntryPut) → P x → Q x) → IfSome put P → IfSome put Q
 some_kept P Q None each is = record {}
@@ -49,15 +29,10 @@ some_kept P Q (Some put) each is = each put is
 
 module _ (old new : WorldState) (leaves : LeavesRows old new) where
   pub left_told : IsTold new → IsTold old
-  left_told told = record {
-    pairs = λ i. told_before (λ before after. after ≡ before) (old.indexes i).pairs (new.indexes i).pairs (leaves.pairs i) (told.pairs i);
-    versions = leaves.versions.told told.versions;
-  }
+  left_told = told_if old new leaves.pairs leaves.versions
 
   pub rows_left : (chains : Chains) (said : Said) → IsTold new → AreRowsAs chains said old → AreRowsAs chains said new
-  rows_left chains said told is =
-      coded_again old.schemas new.schemas (pairs_of old) (pairs_of new) old.versions.kept_at new.versions.kept_at chains said leaves.schemas
-      (λ d i. went (λ pairs. pairs) (old.indexes i).pairs (new.indexes i).pairs (leaves.pairs i) (told.pairs i) d) (leaves.versions.kept told.versions) is
+  rows_left chains said = rows_if old new chains said leaves.schemas leaves.pairs leaves.versions
 
   pub has_rows_left : (chains : Chains) → HasRows chains old → HasRows chains new
   has_rows_left chains rows told = rows_left chains (what_is_there chains) told (rows (left_told told))

@@ -1,21 +1,12 @@
 -- Each entry keeps the history legal, and what is kept beside it in agreement.
 use Rattle.std.proofs.Common.{◌≡◌, ◌≢◌, ℕ, ◌+◌, ◌-◌, ◌<◌, ◌≤◌, true, false, cond, eqb, Option, Some, None, List, [], ◌∷◌, ◌++◌, length, get_or, set, refl}
 use Rattle.std.proofs.Common.{sym, ap, subst, ◌∙◌, inl, inr, arith}
-use Rattle.std.proofs.lemmas.Bool.{false≢true}
 use Rattle.std.proofs.lemmas.Bool.Decides.{nat_tests, eqb_tells}
 use Rattle.std.proofs.lemmas.List.{length-set, length-append}
 use Rattle.std.proofs.lemmas.List.Sums.{sum_by-cons}
-use Rattle.std.specs.List.{list_any}
 use Rattle.std.specs.Prelude.{is_some, Result, Ok, Err, OnOk, OnErr, IfNone}
-use Rattle.inno_types.specs.{declared.lock.Level.Level, declared.lock.Level.TheVariants.ReadUncommitted, declared.lock.Level.TheVariants.ReadCommitted}
-use Rattle.inno_types.specs.{declared.lock.Level.TheVariants.RepeatableRead, declared.lock.Level.TheVariants.Serializable, declared.value.Value.Value}
-use Rattle.inno_types.specs.{declared.value.Schema.Schema, declared.stmt.Stmt.Stmt}
 use Rattle.inno_types.specs.declared.stmt.Stmt.TheVariants as stmts
-use Rattle.inno_types.specs.{declared.stmt.LevelScope.TheVariants.Session, declared.stmt.LevelScope.TheVariants.NextTransaction, declared.reply.Item.Item}
-use Rattle.inno_types.specs.{declared.reply.Reply.Reply}
 use Rattle.inno_types.specs.declared.reply.Reply.TheVariants as replies
-use Rattle.inno_db.specs.{declared.change.Change.Change, declared.change.Change.TheVariants.Create, declared.change.Change.TheVariants.Put}
-use Rattle.inno_db.specs.{declared.change.Change.TheVariants.Remove, declared.limits.TheConstants.MOST_TABLES}
 use Rattle.inno_model.specs.declared.event.Event.{Event}
 use Rattle.inno_model.specs.declared.event.Event.TheVariants as events
 use Rattle.inno_model.specs.Past.{is_of, started, under_way, level, own, opening, begins, commits, committed, IsOpen}
@@ -25,32 +16,37 @@ use Rattle.sql_history.specs.Settings.{Setting, HasSet, at_first, at_begin, at_e
 use Rattle.sql_history.specs.Counts.{has_stopped, last_moment, rows_of_entry, rows_kept, rows_of_reply, most_rows}
 use Rattle.sql_history.specs.Legal.{MayFollow, PaysCommit, MayBegin, MayView, MayChange, MayUndo, MayCommit, MayRollBack, MaySignal, is_leaving, IsWithin}
 use Rattle.sql_history.specs.Legal.{EndsBy, owed_by, owes_commit}
-use Rattle.law_past_agreement.specs.Order.{created, is_creation, IsOfRow, IsTabled, IsUndoable, MayCome}
+use Rattle.law_past_agreement.specs.Order.{created, IsOfRow, IsTabled, IsUndoable, MayCome}
 use Rattle.law_past_agreement.proofs.Ids.{ids_of}
 use Rattle.sql_plan.specs.declared.choice.Plan.{Plan}
-use Rattle.shared_lists.specs.{declared.answers.Reading.Reading, declared.answers.Searched.Searched}
 use Rattle.shared_lists.specs.declared.answers.Searched.TheVariants as searched
 use Rattle.shared_lists.specs.declared.answers.Changed.{Changed}
 use Rattle.shared_lists.specs.declared.answers.Changed.TheVariants as made
 use Rattle.shared_lists.specs.declared.answers.Undone.{Undone}
 use Rattle.shared_lists.specs.declared.answers.Undone.TheVariants as undone
-use Rattle.shared_lists.specs.Tasks.{Task, Idle, asked, left_by}
+use Rattle.shared_lists.specs.Tasks.{Task, Idle, asked}
 use Rattle.shared_lists.specs.State.{State, Lists, IsFirst, IsNow, Adds, Closes, Turns, Stays, task_of, writer_without}
 use Rattle.shared_lists.specs.Steps.{Searches, Changes, TakesBack, rows_of_change, rows_entered}
 use Rattle.sql_lists.specs.Tables.{MayMake, begun, created_by, table_made, none_made}
 use Rattle.sql_lists.specs.Kept.{IsKept, MayReply, is_of_signal, OwesAck, SetsQuietly, AreStanding, IsInOrder, made as tables_made}
 use Rattle.sql_lists.proofs.Settings.{AllSet, set_other, sets_one, sets_none, sets_joined, set_at_begin, set_at_commit, set_at_rollback, set_at_end}
 use Rattle.sql_lists.proofs.Settings.{set_at_signal, set_at_done}
-use Rattle.sql_lists.proofs.Moving.{then_adds, then_closes, then_locks, writer_gone}
 use Rattle.sql_lists.proofs.Ordered.{same_seen, ordered_changed, ordered_undone, ordered_committed}
 use Rattle.sql_lists.proofs.Standing.{schemas_after, committed_is, stands_plain, stands_row, stands_begun, stands_rolled_back, stands_undone, stands_committed}
 use Rattle.sql_lists.proofs.Standing.{stands_made}
+use Rattle.inno_types.specs.{declared.lock.Level.Level, declared.lock.Level.TheVariants.ReadUncommitted, declared.lock.Level.TheVariants.ReadCommitted}
+use Rattle.inno_types.specs.{declared.lock.Level.TheVariants.RepeatableRead, declared.lock.Level.TheVariants.Serializable, declared.value.Value.Value}
+use Rattle.inno_types.specs.{declared.value.Schema.Schema, declared.stmt.Stmt.Stmt}
+use Rattle.inno_types.specs.{declared.stmt.LevelScope.TheVariants.Session, declared.stmt.LevelScope.TheVariants.NextTransaction, declared.reply.Item.Item}
+use Rattle.inno_types.specs.{declared.reply.Reply.Reply}
+use Rattle.inno_db.specs.{declared.change.Change.Change, declared.change.Change.TheVariants.Create, declared.change.Change.TheVariants.Put}
+use Rattle.inno_db.specs.{declared.change.Change.TheVariants.Remove, declared.limits.TheConstants.MOST_TABLES}
+use Rattle.shared_lists.specs.{declared.answers.Reading.Reading, declared.answers.Searched.Searched}
+use Rattle.sql_lists.proofs.Moving.{writer_gone}
+use Rattle.sql_lists.proofs.{Moving.then_now, Staying.own_of}
 
 cons_is_some : (e : Event) (h : List Event) → e ∷ h ≡ [] → ⊥
 cons_is_some e h is = cc
-
-not_of : (t u : ℕ) (e : Event) → is_of t e ≡ true → u ≢ t → is_of u e ≡ false
-not_of t u e mine differ = grind (arith, nat_tests, mine, differ)
 
 owed_none : (l : Option Level) (s : ℕ) → l ≢ Some Serializable → owed_by l s ≡ None
 owed_none None s differ = refl
@@ -59,7 +55,7 @@ owed_none (Some ReadCommitted) s differ = refl
 owed_none (Some RepeatableRead) s differ = refl
 owed_none (Some Serializable) s differ = absurd (differ refl)
 
-module _ (names : List (List ℕ)) (h : List Event) (settings : List Setting) (rows : ℕ) (kept : IsKept names h settings rows) where
+module _ {names : List (List ℕ)} {h : List Event} {settings : List Setting} {rows : ℕ} (kept : IsKept names h settings rows) where
   pays : (e : Event) → PaysCommit (owes_commit h) e
   pays e = subst (λ owed. PaysCommit owed e) (sym kept.paid) tt
 
@@ -95,12 +91,6 @@ module _ (names : List (List ℕ)) (h : List Event) (settings : List Setting) (r
   within : (s : ℕ) → s < length names → s < length settings
   within s joined = omega (arith, joined, kept.enough)
 
-  mine_alone : (t : ℕ) (e : Event) → is_of t e ≡ true → (u : ℕ) → u ≢ t → is_of u e ≡ false
-  mine_alone t e mine u differ = not_of t u e mine differ
-
-  started_of : (s j : ℕ) (item : Item) → is_of s (events.Started s j item) ≡ true
-  started_of s j item = grind (arith, nat_tests)
-
   pub kept_start : (s : ℕ) (item : Item) → under_way s h ≡ None → is_leaving s h ≡ false
       → IsKept names (events.Started s (started s h + 1) item ∷ h) settings rows
   kept_start s item idle stays =
@@ -129,40 +119,31 @@ module _ (names : List (List ℕ)) (h : List Event) (settings : List Setting) (r
       (stands_plain _ h (λ u. refl) refl (λ u. refl) kept.stands)
       (same_seen (events.Signal name) h (λ u. refl) refl refl kept.ordered)
 
-  begin_of : (s n : ℕ) (l : Level) → is_of s (events.Begin s n l) ≡ true
-  begin_of s n l = grind (arith, nat_tests)
-
   pub kept_begin : (s : ℕ) (l : Level) → s < length names → MayBegin Spells s (begins h + 1) l h
       → IsKept names (events.Begin s (begins h + 1) l ∷ h) (set settings s (at_begin (get_or settings s at_first))) rows
   kept_begin s l joined may =
       let e = events.Begin s (begins h + 1) l in
       let none : own s h ≡ [] = (ids_of h kept.comes).closed s may.closed in
       adds e (set settings s (at_begin (get_or settings s at_first))) (kept.opened, kept.runs, may, pays _) (refl, may.closed)
-      (sets_one e h settings s (at_begin (get_or settings s at_first)) (within s joined) (mine_alone s e (begin_of s (begins h + 1) l)) kept.set
+      (sets_one e h settings s (at_begin (get_or settings s at_first)) (within s joined) (λ u. own_of e s u (grind (arith, nat_tests))) kept.set
       (set_at_begin h s (begins h + 1) l (get_or settings s at_first) (kept.set s)))
       (length-set settings s _) refl kept.runs refl (stands_begun s (begins h + 1) l h none kept.stands)
       (same_seen e h (own_gone_at s h none) refl refl kept.ordered)
-
-  commit_of : (s : ℕ) → is_of s (events.Committed s) ≡ true
-  commit_of s = grind (arith, nat_tests)
 
   pub kept_commit : (s : ℕ) → s < length names → MayCommit Spells s h
       → IsKept names (events.Committed s ∷ h) (set settings s (at_end (get_or settings s at_first))) rows
   kept_commit s joined may =
       adds (events.Committed s) (set settings s (at_end (get_or settings s at_first))) (kept.opened, kept.runs, may, pays _) may.is_open
-      (sets_one (events.Committed s) h settings s (at_end (get_or settings s at_first)) (within s joined) (mine_alone s (events.Committed s) (commit_of s))
+      (sets_one (events.Committed s) h settings s (at_end (get_or settings s at_first)) (within s joined) (λ u. own_of (events.Committed s) s u (grind (arith, nat_tests)))
       kept.set (set_at_commit h s (get_or settings s at_first) (kept.set s)))
       (length-set settings s _) refl kept.runs refl (stands_committed s h kept.stands) (ordered_committed s h (committed_is s h) kept.ordered)
-
-  rollback_of : (s : ℕ) → is_of s (events.RolledBack s) ≡ true
-  rollback_of s = grind (arith, nat_tests)
 
   pub kept_rollback : (s : ℕ) → s < length names → MayRollBack Spells s h
       → IsKept names (events.RolledBack s ∷ h) (set settings s (at_end (get_or settings s at_first))) rows
   kept_rollback s joined may =
       adds (events.RolledBack s) (set settings s (at_end (get_or settings s at_first))) (kept.opened, kept.runs, may, pays _) (may.is_open, may.all_undone)
       (sets_one (events.RolledBack s) h settings s (at_end (get_or settings s at_first)) (within s joined)
-      (mine_alone s (events.RolledBack s) (rollback_of s)) kept.set (set_at_rollback h s (get_or settings s at_first) (kept.set s)))
+      (λ u. own_of (events.RolledBack s) s u (grind (arith, nat_tests))) kept.set (set_at_rollback h s (get_or settings s at_first) (kept.set s)))
       (length-set settings s _) refl kept.runs refl (stands_rolled_back s h may.all_undone kept.stands)
       (same_seen (events.RolledBack s) h (own_gone_at s h may.all_undone) refl refl kept.ordered)
 
@@ -200,9 +181,6 @@ module _ (names : List (List ℕ)) (h : List Event) (settings : List Setting) (r
       }
 
   -- ---- replies
-
-  ended_of : (s j : ℕ) (reply : Reply) → is_of s (events.Ended s j reply) ≡ true
-  ended_of s j reply = grind (arith, nat_tests)
 
   few_by : (reply : Reply) → IsWithin reply h → rows + rows_of_reply reply ≤ most_rows
   few_by reply (inl none) = subst (λ n. n ≤ most_rows) (omega (arith, none)) kept.few
@@ -244,7 +222,7 @@ module _ (names : List (List ℕ)) (h : List Event) (settings : List Setting) (r
     | inl same ↦ subst (λ v. HasSet Spells v (events.Ended s (started s h) reply ∷ h) (get_or settings v at_first)) (sym same.1)
         (set_at_end h s (started s h) reply (get_or settings s at_first) not_done (kept.set s))
     | inr differ ↦ set_other (events.Ended s (started s h) reply) h u (get_or settings u at_first)
-        (mine_alone s (events.Ended s (started s h) reply) (ended_of s (started s h) reply) u differ.1) (kept.set u)
+        (own_of (events.Ended s (started s h) reply) s u (grind (arith, nat_tests)) differ.1) (kept.set u)
   ]) refl
 
   pub kept_signalled : (s : ℕ) → MayReply s replies.Done h → is_of_signal (under_way s h) ≡ true
@@ -255,7 +233,7 @@ module _ (names : List (List ℕ)) (h : List Event) (settings : List Setting) (r
         | inl same ↦ subst (λ v. HasSet Spells v (events.Ended s (started s h) replies.Done ∷ h) (get_or settings v at_first)) (sym same.1)
             (set_at_signal h s (started s h) (get_or settings s at_first) asked (kept.set s))
         | inr differ ↦ set_other (events.Ended s (started s h) replies.Done) h u (get_or settings u at_first)
-            (mine_alone s (events.Ended s (started s h) replies.Done) (ended_of s (started s h) replies.Done) u differ.1) (kept.set u)
+            (own_of (events.Ended s (started s h) replies.Done) s u (grind (arith, nat_tests)) differ.1) (kept.set u)
       ]) refl)
 
   pub kept_done : (s : ℕ) (stmt : Stmt) (x : Setting) → s < length names → MayReply s replies.Done h → Asks Spells s stmt h
@@ -265,7 +243,7 @@ module _ (names : List (List ℕ)) (h : List Event) (settings : List Setting) (r
       let e = events.Ended s (started s h) replies.Done in
       subst (λ n. IsKept names (e ∷ h) (set settings s x) n) (omega arith)
       (kept_end s replies.Done (set settings s x) may
-      (sets_one e h settings s x (within s joined) (mine_alone s e (ended_of s (started s h) replies.Done)) kept.set
+      (sets_one e h settings s x (within s joined) (λ u. own_of e s u (grind (arith, nat_tests))) kept.set
       (subst (HasSet Spells s (e ∷ h)) (sym is) (set_at_done h s (started s h) stmt (get_or settings s at_first) asks (kept.set s))))
       (length-set settings s x))
 
@@ -292,17 +270,17 @@ abbrev pub set_after : List Setting → ℕ → List Setting
 set_after settings s =
     let begun = set settings s (at_begin (get_or settings s at_first)) in set begun s (at_end (get_or begun s at_first))
 
-module _ (names : List (List ℕ)) (h : List Event) (settings : List Setting) (rows : ℕ) (kept : IsKept names h settings rows) (s : ℕ) (l : Level)
+module _ {names : List (List ℕ)} {h : List Event} {settings : List Setting} {rows : ℕ} (kept : IsKept names h settings rows) (s : ℕ) (l : Level)
     (schema : Schema) (joined : s < length names) (may : MayMake s l schema h) where
   abbrev early : List Setting
   early = set settings s (at_begin (get_or settings s at_first))
 
   first : IsKept names (begun s l h) early rows
-  first = kept_begin names h settings rows kept s l joined may.may_begin
+  first = kept_begin kept s l joined may.may_begin
 
   -- nothing is made
   pub kept_none_made : IsKept names (none_made s l h) (set_after settings s) rows
-  kept_none_made = kept_rollback names (begun s l h) early rows first s joined may.may_roll_back
+  kept_none_made = kept_rollback first s joined may.may_roll_back
 
   second : AllSet (created_by s l schema h) early
   second = sets_none (events.Changed s (Create schema)) (begun s l h) early (λ u x held. held) first.set
@@ -321,7 +299,7 @@ module _ (names : List (List ℕ)) (h : List Event) (settings : List Setting) (r
         opened = cons_is_some _ (created_by s l schema h);
         comes = (may.may_commit.is_open, ((may.may_create.is_open, tt), first.comes));
         set = sets_one (events.Committed s) (created_by s l schema h) early s (at_end (get_or early s at_first)) (omega (arith, joined, first.enough))
-            (λ u differ. not_of s u (events.Committed s) commits_it differ) second
+            (λ u. own_of (events.Committed s) s u commits_it) second
             (set_at_commit (created_by s l schema h) s (get_or early s at_first) (second s));
         enough = subst (λ n. length names ≤ n) (sym (length-set early s _)) first.enough;
         counted = first.counted;
@@ -339,9 +317,9 @@ module _ (names : List (List ℕ)) (h : List Event) (settings : List Setting) (r
 abbrev pub AreKept : Lists → Type 0
 AreKept lists = IsKept lists.state.names lists.state.past lists.settings lists.rows
 
-pub by_now : (past : List Event) (s : ℕ) (task : Task) (writer : Option ℕ) (old new : Lists) (settings : List Setting) (rows : ℕ)
+pub by_now : {past : List Event} {s : ℕ} {task : Task} {writer : Option ℕ} (old new : Lists) {settings : List Setting} {rows : ℕ}
     → IsNow past s task writer old.state new.state → new.settings ≡ settings → new.rows ≡ rows → IsKept old.state.names past settings rows → AreKept new
-by_now past s task writer old new settings rows now sets counts kept =
+by_now {past} old new {settings} now sets counts kept =
     subst (λ names. IsKept names new.state.past new.settings new.rows) (sym now.names_are)
     (subst (λ h. IsKept old.state.names h new.settings new.rows) (sym now.past_is)
     (subst (λ x. IsKept old.state.names past x new.rows) (sym sets)
@@ -367,43 +345,27 @@ kept_first lists first =
       ordered = λ s. tt;
     })))
 
--- nothing changes but what a session has under way
-pub by_turning : (s : ℕ) (task : Task) (old new : Lists) → Turns s task old.state new.state → new.settings ≡ old.settings → new.rows ≡ old.rows
-    → AreKept old → AreKept new
-by_turning s task old new turns sets counts kept = by_now old.state.past s task old.state.writer old new old.settings old.rows turns sets counts kept
-
-pub by_adding : (e : Event) (s : ℕ) (old new : Lists) (settings : List Setting) (rows : ℕ)
-    → Adds e s old.state new.state → new.settings ≡ settings → new.rows ≡ rows → IsKept old.state.names (e ∷ old.state.past) settings rows → AreKept new
-by_adding e s old new settings rows adds sets counts after =
-    by_now (e ∷ old.state.past) s (task_of s old.state) old.state.writer old new settings rows adds sets counts after
-
-pub by_closing : (e : Event) (s : ℕ) (old new : Lists) (settings : List Setting)
-    → Closes e s old.state new.state → new.settings ≡ settings → new.rows ≡ old.rows → IsKept old.state.names (e ∷ old.state.past) settings old.rows →
-    AreKept new
-by_closing e s old new settings closes sets counts after =
-    by_now (e ∷ old.state.past) s (task_of s old.state) (writer_without old.state.writer s) old new settings old.rows closes sets counts after
-
 -- an entry that may want memory
 pub by_result : {X Y : Type 0} (result : Result X Y) (e : Event) (s : ℕ) (old new : Lists)
     → OnOk result (Adds e s old.state new.state) → OnErr result (Stays s old.state new.state) → new.settings ≡ old.settings → new.rows ≡ old.rows
     → AreKept old → IsKept old.state.names (e ∷ old.state.past) old.settings old.rows → AreKept new
-by_result (Ok x) e s old new ok err sets counts before after = by_adding e s old new old.settings old.rows ok sets counts after
-by_result (Err x) e s old new ok err sets counts before after = by_turning s (task_of s old.state) old new err sets counts before
+by_result (Ok x) e s old new ok err sets counts before after = by_now old new ok sets counts after
+by_result (Err x) e s old new ok err sets counts before after = by_now old new err sets counts before
 
 -- a transaction that is opened
 pub by_begin : {X Y : Type 0} (result : Result X Y) (e : Event) (s : ℕ) (old new : Lists) (settings : List Setting)
     → OnOk result (Adds e s old.state new.state) → OnErr result (Stays s old.state new.state) → OnOk result (new.settings ≡ settings) → OnErr result
     (new.settings ≡ old.settings) → new.rows ≡ old.rows
     → AreKept old → IsKept old.state.names (e ∷ old.state.past) settings old.rows → AreKept new
-by_begin (Ok x) e s old new settings ok err sets unset counts before after = by_adding e s old new settings old.rows ok sets counts after
-by_begin (Err x) e s old new settings ok err sets unset counts before after = by_turning s (task_of s old.state) old new err unset counts before
+by_begin (Ok x) e s old new settings ok err sets unset counts before after = by_now old new ok sets counts after
+by_begin (Err x) e s old new settings ok err sets unset counts before after = by_now old new err unset counts before
 
 -- a search, or a change, that is begun or not
 pub by_turn : {X Y : Type 0} (result : Result X Y) (s : ℕ) (task : Task) (old new : Lists)
     → OnOk result (Turns s task old.state new.state) → OnErr result (Stays s old.state new.state) → new.settings ≡ old.settings → new.rows ≡ old.rows →
     AreKept old → AreKept new
-by_turn (Ok x) s task old new ok err sets counts before = by_turning s task old new ok sets counts before
-by_turn (Err x) s task old new ok err sets counts before = by_turning s (task_of s old.state) old new err sets counts before
+by_turn (Ok x) s task old new ok err sets counts before = by_now old new ok sets counts before
+by_turn (Err x) s task old new ok err sets counts before = by_now old new err sets counts before
 
 pub by_join : {X Y : Type 0} (result : Result X Y) (name : List ℕ) (old new : Lists)
     → OnOk result (new.state.names ≡ old.state.names ++ name ∷ []) → new.state.past ≡ old.state.past → OnOk result
@@ -417,7 +379,7 @@ by_join {X} {Y} result name old new names past sets counts err before =
       go (Ok x) names sets err =
           subst (λ ns. IsKept ns old.state.past new.settings old.rows) (sym names)
           (subst (λ xs. IsKept (old.state.names ++ name ∷ []) old.state.past xs old.rows) (sym sets)
-          (kept_join old.state.names old.state.past old.settings old.rows before name))
+          (kept_join before name))
       go (Err x) names sets err =
           subst (λ ns. IsKept ns old.state.past new.settings old.rows) (sym err.0)
           (subst (λ xs. IsKept old.state.names old.state.past xs old.rows) (sym err.1) before)
@@ -428,52 +390,33 @@ pub by_change : (s : ℕ) (old new : Lists) (answer : Changed) → ((other : ℕ
     change × IsOfRow change)
     → Changes s old.state new.state answer → new.settings ≡ old.settings → new.rows ≡ old.rows + rows_entered answer (task_of s old.state) → AreKept old →
     AreKept new
-by_change s old new made.Went alone may changes sets counts kept = by_turning s (task_of s new.state) old new changes.turns sets (counts ∙ omega arith) kept
-by_change s old new made.Done alone may changes sets counts kept = by_turning s Idle old new changes.1 sets (counts ∙ omega arith) kept
-by_change s old new made.NoMemory alone may changes sets counts kept =
-    by_turning s (left_by (asked (task_of s old.state))) old new changes sets (counts ∙ omega arith) kept
+by_change s old new made.Went alone may changes sets counts kept = by_now old new changes.turns sets (counts ∙ omega arith) kept
+by_change s old new made.Done alone may changes sets counts kept = by_now old new changes.1 sets (counts ∙ omega arith) kept
+by_change s old new made.NoMemory alone may changes sets counts kept = by_now old new changes sets (counts ∙ omega arith) kept
 by_change s old new made.Entered alone may changes sets counts kept =
     go changes.change (may changes.change changes.asked_was) changes.now (counts ∙ ap (λ change. old.rows + rows_of_change change) changes.asked_was) where
       go : (change : Change) → MayChange Spells s change old.state.past × IsTabled (length (created old.state.past)) change × IsOfRow change
           → IsNow (events.Changed s change ∷ old.state.past) s (task_of s new.state) old.state.writer old.state new.state → new.rows ≡ old.rows + rows_of_change
           (Some change) → AreKept new
       go (Create schema) may now more = absurd may.2
-      go (Put table row) may now more =
-          by_now (events.Changed s (Put table row) ∷ old.state.past) s (task_of s new.state) old.state.writer old new old.settings (old.rows + 1) now sets more
-          (kept_put old.state.names old.state.past old.settings old.rows kept s table row may.0 may.1 alone)
-      go (Remove table key) may now more =
-          by_now (events.Changed s (Remove table key) ∷ old.state.past) s (task_of s new.state) old.state.writer old new old.settings old.rows now sets
-          (more ∙ omega arith)
-          (kept_remove old.state.names old.state.past old.settings old.rows kept s table key may.0 may.1 alone)
+      go (Put table row) may now more = by_now old new now sets more (kept_put kept s table row may.0 may.1 alone)
+      go (Remove table key) may now more = by_now old new now sets (more ∙ omega arith) (kept_remove kept s table key may.0 may.1 alone)
 
 -- the session's newest change is taken back by a step
 pub by_undo : (s : ℕ) (old new : Lists) (answer : Undone) → MayUndo Spells s (length (own s old.state.past) - 1) old.state.past
     → IsUndoable (length (own s old.state.past) - 1) (own s old.state.past)
     → TakesBack s (length (own s old.state.past) - 1) old.state new.state answer → new.settings ≡ old.settings → new.rows ≡ old.rows → AreKept old → AreKept new
-by_undo s old new undone.Went may undoable takes sets counts kept = by_turning s (task_of s new.state) old new takes.0 sets counts kept
-by_undo s old new undone.Undone may undoable takes sets counts kept =
-    by_now (events.Undone s (length (own s old.state.past) - 1) ∷ old.state.past) s Idle old.state.writer old new old.settings old.rows takes sets counts
-    (kept_undo old.state.names old.state.past old.settings old.rows kept s may undoable)
+by_undo s old new undone.Went may undoable takes sets counts kept = by_now old new takes.0 sets counts kept
+by_undo s old new undone.Undone may undoable takes sets counts kept = by_now old new takes sets counts (kept_undo kept s may undoable)
 
 -- the session's search makes a step
 pub by_search : (s table : ℕ) (plan : Plan) (reading : Reading) (old new : Lists) (answer : Searched)
     → Searches table plan reading s old.state new.state answer → new.settings ≡ old.settings → new.rows ≡ old.rows → AreKept old → AreKept new
-by_search s table plan reading old new searched.Went searches sets counts kept = by_turning s (task_of s old.state) old new searches sets counts kept
-by_search s table plan reading old new (searched.Found rows) searches sets counts kept = by_turning s Idle old new searches.0 sets counts kept
-by_search s table plan reading old new searched.NoMemory searches sets counts kept = by_turning s Idle old new searches sets counts kept
+by_search s table plan reading old new searched.Went searches sets counts kept = by_now old new searches sets counts kept
+by_search s table plan reading old new (searched.Found rows) searches sets counts kept = by_now old new searches.0 sets counts kept
+by_search s table plan reading old new searched.NoMemory searches sets counts kept = by_now old new searches sets counts kept
 
 -- an item ends, after what it set was set
-pub ends_after : (s : ℕ) (reply : Reply) (old mid new : State) → Stays s old mid → Adds (events.Ended s (started s mid.past) reply) s mid new
-    → Adds (events.Ended s (started s old.past) reply) s old new
-ends_after s reply old mid new stays adds =
-    record {
-      names_are = adds.names_are ∙ stays.names_are;
-      past_is = adds.past_is ∙ ap (λ h. events.Ended s (started s h) reply ∷ h) stays.past_is;
-      writer_is = adds.writer_is ∙ stays.writer_is;
-      task_is = adds.task_is ∙ stays.task_is;
-      others = λ t ne. adds.others t ne ∙ stays.others t ne;
-    }
-
 pub by_setting : (s : ℕ) (stmt : Stmt) (x : Setting) (old mid new : Lists) → s < length old.state.names → MayReply s replies.Done old.state.past
     → Asks Spells s stmt old.state.past
     → x ≡ set_by stmt (length (own s old.state.past)) (is_some (level s old.state.past)) (get_or old.settings s at_first)
@@ -481,9 +424,8 @@ pub by_setting : (s : ℕ) (stmt : Stmt) (x : Setting) (old mid new : Lists) →
     → Adds (events.Ended s (started s mid.state.past) replies.Done) s mid.state new.state → new.settings ≡ mid.settings → new.rows ≡ mid.rows + 0 → AreKept
     old → AreKept new
 by_setting s stmt x old mid new joined may asks is stays sets counts adds later_sets later_counts kept =
-    by_adding (events.Ended s (started s old.state.past) replies.Done) s old new (set old.settings s x) old.rows
-    (ends_after s replies.Done old.state mid.state new.state stays adds) (later_sets ∙ sets) (later_counts ∙ (omega arith ∙ counts))
-    (kept_done old.state.names old.state.past old.settings old.rows kept s stmt x joined may asks is)
+    by_now old new (then_now stays (λ h. events.Ended s (started s h) replies.Done ∷ h) (λ w. w) adds) (later_sets ∙ sets)
+    (later_counts ∙ (omega arith ∙ counts)) (kept_done kept s stmt x joined may asks is)
 
 -- a statement that keeps no savepoint sets the same with and without a transaction
 pub sets_quietly : (stmt : Stmt) (s made : ℕ) (h : List Event) (x : Setting) → SetsQuietly stmt s h
@@ -510,13 +452,7 @@ pub now_locked : (s : ℕ) (l : Level) (told : Option ℕ) (old one two : State)
     → IfNone told (IsNow one.past s (task_of s one) (Some s) one two) → IsNow (begun s l old.past) s Idle (Some s) old two
 now_locked s l told old one two free idle adds is locks =
     let locked = if_none told _ (is ∙ ap (λ w. writer_without w s) (adds.writer_is ∙ free)) locks in
-    then_locks s (begun s l old.past) Idle None old one two (record {
-      names_are = adds.names_are;
-      past_is = adds.past_is;
-      writer_is = adds.writer_is ∙ free;
-      task_is = adds.task_is ∙ idle;
-      others = adds.others;
-    }) locked
+    subst (λ (task : Task). IsNow (begun s l old.past) s task (Some s) old two) idle (then_now adds (λ h. h) (λ w. Some s) locked)
 
 -- what is set behind
 sets_after : (s : ℕ) (old mid new : Lists) → mid.settings ≡ set old.settings s (at_begin (get_or old.settings s at_first))
@@ -530,33 +466,21 @@ module _ (s : ℕ) (l : Level) (schema : Schema) (old two three new : Lists) (ke
   pub now_made : Adds (events.Changed s (Create schema)) s two.state three.state → Closes (events.Committed s) s three.state new.state
       → IsNow (table_made s l schema old.state.past) s Idle None old.state new.state
   now_made adds closes =
-      let created_now = then_adds s (begun s l old.state.past) Idle (Some s) old.state two.state three.state locked (events.Changed s (Create schema)) adds in
+      let created_now = then_now locked (λ h. events.Changed s (Create schema) ∷ h) (λ w. w) adds in
       subst (λ w. IsNow (table_made s l schema old.state.past) s Idle w old.state new.state) (writer_gone s)
-      (then_closes s (created_by s l schema old.state.past) Idle (Some s) old.state three.state new.state created_now (events.Committed s) closes)
+      (then_now created_now (λ h. events.Committed s ∷ h) (λ w. writer_without w s) closes)
 
   pub by_made : length (created old.state.past) < MOST_TABLES → Adds (events.Changed s (Create schema)) s two.state three.state
       → Closes (events.Committed s) s three.state new.state → AreKept new
   by_made room adds closes =
-      by_now (table_made s l schema old.state.past) s Idle None old new (set_after old.settings s) old.rows (now_made adds closes)
-      (sets_after s old three new sets ends) (still ∙ counts)
-      (kept_made old.state.names old.state.past old.settings old.rows kept s l schema joined may room)
+      by_now old new (now_made adds closes) (sets_after s old three new sets ends) (still ∙ counts) (kept_made kept s l schema joined may room)
 
   pub now_none_made : Stays s two.state three.state → Closes (events.RolledBack s) s three.state new.state
       → IsNow (none_made s l old.state.past) s Idle None old.state new.state
   now_none_made stays closes =
-      let same_now : IsNow (begun s l old.state.past) s Idle (Some s) old.state three.state =
-      record {
-        names_are = stays.names_are ∙ locked.names_are;
-        past_is = stays.past_is ∙ locked.past_is;
-        writer_is = stays.writer_is ∙ locked.writer_is;
-        task_is = stays.task_is ∙ locked.task_is;
-        others = λ t differ. stays.others t differ ∙ locked.others t differ;
-      } in
       subst (λ w. IsNow (none_made s l old.state.past) s Idle w old.state new.state) (writer_gone s)
-      (then_closes s (begun s l old.state.past) Idle (Some s) old.state three.state new.state same_now (events.RolledBack s) closes)
+      (then_now (then_now locked (λ h. h) (λ w. w) stays) (λ h. events.RolledBack s ∷ h) (λ w. writer_without w s) closes)
 
   pub by_none_made : Stays s two.state three.state → Closes (events.RolledBack s) s three.state new.state → AreKept new
   by_none_made stays closes =
-      by_now (none_made s l old.state.past) s Idle None old new (set_after old.settings s) old.rows (now_none_made stays closes)
-      (sets_after s old three new sets ends) (still ∙ counts)
-      (kept_none_made old.state.names old.state.past old.settings old.rows kept s l schema joined may)
+      by_now old new (now_none_made stays closes) (sets_after s old three new sets ends) (still ∙ counts) (kept_none_made kept s l schema joined may)

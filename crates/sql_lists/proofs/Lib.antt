@@ -1,6 +1,6 @@
 pub mod Staying
 pub mod Moving
 mod Settings
-mod Standing
+pub mod Standing
 mod Ordered
 mod Keeping

@@ -8,10 +8,8 @@ use Rattle.std.proofs.lemmas.List.{length-drop}
 use Rattle.inno_model.specs.declared.event.Event.{Event}
 use Rattle.inno_model.specs.declared.event.Event.TheVariants as events
 use Rattle.inno_model.specs.Past.{is_of, own, begins}
-use Rattle.inno_types.specs.{declared.lock.Level.Level, declared.stmt.Stmt.Stmt, declared.value.Schema.Schema}
 use Rattle.inno_db.specs.declared.change.Change.TheVariants.{Create}
 use Rattle.sql_plan.specs.declared.choice.Plan.{Plan}
-use Rattle.shared_lists.specs.{declared.answers.Reading.Reading, declared.answers.Searched.Searched}
 use Rattle.shared_lists.specs.declared.answers.Searched.TheVariants as searched
 use Rattle.shared_lists.specs.declared.answers.Changed.{Changed}
 use Rattle.shared_lists.specs.declared.answers.Changed.TheVariants as made
@@ -22,10 +20,12 @@ use Rattle.shared_lists.specs.State.{State, IsNow, Adds, Closes, Turns, Stays, t
 use Rattle.shared_lists.specs.Steps.{Searches, GoesOn, Enters, Changes, TakesBack}
 use Rattle.law_past_agreement.specs.Order.{IsNoOthers}
 use Rattle.sql_grammar.specs.Grammar.{Spells}
-use Rattle.sql_history.specs.{Legal.Takes, Legal.IsCreation, Counts.last_moment}
 use Rattle.sql_lists.specs.Steps.{Adding, IsEntryOf, MayWriteAlone, AsksToWrite, Moves, StaysRunning, Intends, is_apart, changes_rows, TellsOne}
-use Rattle.sql_lists.specs.{Tables.table_made, Tables.none_made, Going.left, Going.to_close, Going.to_roll_back, Going.to_search}
 use Rattle.inno_types.specs.Order.{IsBelow}
+use Rattle.inno_types.specs.{declared.lock.Level.Level, declared.stmt.Stmt.Stmt, declared.value.Schema.Schema}
+use Rattle.shared_lists.specs.{declared.answers.Reading.Reading, declared.answers.Searched.Searched}
+use Rattle.sql_history.specs.{Legal.Takes, Legal.IsCreation, Counts.last_moment}
+use Rattle.sql_lists.specs.{Tables.table_made, Tables.none_made, Going.left, Going.to_close, Going.to_roll_back, Going.to_search}
 
 -- ---- how the past goes on
 
@@ -55,19 +55,25 @@ adding_at_most_one t old new adding = elim adding [ inl stays ↦ adding_none t 
 
 -- ---- steps that add nothing
 
+-- a step that adds these entries
+moves_now : (t : ℕ) (entries : List Event) {task : Task} {writer : Option ℕ} (old new : State) → IsNow (entries ++ old.past) t task writer old new
+    → AllByRecursion (IsEntryOf t new.writer) entries → TellsOne t old entries → AllByRecursion (λ e. is_apart e ≡ false) entries
+    → last_moment (entries ++ old.past) ≡ last_moment old.past → ((s : ℕ) → s ≢ t → old.writer ≡ Some s → new.writer ≡ Some s)
+    → (new.writer ≡ Some t → (old.writer ≡ Some t) ⊎ AsksToWrite t old.past) → Moves t old new
+moves_now t entries old new now each tells unacked moments stays may = record {
+  names_stay = now.names_are;
+  adding = record { entries = entries; past_is = now.past_is; each = each };
+  tells = tells;
+  unacked = unacked;
+  acks_none = ap last_moment now.past_is ∙ moments;
+  writer_stays = stays;
+  may_write = may;
+  tasks_stay = now.others;
+}
+
 pub moves_turns : (t : ℕ) (task : Task) (old new : State) → Turns t task old new → Moves t old new
-unfolding adding_none
 moves_turns t task old new turns =
-    record {
-      names_stay = turns.names_are;
-      adding = adding_none t old new turns.past_is;
-      tells = tt;
-      unacked = tt;
-      acks_none = ap last_moment turns.past_is;
-      writer_stays = λ s differ held. turns.writer_is ∙ held;
-      may_write = λ mine. inl (sym turns.writer_is ∙ mine);
-      tasks_stay = turns.others;
-    }
+    moves_now t [] old new turns tt tt tt refl (λ s differ held. turns.writer_is ∙ held) (λ mine. inl (sym turns.writer_is ∙ mine))
 
 pub moves_stays : (t : ℕ) (old new : State) → Stays t old new → Moves t old new
 moves_stays t old new stays = moves_turns t (task_of t old) old new stays
@@ -89,18 +95,9 @@ carried P t old new stays before =
 -- the session takes the right to write
 pub moves_locked : (t : ℕ) (old new : State) → AsksToWrite t old.past → writer_without old.writer t ≡ None
     → IsNow old.past t (task_of t old) (Some t) old new → Moves t old new
-unfolding adding_none
 moves_locked t old new asks free now =
-    record {
-      names_stay = now.names_are;
-      adding = adding_none t old new now.past_is;
-      tells = tt;
-      unacked = tt;
-      acks_none = ap last_moment now.past_is;
-      writer_stays = λ s differ held. absurd (still_held s differ (ap (λ w. writer_without w t) (sym held) ∙ free));
-      may_write = λ mine. inr asks;
-      tasks_stay = now.others;
-    } where
+    moves_now t [] old new now tt tt tt refl
+    (λ s differ held. absurd (still_held s differ (ap (λ w. writer_without w t) (sym held) ∙ free))) (λ mine. inr asks) where
       still_held : (s : ℕ) → s ≢ t → writer_without (Some s) t ≡ None → ⊥
       still_held s differ none = elim (eqb_tells s t) [ inl same ↦ differ same.1 | inr other ↦ (let e : Some s ≡ None = sym (rw other.0 refl) ∙ none in cc) ]
 
@@ -158,18 +155,10 @@ spares_moment e past unacked = refl
 -- whatever becomes of the session's task
 pub moves_entry : (t : ℕ) (e : Event) (task : Task) (old new : State) → is_of t e ≡ true → is_apart e ≡ false
     → (changes_rows e ≡ true → Foretold t old e) → IsNow (e ∷ old.past) t task old.writer old new → Moves t old new
-unfolding adding_one
 moves_entry t e task old new mine unacked foretold now =
-    record {
-      names_stay = now.names_are;
-      adding = adding_one t e old new (of_own t e mine) now.past_is (λ changes. writes_alone t new.writer (now.writer_is ∙ may_tell t old e foretold changes));
-      tells = one_told t old e foretold;
-      unacked = (unacked, tt);
-      acks_none = ap last_moment now.past_is ∙ spares_moment e old.past unacked;
-      writer_stays = λ s differ held. now.writer_is ∙ held;
-      may_write = λ mine. inl (sym now.writer_is ∙ mine);
-      tasks_stay = now.others;
-    }
+    moves_now t (e ∷ []) old new now
+    ((of_own t e mine, λ changes. writes_alone t new.writer (now.writer_is ∙ may_tell t old e foretold changes)), tt) (one_told t old e foretold) (unacked, tt)
+    (spares_moment e old.past unacked) (λ s differ held. now.writer_is ∙ held) (λ mine. inl (sym now.writer_is ∙ mine))
 
 pub moves_adds : (t : ℕ) (e : Event) (old new : State) → is_of t e ≡ true → is_apart e ≡ false
     → (changes_rows e ≡ true → Foretold t old e) → Adds e t old new → Moves t old new
@@ -188,51 +177,24 @@ none_left (Some w) t is = elim (eqb_tells w t) [
 
 pub moves_closes : (t : ℕ) (e : Event) (old new : State) → is_of t e ≡ true → is_apart e ≡ false → changes_rows e ≡ false
     → Closes e t old new → Moves t old new
-unfolding adding_one
 moves_closes t e old new mine unacked spares closes =
-    record {
-      names_stay = closes.names_are;
-      adding = adding_one t e old new (of_own t e mine) closes.past_is (λ changes. absurd (false≢true (sym spares ∙ changes)));
-      tells = one_told t old e (λ changes. absurd (false≢true (sym spares ∙ changes)));
-      unacked = (unacked, tt);
-      acks_none = ap last_moment closes.past_is ∙ spares_moment e old.past unacked;
-      writer_stays = λ s differ held. closes.writer_is ∙ still_another old.writer t s differ held;
-      may_write = λ mine. absurd (none_left old.writer t (sym closes.writer_is ∙ mine));
-      tasks_stay = closes.others;
-    }
+    moves_now t (e ∷ []) old new closes ((of_own t e mine, λ changes. absurd (false≢true (sym spares ∙ changes))), tt)
+    (one_told t old e (λ changes. absurd (false≢true (sym spares ∙ changes)))) (unacked, tt) (spares_moment e old.past unacked)
+    (λ s differ held. closes.writer_is ∙ still_another old.writer t s differ held)
+    (λ mine. absurd (none_left old.writer t (sym closes.writer_is ∙ mine)))
 
 -- ---- several calls of one step
 
-module _ (s : ℕ) (past : List Event) (task : Task) (writer : Option ℕ) (old mid new : State) (first : IsNow past s task writer old mid) where
-  pub then_adds : (e : Event) → Adds e s mid new → IsNow (e ∷ past) s task writer old new
-  then_adds e adds =
-      record {
-        names_are = adds.names_are ∙ first.names_are;
-        past_is = adds.past_is ∙ ap (λ h. e ∷ h) first.past_is;
-        writer_is = adds.writer_is ∙ first.writer_is;
-        task_is = adds.task_is ∙ first.task_is;
-        others = λ t differ. adds.others t differ ∙ first.others t differ;
-      }
-
-  pub then_closes : (e : Event) → Closes e s mid new → IsNow (e ∷ past) s task (writer_without writer s) old new
-  then_closes e closes =
-      record {
-        names_are = closes.names_are ∙ first.names_are;
-        past_is = closes.past_is ∙ ap (λ h. e ∷ h) first.past_is;
-        writer_is = closes.writer_is ∙ ap (λ w. writer_without w s) first.writer_is;
-        task_is = closes.task_is ∙ first.task_is;
-        others = λ t differ. closes.others t differ ∙ first.others t differ;
-      }
-
-  pub then_locks : IsNow mid.past s (task_of s mid) (Some s) mid new → IsNow past s task (Some s) old new
-  then_locks locks =
-      record {
-        names_are = locks.names_are ∙ first.names_are;
-        past_is = locks.past_is ∙ first.past_is;
-        writer_is = locks.writer_is;
-        task_is = locks.task_is ∙ first.task_is;
-        others = λ t differ. locks.others t differ ∙ first.others t differ;
-      }
+pub then_now : {s : ℕ} {past : List Event} {task : Task} {writer : Option ℕ} {old mid new : State} → IsNow past s task writer old mid
+    → (f : List Event → List Event) (g : Option ℕ → Option ℕ) → IsNow (f mid.past) s (task_of s mid) (g mid.writer) mid new
+    → IsNow (f past) s task (g writer) old new
+then_now first f g now = record {
+  names_are = now.names_are ∙ first.names_are;
+  past_is = now.past_is ∙ ap f first.past_is;
+  writer_is = now.writer_is ∙ ap g first.writer_is;
+  task_is = now.task_is ∙ first.task_is;
+  others = λ t differ. now.others t differ ∙ first.others t differ;
+}
 
 pub writer_gone : (s : ℕ) → writer_without (Some s) s ≡ None
 writer_gone s = elim (eqb_tells s s) [ inl same ↦ rw same.0 refl | inr differ ↦ absurd (differ.1 refl) ]
@@ -250,43 +212,20 @@ module _ (t : ℕ) (l : Level) (old new : State) (free : old.writer ≡ None) wh
   moves_made asks schema now =
       let mine : (is_of t (events.Committed t) ≡ true) × (is_of t (events.Changed t (Create schema)) ≡ true)
       × (is_of t (events.Begin t (begins old.past + 1) l) ≡ true) = (grind (arith, nat_tests), grind (arith, nat_tests), grind (arith, nat_tests)) in
-      record {
-        names_stay = now.names_are;
-        adding = record {
-          entries = events.Committed t ∷ (events.Changed t (Create schema) ∷ (events.Begin t (begins old.past + 1) l ∷ []));
-          past_is = now.past_is;
-          each = (
-            (mine.0, λ changes. absurd (false≢true changes)),
-            ((mine.1, λ changes. nobody_else t new.writer now.writer_is), ((mine.2, λ changes. absurd (false≢true changes)), tt)),
-          );
-        };
-        tells = (inr asks, (refl, tt));
-        unacked = (refl, (refl, (refl, tt)));
-        acks_none = ap last_moment now.past_is;
-        writer_stays = λ s differ held. absurd (no_writer s old.writer free held);
-        may_write = λ mine. absurd (no_writer t new.writer now.writer_is mine);
-        tasks_stay = now.others;
-      }
+      moves_now t (events.Committed t ∷ (events.Changed t (Create schema) ∷ (events.Begin t (begins old.past + 1) l ∷ []))) old new now (
+        (mine.0, λ changes. absurd (false≢true changes)),
+        ((mine.1, λ changes. nobody_else t new.writer now.writer_is), ((mine.2, λ changes. absurd (false≢true changes)), tt)),
+      ) (inr asks, (refl, tt)) (refl, (refl, (refl, tt))) refl (λ s differ held. absurd (no_writer s old.writer free held))
+      (λ mine. absurd (no_writer t new.writer now.writer_is mine))
 
   -- or none is
   pub moves_none_made : IsNow (none_made t l old.past) t Idle None old new → Moves t old new
   moves_none_made now =
       let mine : (is_of t (events.RolledBack t) ≡ true) × (is_of t (events.Begin t (begins old.past + 1) l) ≡ true) =
       (grind (arith, nat_tests), grind (arith, nat_tests)) in
-      record {
-        names_stay = now.names_are;
-        adding = record {
-          entries = events.RolledBack t ∷ (events.Begin t (begins old.past + 1) l ∷ []);
-          past_is = now.past_is;
-          each = ((mine.0, λ changes. absurd (false≢true changes)), ((mine.1, λ changes. absurd (false≢true changes)), tt));
-        };
-        tells = tt;
-        unacked = (refl, (refl, tt));
-        acks_none = ap last_moment now.past_is;
-        writer_stays = λ s differ held. absurd (no_writer s old.writer free held);
-        may_write = λ mine. absurd (no_writer t new.writer now.writer_is mine);
-        tasks_stay = now.others;
-      }
+      moves_now t (events.RolledBack t ∷ (events.Begin t (begins old.past + 1) l ∷ [])) old new now
+      ((mine.0, λ changes. absurd (false≢true changes)), ((mine.1, λ changes. absurd (false≢true changes)), tt)) tt (refl, (refl, tt)) refl
+      (λ s differ held. absurd (no_writer s old.writer free held)) (λ mine. absurd (no_writer t new.writer now.writer_is mine))
 
 -- ---- the steps of a session's task
 

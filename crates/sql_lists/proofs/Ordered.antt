@@ -1,5 +1,5 @@
 -- The changes that a session sees of the latest rows are each of a table that an earlier one made, as entries come.
-use Rattle.std.proofs.Common.{◌≡◌, ◌≢◌, ℕ, ◌+◌, ◌-◌, ◌≤◌, true, false, cond, eqb, List, [], ◌∷◌, ◌++◌, length, drop, refl, sym, subst, ◌⊎◌, inl, inr, arith}
+use Rattle.std.proofs.Common.{◌≡◌, ◌≢◌, ℕ, ◌+◌, ◌-◌, ◌≤◌, true, false, cond, eqb, List, [], ◌∷◌, ◌++◌, length, sym, subst, ◌⊎◌, inl, inr, arith}
 use Rattle.std.proofs.lemmas.Bool.Decides.{eqb_tells}
 use Rattle.std.proofs.lemmas.List.{length-append}
 use Rattle.inno_types.specs.declared.value.Schema.{Schema}
@@ -10,6 +10,7 @@ use Rattle.inno_model.specs.declared.event.Event.TheVariants as events
 use Rattle.inno_model.specs.Past.{own, oldest, commits, committed, opening}
 use Rattle.law_past_agreement.specs.Order.{IsTabled, IsUndoable}
 use Rattle.sql_lists.specs.Kept.{made, AreInOrder, IsInOrder}
+use Rattle.sql_lists.proofs.Standing.{oldest_one}
 
 tabled_more : (m n : ℕ) → m ≤ n → (change : Change) → IsTabled m change → IsTabled n change
 tabled_more m n le (Create schema) is = tt
@@ -49,9 +50,6 @@ ordered_changed t change h tabled is s = elim (eqb_tells t s) [
   | inr differ ↦ rw differ.0 (is s)
 ]
 
-one_dropped : (n : ℕ) (change : Change) (before : List Change) → n ≡ 1 → drop n (change ∷ before) ≡ before
-one_dropped n change before one = subst (λ k. drop k (change ∷ before) ≡ before) (sym one) refl
-
 -- the newest change is taken back
 pub ordered_undone : (t keep : ℕ) (h : List Event) → IsUndoable keep (own t h) → IsInOrder h → IsInOrder (events.Undone t keep ∷ h)
 ordered_undone t keep h undoable is s = elim (eqb_tells t s) [
@@ -62,8 +60,8 @@ ordered_undone t keep h undoable is s = elim (eqb_tells t s) [
       → AreInOrder (opening h).schemas (oldest keep changes ++ committed (commits h) h)
   go [] undo ordered = absurd undo
   go (change ∷ before) undo ordered =
-      subst (λ (changes : List Change). AreInOrder (opening h).schemas (changes ++ committed (commits h) h))
-      (sym (one_dropped (length (change ∷ before) - keep) change before (omega (arith, undo.1)))) ordered.1
+      subst (λ (changes : List Change). AreInOrder (opening h).schemas (changes ++ committed (commits h) h)) (sym (oldest_one change before keep undo.1))
+      ordered.1
 
 -- a transaction is committed; committed_is of this file says what is committed then
 pub ordered_committed : (t : ℕ) (h : List Event) → committed (commits h + 1) (events.Committed t ∷ h) ≡ own t h ++ committed (commits h) h → IsInOrder h

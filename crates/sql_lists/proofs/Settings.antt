@@ -3,7 +3,6 @@ use Rattle.std.proofs.Common.{◌≡◌, ◌≢◌, ℕ, ◌<◌, Bool, true, fa
 use Rattle.std.proofs.Common.{arith}
 use Rattle.std.proofs.lemmas.Bool.Decides.{nat_tests, eqb_tells}
 use Rattle.std.proofs.lemmas.List.{get_or-set_same, get_or-set_other}
-use Rattle.inno_types.specs.{declared.stmt.Stmt.Stmt, declared.reply.Reply.Reply}
 use Rattle.inno_types.specs.declared.reply.Reply.TheVariants as replies
 use Rattle.inno_types.specs.declared.reply.Item.TheVariants as items
 use Rattle.inno_types.specs.declared.lock.Level.{Level}
@@ -15,6 +14,7 @@ use Rattle.sql_lists.specs.Kept.{is_of_signal}
 use Rattle.sql_history.specs.Items.{Asks}
 use Rattle.sql_history.specs.Settings.{Setting, HasSet, SetByItem, at_first, at_begin, at_end, set_by}
 use Rattle.std.specs.Prelude.{is_some}
+use Rattle.inno_types.specs.{declared.stmt.Stmt.Stmt, declared.reply.Reply.Reply}
 
 abbrev pub AllSet : List Event → List Setting → Type 0
 AllSet h settings = (u : ℕ) → HasSet Spells u h (get_or settings u at_first)

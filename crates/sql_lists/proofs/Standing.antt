@@ -6,8 +6,6 @@ use Rattle.std.proofs.lemmas.Bool.{false≢true}
 use Rattle.std.proofs.lemmas.List.{append-nil, append_assoc, length-append}
 use Rattle.std.specs.List.{list_any}
 use Rattle.inno_types.specs.declared.value.Schema.{Schema}
-use Rattle.inno_db.specs.{Database.Database, declared.change.Change.Change, declared.change.Change.TheVariants.Create, declared.change.Change.TheVariants.Put}
-use Rattle.inno_db.specs.{declared.change.Change.TheVariants.Remove, declared.limits.TheConstants.MOST_TABLES}
 use Rattle.inno_model.specs.declared.event.Event.{Event}
 use Rattle.inno_model.specs.declared.event.Event.TheVariants as events
 use Rattle.inno_model.specs.Past.{own, oldest, commits, committed, opening, changed}
@@ -15,6 +13,8 @@ use Rattle.sql_history.specs.Statements.{schemas_now}
 use Rattle.law_past_agreement.specs.Order.{created, is_creation, IsUndoable}
 use Rattle.sql_lists.specs.Kept.{AreStanding, made}
 use Rattle.sql_lists.proofs.Staying.{committed_more}
+use Rattle.inno_db.specs.{Database.Database, declared.change.Change.Change, declared.change.Change.TheVariants.Create, declared.change.Change.TheVariants.Put}
+use Rattle.inno_db.specs.{declared.change.Change.TheVariants.Remove, declared.limits.TheConstants.MOST_TABLES}
 
 -- the tables of a database after changes
 pub schemas_after : (db : Database) (changes : List Change) → (changed db changes).schemas ≡ db.schemas ++ made changes
@@ -93,27 +93,25 @@ own_gone false changes none = refl
 none_at : (t u : ℕ) (h : List Event) → own t h ≡ [] → eqb t u ≡ true → own u h ≡ []
 none_at t u h none is = elim (eqb_tells t u) [ inl same ↦ subst (λ v. own v h ≡ []) same.1 none | inr differ ↦ absurd (false≢true (sym differ.0 ∙ is)) ]
 
+stands_gone : (t : ℕ) (h : List Event) → own t h ≡ [] → (e : Event) → ((u : ℕ) → own u (e ∷ h) ≡ cond (eqb t u) [] (own u h))
+    → created (e ∷ h) ≡ created h → ((s : ℕ) → schemas_now s (e ∷ h) ≡ (opening h).schemas ++ (made (committed (commits h) h) ++ made (own s (e ∷ h))))
+    → AreStanding h → AreStanding (e ∷ h)
+stands_gone t h none e is tables now stands =
+    let own_is : (u : ℕ) → own u (e ∷ h) ≡ own u h = λ u. is u ∙ own_gone (eqb t u) (own u h) (none_at t u h none) in
+    stands_same h (e ∷ h) (λ u. ap (list_any is_creation) (own_is u)) tables
+    (λ s. now s ∙ (ap (λ changes. (opening h).schemas ++ (made (committed (commits h) h) ++ made changes)) (own_is s) ∙ sym (now_is s h))) stands
+
 pub stands_begun : (t n : ℕ) (l : _) (h : List Event) → own t h ≡ [] → AreStanding h → AreStanding (events.Begin t n l ∷ h)
-stands_begun t n l h none stands =
-    let own_is : (u : ℕ) → own u (events.Begin t n l ∷ h) ≡ own u h = λ u. own_gone (eqb t u) (own u h) (none_at t u h none) in
-    stands_same h (events.Begin t n l ∷ h) (λ u. ap (list_any is_creation) (own_is u)) refl
-    (λ s. now_is s (events.Begin t n l ∷ h) ∙
-    (ap (λ changes. (opening h).schemas ++ (made (committed (commits h) h) ++ made changes)) (own_is s) ∙ sym (now_is s h)))
-    stands
+stands_begun t n l h none = stands_gone t h none (events.Begin t n l) (λ u. refl) refl (λ s. now_is s (events.Begin t n l ∷ h))
 
 pub stands_rolled_back : (t : ℕ) (h : List Event) → own t h ≡ [] → AreStanding h → AreStanding (events.RolledBack t ∷ h)
-stands_rolled_back t h none stands =
-    let own_is : (u : ℕ) → own u (events.RolledBack t ∷ h) ≡ own u h = λ u. own_gone (eqb t u) (own u h) (none_at t u h none) in
-    stands_same h (events.RolledBack t ∷ h) (λ u. ap (list_any is_creation) (own_is u)) refl
-    (λ s. now_is s (events.RolledBack t ∷ h) ∙
-    (ap (λ changes. (opening h).schemas ++ (made (committed (commits h) h) ++ made changes)) (own_is s) ∙ sym (now_is s h)))
-    stands
+stands_rolled_back t h none = stands_gone t h none (events.RolledBack t) (λ u. refl) refl (λ s. now_is s (events.RolledBack t ∷ h))
 
 -- a change of a row is put back
 dropped_one : (n : ℕ) (change : Change) (before : List Change) → n ≡ 1 → drop n (change ∷ before) ≡ before
 dropped_one n change before is = rw is refl
 
-oldest_one : (change : Change) (before : List Change) (keep : ℕ) → length before ≡ keep → oldest keep (change ∷ before) ≡ before
+pub oldest_one : (change : Change) (before : List Change) (keep : ℕ) → length before ≡ keep → oldest keep (change ∷ before) ≡ before
 oldest_one change before keep is = dropped_one (length (change ∷ before) - keep) change before (omega (arith, is))
 
 undone_is : (keep : ℕ) (changes : List Change) → IsUndoable keep changes

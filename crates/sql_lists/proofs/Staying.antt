@@ -13,7 +13,7 @@ use Rattle.sql_history.specs.Legal.{Takes}
 use Rattle.law_past_agreement.specs.Order.{IsNoOthers}
 
 -- an entry of one session is no other's
-own_of : (e : Event) (t u : ℕ) → is_of t e ≡ true → u ≢ t → is_of u e ≡ false
+pub own_of : (e : Event) (t u : ℕ) → is_of t e ≡ true → u ≢ t → is_of u e ≡ false
 own_of e t u mine differ = grind (arith, nat_tests, mine, differ)
 
 pub other_of : (e : Event) (t u : ℕ) → IsNoOthers t e → u ≢ t → is_of u e ≡ false

@@ -1,5 +1,5 @@
 -- A step that went, or that found no memory, brings its statement nearer to its end, by a list of numbers that gets smaller.
-use Rattle.std.specs.Prelude.{◌≡◌, ℕ, ◌<◌, ◌⊎◌, if◌then◌else◌, is_some, List, [], ◌∷◌, length}
+use Rattle.std.specs.Prelude.{ℕ, if◌then◌else◌, is_some, List, [], ◌∷◌, length}
 use Rattle.inno_model.specs.{declared.event.Event.Event, Past.level, Past.own, Past.view_of}
 use Rattle.shared_lists.specs.{Tasks.undo_to_go, State.State, State.task_of, State.places_before}
 use Rattle.inno_types.specs.Order.{IsBelow}

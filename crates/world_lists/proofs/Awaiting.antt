@@ -5,19 +5,19 @@ use Rattle.std.proofs.lemmas.Bool.Decides.{eqb_tells}
 use Rattle.inno_types.specs.declared.value.Schema.{Schema}
 use Rattle.entries.specs.Index.{Index}
 use Rattle.row_versions.specs.Chains.{Chains}
-use Rattle.world.specs.{State.WorldState, declared.undo_room.UndoRoom.UndoRoom}
-use Rattle.row_changes.specs.{declared.row_change.RowChange.RowChange, declared.row_change.RowChange.TheVariants.Record}
-use Rattle.row_changes.specs.{declared.row_change.RowChange.TheVariants.Keys, declared.reached.Reached.Reached}
 use Rattle.row_changes.specs.declared.reached.Reached.TheVariants as reached
-use Rattle.row_changes.specs.{Awaited.AwaitsIn, Awaited.IsOfTable, Rows.IsChangingRow, Rows.ChangesRow, Rows.table_of}
 use Rattle.undo_apply.specs.declared.work_room.WorkRoom.{WorkRoom}
 use Rattle.shared_lists.specs.State.{writer_without}
-use Rattle.desks.specs.{declared.desk.Desk.Desk, declared.desk.Doing.Doing, declared.desk.Doing.TheVariants.Nothing, Desks.doing_at, Desks.with_doing}
-use Rattle.desks.specs.{Holding.IsHeld}
-use Rattle.law_held_steps.specs.{Moving.MovesPlaces, Leaving.LeavesIndexes, Leaving.LeavesTable, Making.doing_after}
 use Rattle.law_held_steps.proofs.Desks.{doing_elsewhere}
 use Rattle.world_lists.specs.Between.{IsKept, AwaitsWriter, IsAwaitedFor, AwaitsOnly, AwaitsNobody, can_await, table_at}
 use Rattle.world_lists.specs.Parts.{StepsChange, LeavesIfOver}
+use Rattle.world.specs.{State.WorldState, declared.undo_room.UndoRoom.UndoRoom}
+use Rattle.row_changes.specs.{declared.row_change.RowChange.RowChange, declared.row_change.RowChange.TheVariants.Record}
+use Rattle.row_changes.specs.{declared.row_change.RowChange.TheVariants.Keys, declared.reached.Reached.Reached}
+use Rattle.row_changes.specs.{Awaited.AwaitsIn, Awaited.IsOfTable, Rows.IsChangingRow, Rows.ChangesRow, Rows.table_of}
+use Rattle.desks.specs.{declared.desk.Desk.Desk, declared.desk.Doing.Doing, declared.desk.Doing.TheVariants.Nothing, Desks.doing_at, Desks.with_doing}
+use Rattle.desks.specs.{Holding.IsHeld}
+use Rattle.law_held_steps.specs.{Moving.MovesPlaces, Leaving.LeavesIndexes, Leaving.LeavesTable, Making.doing_after}
 
 -- nobody is awaited who wasn't before, and the tables are the same
 pub record AwaitsNoMore (old new : WorldState) : Type 0 where

@@ -6,30 +6,28 @@ use Rattle.std.proofs.lemmas.List.{get_or-set_other}
 use Rattle.std.proofs.lemmas.Option.{slice_get-get_or}
 use Rattle.std.specs.Prelude.{slice_set, slice_index_or, is_some, slice_get, option_map}
 use Rattle.inno_types.specs.declared.reply.Item.{Item}
-use Rattle.inno_model.specs.{declared.event.Event.Event, declared.event.Event.TheVariants.Acked}
 use Rattle.inno_model.specs.Past.{own, level, txn, view_of, started, under_way, of_item, IsOpen, awaits_ack}
 use Rattle.sql_history.specs.Settings.{Setting, at_first}
-use Rattle.law_past_agreement.specs.{Order.MayCome, Rows.place_in, Agreement.IsIdle, Agreement.IsWorkOf, Agreement.ViewAgrees}
 use Rattle.store_api.specs.declared.answers.Standing.{Standing}
 use Rattle.world.specs.State.{WorldState, Session, Work, IsSession, HasWork, standing_of, txn_of, Seen, own_of, level_of}
 use Rattle.world.specs.declared.undo_room.UndoRoom.{UndoRoom}
 use Rattle.undo_apply.specs.declared.work_room.WorkRoom.{WorkRoom}
 use Rattle.row_changes.specs.Records.{IsListed}
 use Rattle.law_logged_changes.proofs.Listed.{listed_of}
+use Rattle.world_lists.specs.Between.{IsKept}
+use Rattle.law_world_agreement.specs.Agreement.{sight_of, work_at}
+use Rattle.inno_model.specs.{declared.event.Event.Event, declared.event.Event.TheVariants.Acked}
+use Rattle.law_past_agreement.specs.{Order.MayCome, Rows.place_in, Agreement.IsIdle, Agreement.IsWorkOf, Agreement.ViewAgrees}
 use Rattle.shared_lists.specs.{Tasks.Idle, State.Lists, State.task_of}
 use Rattle.desks.specs.{declared.desk.Desk.Desk, declared.desk.Doing.TheVariants.Nothing, Desks.fresh_desk, Desks.desk_at, Desks.doing_at, Desks.with_start}
 use Rattle.desks.specs.{Shown.seen_of, Holding.IsHeld}
 use Rattle.law_held_steps.proofs.{Showing.rests_of, Showing.setting_at, Items.start_here, Keeping.open_work}
-use Rattle.world_lists.specs.Between.{IsKept}
-use Rattle.law_world_agreement.specs.Agreement.{sight_of, work_at}
 use Rattle.law_world_agreement.proofs.{Opening.idle_of, Ending.work_of}
-
-pub one_some : {X : Type 0} (a b : X) → Some a ≡ Some b → a ≡ b
-one_some a b same = cc
+use Rattle.law_held_steps.proofs.AnyStep.{some_same}
 
 desk_read : (desks : List Desk) (s : ℕ) (read : Desk) → s < length desks → read ≡ get_or desks s read → read ≡ desk_at s desks
 desk_read desks s read within is =
-    is ∙ one_some (get_or desks s read) (desk_at s desks) (sym (slice_get-get_or desks s read within) ∙ slice_get-get_or desks s fresh_desk within)
+    is ∙ some_same (get_or desks s read) (desk_at s desks) (sym (slice_get-get_or desks s read within) ∙ slice_get-get_or desks s fresh_desk within)
 
 -- ---- what is read of a session is what the past says
 
@@ -38,8 +36,8 @@ there_at [] s within = absurd (omega (arith, within))
 there_at (first ∷ sessions) zero within = (first, refl)
 there_at (first ∷ sessions) (suc s) within = there_at sessions s (omega (arith, within))
 
-none_some : {X : Type 0} (x : X) → None ≡ Some x → ⊥
-none_some x same = cc
+nsome_same : {X : Type 0} (x : X) → None ≡ Some x → ⊥
+nsome_same x same = cc
 
 module _ {state : WorldState} {writer : Option ℕ} {desks : List Desk} {cuts : ℕ} {undo : UndoRoom} {room : WorkRoom}
     (held : IsHeld state writer desks cuts undo room) where
@@ -65,16 +63,16 @@ module _ {state : WorldState} {writer : Option ℕ} {desks : List Desk} {cuts : 
 
     level_is : (n : ℕ) → (standing_of session).txn ≡ Some n → level s state.past ≡ Some (standing_of session).level
     level_is n some =
-        by_work (λ none. absurd (none_some n (sym (ap txn_of none) ∙ some)))
+        by_work (λ none. absurd (nsome_same n (sym (ap txn_of none) ∙ some)))
         (λ work was. (work_says work was).level_is ∙ ap (λ (w : Option Work). Some (level_of session.setting w)) (sym was))
 
     none_is : (standing_of session).txn ≡ None → IsIdle state.past s
-    none_is none = by_work idle_says (λ work was. absurd (none_some work.txn (sym none ∙ ap txn_of was)))
+    none_is none = by_work idle_says (λ work was. absurd (nsome_same work.txn (sym none ∙ ap txn_of was)))
 
     txn_is : (n : ℕ) → (standing_of session).txn ≡ Some n → txn s state.past ≡ n
     txn_is n some =
-        by_work (λ none. absurd (none_some n (sym (ap txn_of none) ∙ some)))
-        (λ work was. (work_says work was).txn_is ∙ one_some work.txn n (sym (ap txn_of was) ∙ some))
+        by_work (λ none. absurd (nsome_same n (sym (ap txn_of none) ∙ some)))
+        (λ work was. (work_says work was).txn_is ∙ some_same work.txn n (sym (ap txn_of was) ∙ some))
 
     own_is : (standing_of session).own ≡ length (own s state.past)
     own_is =
@@ -88,7 +86,7 @@ module _ {state : WorldState} {writer : Option ℕ} {desks : List Desk} {cuts : 
     view_is work work_is = view_by work.view (work_says work work_is).view_is
 
     pub closed_none : level s state.past ≡ None → session.work ≡ None
-    closed_none closed = by_work (λ none. none) (λ work was. absurd (none_some work.level (sym closed ∙ (work_says work was).level_is)))
+    closed_none closed = by_work (λ none. none) (λ work was. absurd (nsome_same work.level (sym closed ∙ (work_says work was).level_is)))
 
 module _ (s : ℕ) {state : WorldState} {writer : Option ℕ} {desks : List Desk} {cuts : ℕ} {undo : UndoRoom} {room : WorkRoom} {lists : Lists}
     (kept : IsKept state writer desks cuts undo room) (view : seen_of undo.table room.stage state writer desks ≡ lists) where
@@ -154,7 +152,7 @@ module _ (s : ℕ) {state : WorldState} {writer : Option ℕ} {desks : List Desk
     pub never_none : IsOpen s lists.state.past → read.txn ≡ None → ⊥
     never_none is_open none =
         let (session, work, has) = its_work joined is_open in
-        none_some work.txn (sym (txn_read session has.session_is none) ∙ ap txn_of has.work_is)
+        nsome_same work.txn (sym (txn_read session has.session_is none) ∙ ap txn_of has.work_is)
 
   pub view_read : s < length lists.state.names → IsOpen s lists.state.past → {has : Bool}
       → ((session : Session) (work : Work) → HasWork s session work state → has ≡ is_some work.view) → has ≡ is_some (view_of s lists.state.past)

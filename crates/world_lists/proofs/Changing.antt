@@ -3,38 +3,38 @@
 use Rattle.std.proofs.Common.{◌≡◌, ℕ, zero, suc, ◌+◌, ◌<◌, ◌^◌, false, true, List, ◌∷◌, length, Option, Some, refl, sym, ap, subst, ◌∙◌, arith, []}
 use Rattle.std.proofs.lemmas.Bool.{false≢true}
 use Rattle.std.specs.Prelude.{slice_get, slice_index_or}
-use Rattle.inno_types.specs.{declared.value.Column.Column, declared.value.Schema.Schema}
 use Rattle.inno_db.specs.declared.change.Change.{Change}
-use Rattle.inno_model.specs.{Past.IsOpen, declared.event.Event.Event}
-use Rattle.store_api.specs.{declared.moves.Move.Move, declared.moves.Move.TheVariants.NoMemory}
 use Rattle.row_versions.specs.Chains.{Chains}
 use Rattle.law_past_agreement.specs.Order.{created}
 use Rattle.key_codec.specs.Keys.{IsOfKind}
+use Rattle.row_changes.proofs.Changing.{lacks_memory}
+use Rattle.law_logged_changes.proofs.ReadersLeft.{left_told}
+use Rattle.undo_apply.specs.declared.work_room.WorkRoom.{WorkRoom}
+use Rattle.shared_lists.specs.Tasks.{Task, Idle, asked, left_by, is_changing, steps_left}
+use Rattle.desks.specs.declared.desk.Doing.TheVariants.{Nothing, Searching, Changing, Lagging, Undoing}
+use Rattle.desks.proofs.Showing.{task_is}
+use Rattle.law_held_steps.proofs.Showing.{begun_turns, begun_task, went_shown, entered_shown, done_shown, given_up_shown, rows_shown, left_shown}
+use Rattle.world_lists.specs.Between.{IsKept, AwaitsWriter, can_await, table_at}
+use Rattle.world_lists.specs.Parts.{StepsChange, StepsAtDesk, HasChange, LeavesIfOver, doing_now, is_told, answer_for}
+use Rattle.shared_lists.specs.declared.answers.Changed.TheVariants as answers
+use Rattle.inno_types.specs.{declared.value.Column.Column, declared.value.Schema.Schema}
+use Rattle.inno_model.specs.{Past.IsOpen, declared.event.Event.Event}
+use Rattle.store_api.specs.{declared.moves.Move.Move, declared.moves.Move.TheVariants.NoMemory}
 use Rattle.world.specs.{State.WorldState, Told.IsTold, declared.undo_room.UndoRoom.UndoRoom}
 use Rattle.row_changes.specs.{Awaited.AwaitsIn, declared.row_edit.RowEdit.RowEdit, declared.row_change.RowChange.RowChange}
 use Rattle.row_changes.specs.{declared.row_change.RowChange.TheVariants.Record, declared.row_change.RowChange.TheVariants.Keys}
 use Rattle.row_changes.specs.{declared.reached.Reached.Reached, declared.reached.Reached.TheVariants.Went, declared.reached.Reached.TheVariants.Done}
 use Rattle.row_changes.specs.{declared.reached.Reached.TheVariants.Hindered, Edits.change_of, Records.IsTable, Rows.IsChangingRow, Rows.ChangesRow}
 use Rattle.row_changes.specs.{Rows.table_of, Rows.primary_of}
-use Rattle.row_changes.proofs.Changing.{lacks_memory}
-use Rattle.law_logged_changes.proofs.ReadersLeft.{left_told}
-use Rattle.undo_apply.specs.declared.work_room.WorkRoom.{WorkRoom}
 use Rattle.shared_lists.specs.{Fitting.FitsWell, declared.answers.Changed.Changed, State.Lists, State.Turns, State.task_of, Steps.Changes, Steps.rows_entered}
-use Rattle.shared_lists.specs.Tasks.{Task, Idle, asked, left_by, is_changing, steps_left}
 use Rattle.desks.specs.{declared.desk.Desk.Desk, declared.desk.Doing.Doing, Desks.doing_at, Desks.with_doing, Shown.lists_of, Shown.shown, Shown.seen_of}
 use Rattle.desks.specs.{Undoing.undo_left_in, Holding.IsHeld}
-use Rattle.desks.specs.declared.desk.Doing.TheVariants.{Nothing, Searching, Changing, Lagging, Undoing}
-use Rattle.desks.proofs.Showing.{task_is}
 use Rattle.law_held_steps.specs.{Beginning.IsEditable, Beginning.IsKeyOfEdit, Beginning.begun, Leaving.is_searching, Leaving.LeavesIndexes}
 use Rattle.law_held_steps.specs.{Leaving.LeavesTable, Making.doing_after, Making.Comes, Making.LeavesLists, Making.MakesChange}
 use Rattle.law_held_steps.proofs.{Made.can_be_keyed, Made.begins, Made.change_made, Putting.rows_mine, Desks.doing_here, Desks.changes_at_a_desk}
 use Rattle.law_held_steps.proofs.{Left.held_left}
-use Rattle.law_held_steps.proofs.Showing.{begun_turns, begun_task, went_shown, entered_shown, done_shown, given_up_shown, rows_shown, left_shown}
-use Rattle.world_lists.specs.Between.{IsKept, AwaitsWriter, can_await, table_at}
-use Rattle.world_lists.specs.Parts.{StepsChange, StepsAtDesk, HasChange, LeavesIfOver, doing_now, is_told, answer_for}
 use Rattle.world_lists.proofs.{Awaiting.kept_beside, Awaiting.same_no_more, Awaiting.change_awaits, Awaiting.only_mine, Calls.past_here, Calls.at_rest}
 use Rattle.world_lists.proofs.{Calls.at_desk, Calls.writer_now}
-use Rattle.shared_lists.specs.declared.answers.Changed.TheVariants as answers
 
 -- ---- the table of a change
 

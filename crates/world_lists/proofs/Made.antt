@@ -2,7 +2,6 @@
 use Rattle.std.proofs.Common.{◌≡◌, ℕ, ◌+◌, ◌<◌, ◌^◌, true, false, Option, Some, None, List, ◌∷◌, ◌++◌, length, refl, sym, ap, subst, ◌∙◌, arith, [], ◌-◌}
 use Rattle.std.proofs.lemmas.List.{length-map, length-set}
 use Rattle.std.specs.Prelude.{Result, Ok, Err, OnOk, OnErr, is_ok, if◌then◌else◌, slice_set, slice_index_or, slice_get}
-use Rattle.inno_types.specs.{declared.reply.Item.Item, declared.reply.Reply.Reply, declared.stmt.Stmt.Stmt}
 use Rattle.inno_model.specs.declared.event.Event.{Event}
 use Rattle.inno_model.specs.declared.event.Event.TheVariants.{Started, Ended, View, Committed, Acked, RolledBack, Signal, Begin}
 use Rattle.inno_model.specs.Past.{own, txn, started, under_way, IsOpen, begins, IsClosed}
@@ -12,14 +11,12 @@ use Rattle.txn_table.specs.Txns.{ids_of, Txns}
 use Rattle.law_past_agreement.specs.Order.{MayCome}
 use Rattle.store_api.specs.declared.answers.Standing.{Standing}
 use Rattle.world.specs.State.{WorldState, Session, Work, IsSession, HasWork, standing_of}
-use Rattle.world.specs.{Told.IsTold, Endings.IsCommitted, Endings.IsRolledBack, declared.undo_room.UndoRoom.UndoRoom}
 use Rattle.world.specs.Sessions.{change_txn, with_save, view_added, begun, with_room, fresh_work, begin_added}
 use Rattle.law_world_agreement.specs.Steps.{viewed, opened, session_begun}
 use Rattle.undo_apply.specs.declared.work_room.WorkRoom.{WorkRoom}
 use Rattle.world.specs.EngineCalls.{joined as with_joined, item_started, item_ended, acknowledged, signalled, with_setting}
 use Rattle.shared_lists.specs.Tasks.{Idle}
-use Rattle.shared_lists.specs.State.{Lists, task_of, IsNow, Adds, Closes, Stays, writer_without}
-use Rattle.desks.specs.{declared.desk.Desk.Desk, Desks.fresh_desk, Desks.doing_at, Desks.with_start, Holding.IsHeld, Shown.seen_of}
+use Rattle.shared_lists.specs.State.{Lists, task_of, IsNow, Stays, writer_without}
 use Rattle.law_held_steps.specs.SeenEntries.{settings_of}
 use Rattle.law_held_steps.proofs.Showing.{tasks_same, now_of, settings_by, settings_same, settings_now}
 use Rattle.law_held_steps.proofs.Tables.{joined_held, one_more}
@@ -31,6 +28,9 @@ use Rattle.world_lists.proofs.Calls.{past_here, joined_here, its_session, its_wo
 use Rattle.inno_types.specs.declared.lock.Level.{Level}
 use Rattle.inno_model.proofs.Commits.{begins_few}
 use Rattle.law_world_agreement.proofs.Opening.{set_here, set_other}
+use Rattle.inno_types.specs.{declared.reply.Item.Item, declared.reply.Reply.Reply, declared.stmt.Stmt.Stmt}
+use Rattle.world.specs.{Told.IsTold, Endings.IsCommitted, Endings.IsRolledBack, declared.undo_room.UndoRoom.UndoRoom}
+use Rattle.desks.specs.{declared.desk.Desk.Desk, Desks.fresh_desk, Desks.doing_at, Desks.with_start, Holding.IsHeld, Shown.seen_of}
 
 -- what follows from the answer either way
 pub by_result : {T E : Type 0} {P Q R : Type 0} (result : Result T E) → OnOk result P → OnErr result Q → (P → R) → (Q → R) → R
@@ -54,8 +54,26 @@ pub pushed : {T E : Type 0} (result : Result T E) {value : T} {items before desk
 pushed (Ok x) is items_are same = items_are ∙ ap (λ (xs : List Desk). xs ++ fresh_desk ∷ []) same
 pushed (Err e) is items_are same = absurd (cc)
 
+-- What callers see of a call of the session: of the past, of who may write, of what sessions have set and of rows it has made these.
+pub record Shows (s : ℕ) (past : List Event → List Event) (later : Option ℕ → Option ℕ) (set : List Setting → List Setting) (count : ℕ → ℕ)
+    (old new : Lists) : Type 0 where
+  pub state : IsNow (past old.state.past) s (task_of s old.state) (later old.state.writer) old.state new.state
+  pub settings : new.settings ≡ set old.settings
+  pub rows : new.rows ≡ count old.rows
+
+-- one entry more, and nothing else
+abbrev pub Enters : Event → ℕ → Lists → Lists → Type 0
+Enters e s old new = Shows s (λ h. e ∷ h) (λ w. w) (λ x. x) (λ n. n) old new
+
+-- the session has set something
+abbrev sets : ℕ → (Setting → Setting) → List Setting → List Setting
+sets s f settings = slice_set settings s (f (slice_index_or settings s at_first))
+
 module _ (s : ℕ) {old : WorldState} {writer : Option ℕ} {desks : List Desk} {cuts : ℕ} {undo : UndoRoom} {room : WorkRoom} {lists : Lists}
     (kept : IsKept old writer desks cuts undo room) (view : seen_of undo.table room.stage old writer desks ≡ lists) where
+  abbrev seen : WorldState → Lists
+  seen new = seen_of undo.table room.stage new writer desks
+
   -- ---- what holds still
 
   pub kept_as : {new target : WorldState} → new ≡ target → target.indexes ≡ old.indexes → target.schemas ≡ old.schemas
@@ -69,46 +87,41 @@ module _ (s : ℕ) {old : WorldState} {writer : Option ℕ} {desks : List Desk} 
 
   -- ---- what callers see
 
-  seen_now : (past : List Event → List Event) (later : Option ℕ → Option ℕ) (now : List Desk) {new target : WorldState} → new ≡ target → target.names ≡
-      old.names → target.past ≡ past old.past → target.schemas ≡ old.schemas → target.versions ≡ old.versions → ((u : ℕ) → doing_at u now ≡ doing_at u desks)
-      → IsNow (past lists.state.past) s (task_of s lists.state) (later lists.state.writer) lists.state (seen_of undo.table room.stage new (later writer)
-      now).state
-  seen_now past later now {new} is names past_is schemas versions doing =
-      subst (λ (l : Lists). IsNow (past l.state.past) s (task_of s l.state) (later l.state.writer) l.state (seen_of undo.table room.stage new (later writer)
-      now).state) view (now_of s undo.table room.stage old new writer (later writer) desks now (past old.past) (ap (λ (w : WorldState). w.names) is ∙ names)
-      (ap (λ (w : WorldState). w.past) is ∙ past_is) (ap (λ (w : WorldState). w.schemas) is ∙ schemas) (ap (λ (w : WorldState). w.versions) is ∙ versions)
-      doing)
+  shows_as : (past : List Event → List Event) (later : Option ℕ → Option ℕ) (set : List Setting → List Setting) (count : ℕ → ℕ) (now : List Desk)
+      {new target : WorldState} → new ≡ target → target.names ≡ old.names → target.past ≡ past old.past → target.schemas ≡ old.schemas
+      → target.versions ≡ old.versions → ((u : ℕ) → doing_at u now ≡ doing_at u desks) → settings_of target.sessions ≡ set (settings_of old.sessions)
+      → target.rows ≡ count old.rows → Shows s past later set count lists (seen_of undo.table room.stage new (later writer) now)
+  shows_as past later set count now {new} is names past_is schemas versions doing set_is rows =
+      subst (λ (l : Lists). Shows s past later set count l (seen_of undo.table room.stage new (later writer) now)) view (record {
+        state =
+            now_of s undo.table room.stage old new writer (later writer) desks now (past old.past) (ap (λ (w : WorldState). w.names) is ∙ names)
+            (ap (λ (w : WorldState). w.past) is ∙ past_is) (ap (λ (w : WorldState). w.schemas) is ∙ schemas) (ap (λ (w : WorldState). w.versions) is ∙ versions)
+            doing;
+        settings = ap (λ (w : WorldState). settings_of w.sessions) is ∙ set_is;
+        rows = ap (λ (w : WorldState). w.rows) is ∙ rows;
+      })
 
-  pub adds : (e : Event) {new target : WorldState} → new ≡ target → target.names ≡ old.names → target.past ≡ e ∷ old.past
-      → target.schemas ≡ old.schemas → target.versions ≡ old.versions → Adds e s lists.state (seen_of undo.table room.stage new writer desks).state
-  adds e is names past schemas versions = seen_now (λ h. e ∷ h) (λ w. w) desks is names past schemas versions (λ u. refl)
+  pub enters : (e : Event) {new target : WorldState} → new ≡ target → target.names ≡ old.names → target.past ≡ e ∷ old.past → target.schemas ≡ old.schemas
+      → target.versions ≡ old.versions → settings_of target.sessions ≡ settings_of old.sessions → target.rows ≡ old.rows → Enters e s lists (seen new)
+  enters e is names past schemas versions = shows_as (λ h. e ∷ h) (λ w. w) (λ x. x) (λ n. n) desks is names past schemas versions (λ u. refl)
 
+  -- a setting alone
+  shows_set : (set : List Setting → List Setting) {new target : WorldState} → new ≡ target → target.names ≡ old.names → target.past ≡ old.past
+      → target.schemas ≡ old.schemas → target.versions ≡ old.versions → settings_of target.sessions ≡ set (settings_of old.sessions) → target.rows ≡ old.rows
+      → Shows s (λ h. h) (λ w. w) set (λ n. n) lists (seen new)
+  shows_set set is names past schemas versions = shows_as (λ h. h) (λ w. w) set (λ n. n) desks is names past schemas versions (λ u. refl)
+
+  pub stays_same : {new : WorldState} → new ≡ old → Stays s lists.state (seen new).state
+  stays_same is = (shows_set (λ x. x) is refl refl refl refl refl refl).state
+
+  -- its transaction has ended
   pub closes : (e : Event) {later : Option ℕ} → later ≡ writer_without writer s → {new target : WorldState} → new ≡ target → target.names ≡ old.names
       → target.past ≡ e ∷ old.past → target.schemas ≡ old.schemas → target.versions ≡ old.versions
-      → Closes e s lists.state (seen_of undo.table room.stage new later desks).state
-  closes e later_is {new} is names past schemas versions =
-      subst (λ (w : Option ℕ). Closes e s lists.state (seen_of undo.table room.stage new w desks).state) (sym later_is)
-      (seen_now (λ h. e ∷ h) (λ w. writer_without w s) desks is names past schemas versions (λ u. refl))
-
-  pub stays : {new target : WorldState} → new ≡ target → target.names ≡ old.names → target.past ≡ old.past → target.schemas ≡ old.schemas
-      → target.versions ≡ old.versions → Stays s lists.state (seen_of undo.table room.stage new writer desks).state
-  stays is names past schemas versions = seen_now (λ h. h) (λ w. w) desks is names past schemas versions (λ u. refl)
-
-  pub stays_same : {new : WorldState} → new ≡ old → Stays s lists.state (seen_of undo.table room.stage new writer desks).state
-  stays_same is = stays is refl refl refl refl
-
-  -- sessions with the same settings, or its own with another one
-  pub unset_as : {new target : WorldState} → new ≡ target → settings_of target.sessions ≡ settings_of old.sessions → settings_of new.sessions ≡ lists.settings
-  unset_as is same = ap (λ (w : WorldState). settings_of w.sessions) is ∙ same ∙ ap (λ (l : Lists). l.settings) view
-
-  pub reset_as : (f : Setting → Setting) {new target : WorldState} → new ≡ target
-      → settings_of target.sessions ≡ slice_set (settings_of old.sessions) s (f (slice_index_or (settings_of old.sessions) s at_first))
-      → settings_of new.sessions ≡ slice_set lists.settings s (f (slice_index_or lists.settings s at_first))
-  reset_as f is set =
-      ap (λ (w : WorldState). settings_of w.sessions) is ∙ set ∙ ap (λ (l : Lists). slice_set l.settings s (f (slice_index_or l.settings s at_first))) view
-
-  pub same_rows : {new target : WorldState} → new ≡ target → target.rows ≡ old.rows → new.rows ≡ lists.rows
-  same_rows is same = ap (λ (w : WorldState). w.rows) is ∙ same ∙ ap (λ (l : Lists). l.rows) view
+      → settings_of target.sessions ≡ sets s at_end (settings_of old.sessions) → target.rows ≡ old.rows
+      → Shows s (λ h. e ∷ h) (λ w. writer_without w s) (sets s at_end) (λ n. n) lists (seen_of undo.table room.stage new later desks)
+  closes e later_is {new} is names past schemas versions set rows =
+      subst (λ (w : Option ℕ). Shows s (λ h. e ∷ h) (λ w. writer_without w s) (sets s at_end) (λ n. n) lists (seen_of undo.table room.stage new w desks))
+      (sym later_is) (shows_as (λ h. e ∷ h) (λ w. writer_without w s) (sets s at_end) (λ n. n) desks is names past schemas versions (λ u. refl) set rows)
 
   -- ---- another session
 
@@ -143,14 +156,9 @@ module _ (s : ℕ) {old : WorldState} {writer : Option ℕ} {desks : List Desk} 
           kept_as (made mine its) refl refl (acked_held kept.held s (at_rest s kept view idle) told mine its moment (joined_here s kept view joined)
           (past_here s kept view (λ h. MayCome h (Acked s moment)) may) (few_by (Acked s moment) (made mine its) refl few))
 
-      pub acked_adds : Adds (Acked s moment) s lists.state (seen_of undo.table room.stage new writer desks).state
-      acked_adds = adds (Acked s moment) (made mine its) refl refl refl refl
-
-      pub acked_unset : settings_of new.sessions ≡ lists.settings
-      acked_unset = unset_as (made mine its) (settings_same old.sessions s (record mine { can_ack = false }) its refl)
-
-      pub acked_rows : new.rows ≡ lists.rows
-      acked_rows = same_rows (made mine its) refl
+      pub acked_shown : Enters (Acked s moment) s lists (seen new)
+      acked_shown =
+          enters (Acked s moment) (made mine its) refl refl refl refl (settings_same old.sessions s (record mine { can_ack = false }) its refl) refl
 
     -- ---- a signal
 
@@ -174,14 +182,10 @@ module _ (s : ℕ) {old : WorldState} {writer : Option ℕ} {desks : List Desk} 
           kept_as ended_is refl refl (ended_held kept.held s (at_rest s kept view idle) told mine its count reply (old.rows + rows_of_reply reply)
           (joined_here s kept view joined) (past_here s kept view (λ h. MayCome h (Ended s count reply)) may) (few_by (Ended s count reply) ended_is refl few))
 
-      pub ended_adds : Adds (Ended s (started s lists.state.past) reply) s lists.state (seen_of undo.table room.stage new writer desks).state
-      ended_adds = adds (Ended s (started s lists.state.past) reply) ended_is refl refl refl refl
-
-      pub ended_unset : settings_of new.sessions ≡ lists.settings
-      ended_unset = unset_as ended_is (settings_same old.sessions s (record mine { can_reply = false }) its refl)
-
-      pub ended_rows : new.rows ≡ lists.rows + rows_of_reply reply
-      ended_rows = ap (λ (w : WorldState). w.rows) ended_is ∙ ap (λ (l : Lists). l.rows + rows_of_reply reply) view
+      pub ended_shown : Shows s (λ h. Ended s (started s lists.state.past) reply ∷ h) (λ w. w) (λ x. x) (λ n. n + rows_of_reply reply) lists (seen new)
+      ended_shown =
+          shows_as (λ h. Ended s (started s lists.state.past) reply ∷ h) (λ w. w) (λ x. x) (λ n. n + rows_of_reply reply) desks ended_is refl refl refl refl
+          (λ u. refl) (settings_same old.sessions s (record mine { can_reply = false }) its refl) refl
 
     -- ---- the start of one
 
@@ -204,14 +208,11 @@ module _ (s : ℕ) {old : WorldState} {writer : Option ℕ} {desks : List Desk} 
             (past_here s kept view (λ h. under_way s h ≡ None) none) (past_here s kept view (λ h. j ≡ started s h + 1) refl) (few_by (Started s j item)
             started_is refl few))))
 
-        pub started_adds : Adds (Started s (started s lists.state.past + 1) item) s lists.state (seen_of undo.table room.stage new writer now).state
-        started_adds = seen_now (λ h. Started s (started s lists.state.past + 1) item ∷ h) (λ w. w) now started_is refl refl refl refl same_doing
-
-      pub started_unset : settings_of new.sessions ≡ lists.settings
-      started_unset = unset_as started_is (settings_same old.sessions s (record mine { can_reply = true }) its refl)
-
-      pub started_rows : new.rows ≡ lists.rows
-      started_rows = same_rows started_is refl
+        pub started_shown : Shows s (λ h. Started s (started s lists.state.past + 1) item ∷ h) (λ w. w) (λ x. x) (λ n. n) lists
+            (seen_of undo.table room.stage new writer now)
+        started_shown =
+            shows_as (λ h. Started s (started s lists.state.past + 1) item ∷ h) (λ w. w) (λ x. x) (λ n. n) now started_is refl refl refl refl same_doing
+            (settings_same old.sessions s (record mine { can_reply = true }) its refl) refl
 
     -- ---- what a session sets
 
@@ -222,14 +223,9 @@ module _ (s : ℕ) {old : WorldState} {writer : Option ℕ} {desks : List Desk} 
       pub set_kept : task_of s lists.state ≡ Idle → IsTold old → IsKept new writer desks cuts undo room
       set_kept idle told = kept_as (made mine its) refl refl (unentered_held kept.held s (at_rest s kept view idle) told mine its after refl refl refl)
 
-      pub set_stays : Stays s lists.state (seen_of undo.table room.stage new writer desks).state
-      set_stays = stays (made mine its) refl refl refl refl
-
-      pub set_reset : settings_of new.sessions ≡ slice_set lists.settings s (set_by stmt 0 false (slice_index_or lists.settings s at_first))
-      set_reset = reset_as (set_by stmt 0 false) (made mine its) (settings_now old.sessions s after (set_by stmt 0 false) its refl)
-
-      pub set_rows : new.rows ≡ lists.rows
-      set_rows = same_rows (made mine its) refl
+      pub set_shown : Shows s (λ h. h) (λ w. w) (sets s (set_by stmt 0 false)) (λ n. n) lists (seen new)
+      set_shown =
+          shows_set (sets s (set_by stmt 0 false)) (made mine its) refl refl refl refl (settings_now old.sessions s after (set_by stmt 0 false) its refl) refl
 
     module _ (is_open : IsOpen s lists.state.past) where
       abbrev holder : Session
@@ -255,17 +251,11 @@ module _ (s : ℕ) {old : WorldState} {writer : Option ℕ} {desks : List Desk} 
             kept_as viewed_is refl refl (viewed_held kept.held s (at_rest s kept view idle) told holder has.session_is work has.work_is (few_by (View s)
             viewed_is refl few))
 
-        pub viewed_adds : Adds (View s) s lists.state (seen_of undo.table room.stage new writer desks).state
-        viewed_adds = adds (View s) viewed_is refl refl refl refl
-
-        pub viewed_unset : settings_of new.sessions ≡ lists.settings
-        viewed_unset =
+        pub viewed_shown : Enters (View s) s lists (seen new)
+        viewed_shown =
             let after : Session = record holder
             { work = Some (record work { view = Some (record { active = ids_of old.txns.open_txns; next = old.txns.next }) }) } in
-            unset_as viewed_is (settings_same old.sessions s after has.session_is refl)
-
-        pub viewed_rows : new.rows ≡ lists.rows
-        viewed_rows = same_rows viewed_is refl
+            enters (View s) viewed_is refl refl refl refl (settings_same old.sessions s after has.session_is refl) refl
 
       -- ---- a savepoint, unless there was no memory for it
 
@@ -283,14 +273,16 @@ module _ (s : ℕ) {old : WorldState} {writer : Option ℕ} {desks : List Desk} 
               done ∙ ap (λ n. with_save n name read.own old) (number_is ∙ its_txn s kept view has)
               ∙ ap (λ n. with_save work.txn name n old) (ap (λ (t : Standing). t.own) (read_is holder has.session_is) ∙ its_own s kept view has.session_is)
 
-          pub saved_reset : new ≡ with_save number name read.own old
-              → settings_of new.sessions ≡ slice_set lists.settings s (saves (slice_index_or lists.settings s at_first))
-          saved_reset done =
+          saved_shown : new ≡ with_save number name read.own old → Shows s (λ h. h) (λ w. w) (sets s saves) (λ n. n) lists (seen new)
+          saved_shown done =
               let change : Session → Session = λ x. record x { setting = saves x.setting } in
-              reset_as saves (saved_is done) (settings_by old.sessions (change_txn work.txn change old.sessions) s saves (length-map old.sessions _)
-              has.session_is (txn_here s work.txn holder work change old.sessions has.session_is has.work_is refl) refl (λ u differ. txn_elsewhere work.txn u
-              change old.sessions (λ x other there theirs is. differ ((its_listed s kept view has).alone u x other
-              (record { session_is = there; work_is = theirs }) is))))
+              shows_set (sets s saves) (saved_is done) refl refl refl refl (settings_by old.sessions (change_txn work.txn change old.sessions) s saves
+              (length-map old.sessions _) has.session_is (txn_here s work.txn holder work change old.sessions has.session_is has.work_is refl) refl (λ u differ.
+              txn_elsewhere work.txn u change old.sessions (λ x other there theirs is. differ ((its_listed s kept view has).alone u x other
+              (record { session_is = there; work_is = theirs }) is)))) refl
+
+          pub saved_reset : new ≡ with_save number name read.own old → settings_of new.sessions ≡ sets s saves lists.settings
+          saved_reset done = (saved_shown done).settings
 
           module _ {T E : Type 0} (result : Result T E) (ok : OnOk result (new ≡ with_save number name read.own old)) (err : OnErr result (new ≡ old)) where
             pub saved_kept : task_of s lists.state ≡ Idle → IsTold old → IsKept new writer desks cuts undo room
@@ -298,8 +290,8 @@ module _ (s : ℕ) {old : WorldState} {writer : Option ℕ} {desks : List Desk} 
                 by_result result ok err (λ done. kept_as (saved_is done) refl refl (saved_held kept.held s (at_rest s kept view idle) told holder has.session_is
                 work has.work_is name (length (own s lists.state.past)))) (λ failed. kept_as failed refl refl kept.held)
 
-            pub saved_stays : Stays s lists.state (seen_of undo.table room.stage new writer desks).state
-            saved_stays = by_result result ok err (λ done. stays (saved_is done) refl refl refl refl) stays_same
+            pub saved_stays : Stays s lists.state (seen new).state
+            saved_stays = by_result result ok err (λ done. (saved_shown done).state) stays_same
 
   -- ---- the end of a transaction
 
@@ -320,17 +312,18 @@ module _ (s : ℕ) {old : WorldState} {writer : Option ℕ} {desks : List Desk} 
         view (λ h. own s h ≡ []) none) ends)
 
   -- its session has the settings that come back at the end
-  pub committed_reset : {new : WorldState} → IsCommitted s old new
-      → settings_of new.sessions ≡ slice_set lists.settings s (at_end (slice_index_or lists.settings s at_first))
-  committed_reset ends =
-      let after : Session = record ends.session { setting = at_end ends.session.setting; work = None; can_ack = true } in
-      reset_as at_end ends.rest (settings_now old.sessions s after at_end ends.has_work.session_is refl)
+  module _ {later : Option ℕ} (later_is : later ≡ writer_without writer s) {new : WorldState} where
+    pub committed_shown : IsCommitted s old new
+        → Shows s (λ h. Committed s ∷ h) (λ w. writer_without w s) (sets s at_end) (λ n. n) lists (seen_of undo.table room.stage new later desks)
+    committed_shown ends =
+        let after : Session = record ends.session { setting = at_end ends.session.setting; work = None; can_ack = true } in
+        closes (Committed s) later_is ends.rest refl refl refl refl (settings_now old.sessions s after at_end ends.has_work.session_is refl) refl
 
-  pub rolled_back_reset : {new : WorldState} → IsRolledBack s old new
-      → settings_of new.sessions ≡ slice_set lists.settings s (at_end (slice_index_or lists.settings s at_first))
-  rolled_back_reset ends =
-      let after : Session = record ends.session { setting = at_end ends.session.setting; work = None } in
-      reset_as at_end ends.rest (settings_now old.sessions s after at_end ends.has_work.session_is refl)
+    pub rolled_back_shown : IsRolledBack s old new
+        → Shows s (λ h. RolledBack s ∷ h) (λ w. writer_without w s) (sets s at_end) (λ n. n) lists (seen_of undo.table room.stage new later desks)
+    rolled_back_shown ends =
+        let after : Session = record ends.session { setting = at_end ends.session.setting; work = None } in
+        closes (RolledBack s) later_is ends.rest refl refl refl refl (settings_now old.sessions s after at_end ends.has_work.session_is refl) refl
 
 -- ---- a transaction opens: room is taken for there_was entries, it begins, and the history tells it
 
@@ -372,14 +365,9 @@ module _ (s : ℕ) {old : WorldState} {writer : Option ℕ} {desks : List Desk} 
     pub roomed_kept : task_of s lists.state ≡ Idle → IsTold old → IsKept new writer desks cuts undo room
     roomed_kept idle told = kept_as s kept view (same ∙ mid_is) refl refl (mid_held idle told)
 
-    pub roomed_stays : Stays s lists.state (seen_of undo.table room.stage new writer desks).state
-    roomed_stays = stays s kept view (same ∙ mid_is) refl refl refl refl
-
-    pub roomed_unset : settings_of new.sessions ≡ lists.settings
-    roomed_unset = unset_as s kept view (same ∙ mid_is) (settings_same old.sessions s roomed there_was refl)
-
-    pub roomed_rows : new.rows ≡ lists.rows
-    roomed_rows = same_rows s kept view (same ∙ mid_is) refl
+    pub roomed_shown : Shows s (λ h. h) (λ w. w) (λ x. x) (λ n. n) lists (seen_of undo.table room.stage new writer desks)
+    roomed_shown =
+        shows_set s kept view (λ x. x) (same ∙ mid_is) refl refl refl refl (settings_same old.sessions s roomed there_was refl) refl
 
   -- ---- it begins
 
@@ -423,21 +411,17 @@ module _ (s : ℕ) {old : WorldState} {writer : Option ℕ} {desks : List Desk} 
           ap (λ (w : WorldState). w.txns.begun + 1) mid_is ∙ ap (λ (t : Txns). t.begun + 1) kept.held.agrees.lists.txns_are
           ∙ ap (λ (l : Lists). begins l.state.past + 1) view
 
-      pub opened_adds : Adds (Begin s (begins lists.state.past + 1) level) s lists.state (seen_of undo.table room.stage new writer desks).state
-      opened_adds =
-          adds s kept view (Begin s (begins lists.state.past + 1) level) new_is (ap (λ (w : WorldState). w.names) mid_is)
-          (ap (λ n. Begin s n level ∷ mid.past) count_is ∙ ap (λ (w : WorldState). Begin s (begins lists.state.past + 1) level ∷ w.past) mid_is)
-          (ap (λ (w : WorldState). w.schemas) mid_is) (ap (λ (w : WorldState). w.versions) mid_is)
-
-      pub opened_reset : settings_of new.sessions ≡ slice_set lists.settings s (at_begin (slice_index_or lists.settings s at_first))
-      opened_reset =
+      pub opened_shown : Shows s (λ h. Begin s (begins lists.state.past + 1) level ∷ h) (λ w. w) (sets s at_begin) (λ n. n) lists
+          (seen_of undo.table room.stage new writer desks)
+      opened_shown =
           let target : WorldState = opened s level roomed mid in
           let base : List Session = slice_set mid.sessions s first in
           let last : Session = record first { can_begin = false; work = Some (record fresh { can_end = true }) } in
-          reset_as s kept view at_begin new_is (settings_by old.sessions target.sessions s at_begin (length-set base s last ∙ length-set mid.sessions s first
+          shows_as s kept view (λ h. Begin s (begins lists.state.past + 1) level ∷ h) (λ w. w) (sets s at_begin) (λ n. n) desks new_is
+          (ap (λ (w : WorldState). w.names) mid_is)
+          (ap (λ n. Begin s n level ∷ mid.past) count_is ∙ ap (λ (w : WorldState). Begin s (begins lists.state.past + 1) level ∷ w.past) mid_is)
+          (ap (λ (w : WorldState). w.schemas) mid_is) (ap (λ (w : WorldState). w.versions) mid_is) (λ u. refl)
+          (settings_by old.sessions target.sessions s at_begin (length-set base s last ∙ length-set mid.sessions s first
           ∙ ap (λ (w : WorldState). length w.sessions) mid_is ∙ length-set old.sessions s roomed) there_was (set_here base s first last (set_here mid.sessions s
           roomed first here)) refl (λ u differ. set_other base s u last differ ∙ set_other mid.sessions s u first differ ∙ ap (λ (w : WorldState). slice_get
-          w.sessions u) mid_is ∙ set_other old.sessions s u roomed differ))
-
-      pub opened_rows : new.rows ≡ lists.rows
-      opened_rows = same_rows s kept view new_is (ap (λ (w : WorldState). w.rows) mid_is)
+          w.sessions u) mid_is ∙ set_other old.sessions s u roomed differ)) (ap (λ (w : WorldState). w.rows) mid_is)

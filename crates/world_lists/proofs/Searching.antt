@@ -5,38 +5,38 @@ use Rattle.std.proofs.Common.{Err, refl, sym, ap, subst, ◌∙◌, arith}
 use Rattle.std.proofs.lemmas.Bool.Decides.{eqb_tells}
 use Rattle.std.proofs.lemmas.Option.{slice_get_within, get_or_from_slice_get}
 use Rattle.std.specs.Prelude.{◌≤◌, is_some, IfSome, IfOk}
-use Rattle.inno_types.specs.{Order.IsBelow, declared.value.Value.Value, declared.value.Schema.Schema}
-use Rattle.inno_model.specs.{declared.event.Event.Event, Past.own, Past.view_of, Past.IsOpen}
 use Rattle.store_api.specs.declared.moves.Move.{Move}
 use Rattle.entries.specs.Calls.{Leaves}
 use Rattle.row_versions.specs.Chains.{Chains}
 use Rattle.sql_plan.specs.declared.choice.Plan.{Plan}
-use Rattle.law_past_agreement.specs.{Order.created, Agreement.WriterAgrees}
-use Rattle.world.specs.{State.WorldState, Told.IsTold, Indexes.Calls, declared.undo_room.UndoRoom.UndoRoom}
-use Rattle.row_search.specs.{declared.found.FoundRow.FoundRow, declared.search.RowSearch.RowSearch, declared.sight.Sight.Sight, Steps.GoesOn, Steps.Waits}
-use Rattle.row_search.specs.{Steps.Ends}
 use Rattle.undo_apply.specs.declared.work_room.WorkRoom.{WorkRoom}
-use Rattle.shared_lists.specs.{declared.answers.Reading.Reading, declared.answers.Searched.Searched, Steps.AreFoundBy, Steps.Searches, Steps.AreNewestRows}
 use Rattle.shared_lists.specs.State.{State, Lists, Places, task_of, places_before, counted, Turns, Stays}
-use Rattle.desks.specs.{declared.desk.Desk.Desk, declared.desk.Doing.Doing, declared.desk.Doing.TheVariants.Nothing}
-use Rattle.desks.specs.{declared.desk.Doing.TheVariants.Searching, declared.desk.TableSearch.TableSearch, Desks.doing_at, Desks.with_doing, Desks.is_quiet}
-use Rattle.desks.specs.{Holding.IsHeld, Holding.IsOwnView, Holding.SightHolds, Shown.reading_of, Shown.seen_of, Undoing.undo_left_in, Searching.places_in}
-use Rattle.desks.specs.{Searching.places_of}
 use Rattle.desks.proofs.Showing.{task_is, places_are}
-use Rattle.law_held_steps.specs.{Begun.HasView, Begun.IsBegun, Begun.IsNewSearch, Moving.MovesPlaces, Newest.plan_read, Newest.TellsTable, Newest.AreRead}
 use Rattle.law_held_steps.specs.TakenUp.{ComesAnew, IsTakenUp, MayStep, IsSearchOf, plan_of}
-use Rattle.law_held_steps.proofs.{Keeping.open_joined, Desks.doing_twice, Desks.doing_here, AtOnce.tells_held, AtOnce.are_newest, Places.moves_in_one}
-use Rattle.law_held_steps.proofs.{Places.leaving_moves, Places.moves_then, Places.held_idle}
 use Rattle.law_held_steps.proofs.Stepping.{has_view, begun, steps, went, nears, ended, waited, given_up}
 use Rattle.law_held_steps.proofs.Showing.{turns_now, turns_to_search, search_shown, has_desk, searches_on, seen_stay}
 use Rattle.world_lists.specs.Between.{IsKept, can_await}
-use Rattle.world_lists.proofs.{Awaiting.kept_on, Awaiting.kept_beside, Awaiting.moves_no_more, Awaiting.same_no_more, Calls.at_rest, Calls.at_desk}
-use Rattle.world_lists.proofs.{Calls.writer_now}
 use Rattle.read_view.specs.Sight.{Sight as ReadSight}
 use Rattle.row_search.specs.declared.sight.Sight.TheVariants as sights
 use Rattle.shared_lists.specs.declared.answers.Reading.TheVariants as readings
 use Rattle.shared_lists.specs.declared.answers.Searched.TheVariants as searched
 use Rattle.shared_lists.specs.Tasks as tasks
+use Rattle.inno_types.specs.{Order.IsBelow, declared.value.Value.Value, declared.value.Schema.Schema}
+use Rattle.inno_model.specs.{declared.event.Event.Event, Past.own, Past.view_of, Past.IsOpen}
+use Rattle.law_past_agreement.specs.{Order.created, Agreement.WriterAgrees}
+use Rattle.world.specs.{State.WorldState, Told.IsTold, Indexes.Calls, declared.undo_room.UndoRoom.UndoRoom}
+use Rattle.row_search.specs.{declared.found.FoundRow.FoundRow, declared.search.RowSearch.RowSearch, declared.sight.Sight.Sight, Steps.GoesOn, Steps.Waits}
+use Rattle.row_search.specs.{Steps.Ends}
+use Rattle.shared_lists.specs.{declared.answers.Reading.Reading, declared.answers.Searched.Searched, Steps.AreFoundBy, Steps.Searches, Steps.AreNewestRows}
+use Rattle.desks.specs.{declared.desk.Desk.Desk, declared.desk.Doing.Doing, declared.desk.Doing.TheVariants.Nothing}
+use Rattle.desks.specs.{declared.desk.Doing.TheVariants.Searching, declared.desk.TableSearch.TableSearch, Desks.doing_at, Desks.with_doing, Desks.is_quiet}
+use Rattle.desks.specs.{Holding.IsHeld, Holding.IsOwnView, Holding.SightHolds, Shown.reading_of, Shown.seen_of, Undoing.undo_left_in, Searching.places_in}
+use Rattle.desks.specs.{Searching.places_of}
+use Rattle.law_held_steps.specs.{Begun.HasView, Begun.IsBegun, Begun.IsNewSearch, Moving.MovesPlaces, Newest.plan_read, Newest.TellsTable, Newest.AreRead}
+use Rattle.law_held_steps.proofs.{Keeping.open_joined, Desks.doing_twice, Desks.doing_here, AtOnce.tells_held, AtOnce.are_newest, Places.moves_in_one}
+use Rattle.law_held_steps.proofs.{Places.leaving_moves, Places.moves_then, Places.held_idle}
+use Rattle.world_lists.proofs.{Awaiting.kept_on, Awaiting.kept_beside, Awaiting.moves_no_more, Awaiting.same_no_more, Calls.at_rest, Calls.at_desk}
+use Rattle.world_lists.proofs.{Calls.writer_now}
 
 -- ---- who reads
 

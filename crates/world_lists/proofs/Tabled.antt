@@ -5,28 +5,29 @@ use Rattle.std.proofs.lemmas.Bool.Decides.{eqb_tells}
 use Rattle.std.proofs.lemmas.List.{length-set, set-get_or}
 use Rattle.inno_types.specs.declared.value.Schema.{Schema}
 use Rattle.inno_db.specs.declared.change.Change.TheVariants.{Create}
-use Rattle.inno_model.specs.{declared.event.Event.TheVariants.Changed, Past.own, Past.txn}
 use Rattle.store_api.specs.declared.answers.Standing.{Standing}
 use Rattle.law_stored_rows.specs.Storable.{IsStorable}
 use Rattle.sql_history.specs.Settings.{at_first}
 use Rattle.txn_table.specs.Txns.{Txns, is_there, id_at}
 use Rattle.world.specs.State.{WorldState, Session, Work, IsSession, HasWork, standing_of, id_of, index_of}
-use Rattle.world.specs.{Told.IsTold, Sessions.identified, declared.undo_room.UndoRoom.UndoRoom, EngineCalls.MakesTable}
 use Rattle.law_world_agreement.specs.Steps.{IsChangedBy}
 use Rattle.law_world_agreement.proofs.Opening.{set_here, set_other}
 use Rattle.undo_apply.specs.declared.work_room.WorkRoom.{WorkRoom}
-use Rattle.row_changes.specs.{Records.IsListed, Records.id_for, Records.txns_with_id, Entering.GivesId}
 use Rattle.row_changes.proofs.Ids.{gives_new_id, keeps_id}
-use Rattle.shared_lists.specs.{Tasks.Idle, State.Lists, State.task_of, State.Adds}
-use Rattle.desks.specs.{declared.desk.Desk.Desk, declared.desk.Doing.Doing, Desks.doing_at, Desks.is_quiet_doing, Shown.shown, Shown.seen_of}
-use Rattle.desks.specs.{Undoing.undo_left_in, Holding.IsHeld}
 use Rattle.desks.specs.declared.desk.Doing.TheVariants.{Nothing, Searching, Changing, Lagging, Undoing}
 use Rattle.law_held_steps.specs.SeenEntries.{settings_of}
 use Rattle.desks.proofs.Showing.{task_is}
-use Rattle.law_held_steps.proofs.{Showing.settings_by, Tables.created_held}
 use Rattle.world_lists.specs.Between.{IsKept, can_await}
 use Rattle.world_lists.proofs.Awaiting.{created_kept}
-use Rattle.world_lists.proofs.Calls.{one_some, past_here, its_listed, its_txn, at_rest, writer_now}
+use Rattle.world_lists.proofs.Calls.{past_here, its_listed, its_txn, at_rest, writer_now}
+use Rattle.inno_model.specs.{declared.event.Event.TheVariants.Changed, Past.own, Past.txn}
+use Rattle.world.specs.{Told.IsTold, Sessions.identified, declared.undo_room.UndoRoom.UndoRoom, EngineCalls.MakesTable}
+use Rattle.row_changes.specs.{Records.IsListed, Records.id_for, Records.txns_with_id, Entering.GivesId}
+use Rattle.shared_lists.specs.{Tasks.Idle, State.Lists, State.task_of, State.Adds}
+use Rattle.desks.specs.{declared.desk.Desk.Desk, declared.desk.Doing.Doing, Desks.doing_at, Desks.is_quiet_doing, Shown.shown, Shown.seen_of}
+use Rattle.desks.specs.{Undoing.undo_left_in, Holding.IsHeld}
+use Rattle.law_held_steps.proofs.{Showing.settings_by, Tables.created_held}
+use Rattle.law_held_steps.proofs.AnyStep.{some_same}
 
 -- ---- the session's transaction in the new world
 
@@ -184,7 +185,7 @@ module _ (s : ℕ) {old : WorldState} {writer : Option ℕ} {desks : List Desk} 
         all_quiet : (u : ℕ) → is_quiet_doing (doing_at u desks) ≡ true
         all_quiet u = elim (eqb_tells u s) [
           | inl same ↦ ap (λ v. is_quiet_doing (doing_at v desks)) same.1 ∙ ap is_quiet_doing rests
-          | inr differ ↦ kept.held.quiet u (λ same. differ.1 (sym (one_some s u (sym its ∙ same))))
+          | inr differ ↦ kept.held.quiet u (λ same. differ.1 (sym (some_same s u (sym its ∙ same))))
         ]
 
         pub table_adds : Adds (Changed s (Create schema)) s lists.state (seen_of undo.table room.stage new writer desks).state

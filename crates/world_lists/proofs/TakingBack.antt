@@ -4,33 +4,33 @@ use Rattle.std.proofs.Common.{◌≡◌, ◌≢◌, ⊎_elim, ℕ, ◌-◌, ◌+
 use Rattle.std.proofs.Common.{slice_get}
 use Rattle.std.proofs.lemmas.Option.{slice_get_within}
 use Rattle.inno_types.specs.declared.value.Schema.{Schema}
-use Rattle.inno_model.specs.{declared.event.Event.TheVariants.Undone, Past.own}
-use Rattle.store_api.specs.{declared.moves.Move.Move, declared.moves.Move.TheVariants.Done, declared.moves.Move.TheVariants.Step}
 use Rattle.entries.specs.Index.{Index}
-use Rattle.row_versions.specs.{Chains.Chains, declared.place.Place.Place}
 use Rattle.law_past_agreement.specs.Order.{MayCome}
 use Rattle.world.specs.State.{WorldState, Session, Work, IsSession, HasWork, standing_of}
-use Rattle.world.specs.{Told.TellsTogether, declared.undo_room.UndoRoom.UndoRoom, Undoing.read_into, Undoing.ReadsLast, Undoing.IsCutBack}
-use Rattle.world.specs.{Undoing.HoldsRecord, Memory.IsInMemory}
 use Rattle.row_changes.specs.Awaited.{AwaitsIn, IsOfTable}
-use Rattle.undo_apply.specs.{declared.work_room.WorkRoom.WorkRoom, Stages.IsPuttingBack}
-use Rattle.shared_lists.specs.{Tasks.MayTakeBack, State.Lists, State.task_of}
-use Rattle.desks.specs.{declared.desk.Desk.Desk, declared.desk.Doing.Doing, Desks.doing_at, Desks.with_doing, Shown.lists_of, Shown.shown, Shown.seen_of}
-use Rattle.desks.specs.{Undoing.undo_left_in, Holding.IsHeld}
 use Rattle.desks.specs.declared.desk.Doing.TheVariants.{Nothing, Searching, Changing, Lagging, Undoing}
 use Rattle.desks.proofs.Showing.{task_is}
-use Rattle.law_held_steps.specs.{Leaving.LeavesIndexes, Leaving.LeavesTable, Leaving.is_searching, Undoing.IsReady, Undoing.HasPutBack}
-use Rattle.law_held_steps.specs.{SeenUndoing.lists_held, SeenUndoing.TakesBackIn}
 use Rattle.law_held_steps.proofs.Putting.{left_same, going, mine, asks_for, held_on, rest_beside, goes_or_is_done, held_begun, may_write}
-use Rattle.law_held_steps.proofs.{Desks.doing_here, Left.held_left, Showing.left_shown}
 use Rattle.law_held_steps.proofs.TakenBack.{own_number, has_logged, may_add, held_then, ready_if, shows_begun, shows_went, shows_undone}
 use Rattle.world_lists.specs.Between.{IsKept, AwaitsOnly, AwaitsNobody, AwaitsWriter, can_await, table_at}
 use Rattle.world_lists.specs.Parts.{DropsNewest, AwaitsAfter}
 use Rattle.world_lists.proofs.Awaiting.{only_mine, only_then, only_left, awaits_none, awaits_of_nobody, writer_of_only}
-use Rattle.world_lists.proofs.{Calls.past_here, Calls.at_desk, Changing.HasTable}
 use Rattle.shared_lists.specs.Tasks as tasks
 use Rattle.shared_lists.specs.declared.answers.Undone.{Undone as Answer}
 use Rattle.shared_lists.specs.declared.answers.Undone.TheVariants as undone
+use Rattle.inno_model.specs.{declared.event.Event.TheVariants.Undone, Past.own}
+use Rattle.store_api.specs.{declared.moves.Move.Move, declared.moves.Move.TheVariants.Done, declared.moves.Move.TheVariants.Step}
+use Rattle.row_versions.specs.{Chains.Chains, declared.place.Place.Place}
+use Rattle.world.specs.{Told.TellsTogether, declared.undo_room.UndoRoom.UndoRoom, Undoing.read_into, Undoing.ReadsLast, Undoing.IsCutBack}
+use Rattle.world.specs.{Undoing.HoldsRecord, Memory.IsInMemory}
+use Rattle.undo_apply.specs.{declared.work_room.WorkRoom.WorkRoom, Stages.IsPuttingBack}
+use Rattle.shared_lists.specs.{Tasks.MayTakeBack, State.Lists, State.task_of}
+use Rattle.desks.specs.{declared.desk.Desk.Desk, declared.desk.Doing.Doing, Desks.doing_at, Desks.with_doing, Shown.lists_of, Shown.shown, Shown.seen_of}
+use Rattle.desks.specs.{Undoing.undo_left_in, Holding.IsHeld}
+use Rattle.law_held_steps.specs.{Leaving.LeavesIndexes, Leaving.LeavesTable, Leaving.is_searching, Undoing.IsReady, Undoing.HasPutBack}
+use Rattle.law_held_steps.specs.{SeenUndoing.lists_held, SeenUndoing.TakesBackIn}
+use Rattle.law_held_steps.proofs.{Desks.doing_here, Left.held_left, Showing.left_shown}
+use Rattle.world_lists.proofs.{Calls.past_here, Calls.at_desk, Changing.HasTable}
 
 -- who is awaited after it
 pub awaits_after : (s : ℕ) (new : WorldState) (writer : Option ℕ) (desks later : List Desk) (table : ℕ) (answer : Answer) → writer ≡ Some s

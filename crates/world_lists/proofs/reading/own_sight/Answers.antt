@@ -1,11 +1,11 @@
 use Rattle.std.proofs.Common.{refl, sym, ap, subst}
 use Rattle.store_api.specs.declared.answers.Standing.{Standing}
 use Rattle.read_view.specs.Sight.{Sight as ReadSight}
-use Rattle.world.specs.{State.WorldState, Sessions.IsShown}
 use Rattle.desks.specs.Holding.{IsOwnView}
 use Rattle.law_held_steps.specs.Begun.{HasView}
 use Rattle.law_held_steps.proofs.Stepping.{own_view}
 use Rattle.world_lists.proofs.reading.own_sight.Goals as goal
+use Rattle.world.specs.{State.WorldState, Sessions.IsShown}
 
 pub returns-in-Some : goal.returns-in-Some
 returns-in-Some g c =

@@ -1,11 +1,8 @@
-use Rattle.std.proofs.Common.{◌<◌, length, get_or, true, sym, subst}
-use Rattle.inno_types.specs.declared.reply.Reply.TheVariants as replies
+use Rattle.std.proofs.Common.{length, get_or, true}
 use Rattle.inno_types.specs.declared.stmt.Stmt.TheVariants as stmts
-use Rattle.inno_model.specs.Past.{level, own, IsOpen}
-use Rattle.sql_grammar.specs.Grammar.{Spells}
-use Rattle.sql_history.specs.{Items.Asks, Settings.Setting, Settings.at_first, Settings.saved}
-use Rattle.shared_lists.specs.State.{State, Lists}
-use Rattle.sql_lists.specs.Kept.{MayReply}
+use Rattle.inno_model.specs.Past.{level, own}
+use Rattle.sql_history.specs.Settings.{Setting, at_first, saved}
+use Rattle.shared_lists.specs.State.{Lists}
 use Rattle.sql_lists.proofs.Keeping.{by_setting, saves_as}
 use Rattle.sql_lists.proofs.lists.SqlLists.end_savepoint.Goals as goal
 
@@ -15,10 +12,6 @@ invariant_of-self-2 g c =
     let x : Setting = get_or old.settings c.args.session at_first in
     let made = length (own c.args.session old.state.past) in
     by_setting c.args.session (stmts.Savepoint c.args.name.now) (record x { saves = saved c.args.name.now made true x.saves }) old
-    (g.L.SharedLists.lists c.save.new.self) (g.L.SharedLists.lists c.end.new.self)
-    (subst (λ (st : State). c.args.session < length st.names) (sym c.self.view_is) c.requires.joined)
-    (subst (λ (st : State). MayReply c.args.session replies.Done st.past) (sym c.self.view_is) c.requires.may)
-    (subst (λ (st : State). Asks Spells c.args.session (stmts.Savepoint c.args.name.now) st.past) (sym c.self.view_is) c.requires.asked)
-    (saves_as c.args.name.now made (level c.args.session old.state.past) x
-    (subst (λ (st : State). IsOpen c.args.session st.past) (sym c.self.view_is) c.requires.is_open))
+    (g.L.SharedLists.lists c.save.new.self) (g.L.SharedLists.lists c.end.new.self) (rw c.self.view_is c.requires.joined) (rw c.self.view_is c.requires.may)
+    (rw c.self.view_is c.requires.asked) (saves_as c.args.name.now made (level c.args.session old.state.past) x (rw c.self.view_is c.requires.is_open))
     c.in_ok-save.ensures.same c.in_ok-save.ensures.ok c.in_ok-save.ensures.rows c.end.ensures.adds c.end.ensures.settings c.end.ensures.rows c.self.invariant

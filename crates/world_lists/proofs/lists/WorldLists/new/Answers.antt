@@ -1,9 +1,9 @@
 use Rattle.std.proofs.Common.{List, None, refl, sym, ap, subst}
-use Rattle.desks.specs.{declared.desk.Desk.Desk, Holding.IsHeld}
 use Rattle.law_held_steps.proofs.Tables.{first_held}
 use Rattle.world_lists.proofs.Awaiting.{awaits_of_nobody}
 use Rattle.law_held_steps.specs.SeenEntries.{settings_of}
 use Rattle.world_lists.proofs.lists.WorldLists.new.Goals as goal
+use Rattle.desks.specs.{declared.desk.Desk.Desk, Holding.IsHeld}
 
 pub invariant_of-result : goal.invariant_of-result
 invariant_of-result g c =

@@ -1,5 +1,4 @@
-use Rattle.world_lists.proofs.Made.{on_err, of_ok, stays_same, is_closed, few_begun, roomed_kept, roomed_stays, roomed_unset, roomed_rows, may_tell, surely}
-use Rattle.world_lists.proofs.Made.{opened_kept, opened_adds, opened_reset, opened_rows}
+use Rattle.world_lists.proofs.Made.{on_err, of_ok, stays_same, is_closed, few_begun, roomed_kept, roomed_shown, may_tell, surely, opened_kept, opened_shown}
 use Rattle.world_lists.proofs.steps.WorldListsSharedLists.begin.Goals as goal
 
 pub returns-in_err-event_room-clause-err : goal.returns-in_err-event_room-clause-err
@@ -16,17 +15,10 @@ invariant_of-self-in_err-txn g c =
     roomed_kept c.args.session c.self.invariant c.self.view_is c.requires.joined c.in_ok-event_room.ensures.ok c.in_err-txn.ensures.err c.requires.idle
     (g.met.W.EngineWorld.tells c.self.inside.world).told
 
-pub returns-in_err-txn-clause-err : goal.returns-in_err-txn-clause-err
-returns-in_err-txn-clause-err g c =
-    on_err _ (roomed_stays c.args.session c.self.invariant c.self.view_is c.requires.joined c.in_ok-event_room.ensures.ok c.in_err-txn.ensures.err)
-
-pub returns-in_err-txn-clause-unset : goal.returns-in_err-txn-clause-unset
-returns-in_err-txn-clause-unset g c =
-    on_err _ (roomed_unset c.args.session c.self.invariant c.self.view_is c.requires.joined c.in_ok-event_room.ensures.ok c.in_err-txn.ensures.err)
-
-pub returns-in_err-txn-clause-rows : goal.returns-in_err-txn-clause-rows
-returns-in_err-txn-clause-rows g c =
-    roomed_rows c.args.session c.self.invariant c.self.view_is c.requires.joined c.in_ok-event_room.ensures.ok c.in_err-txn.ensures.err
+pub returns-in_err-txn : goal.returns-in_err-txn
+returns-in_err-txn g c =
+    let shows = roomed_shown c.args.session c.self.invariant c.self.view_is c.requires.joined c.in_ok-event_room.ensures.ok c.in_err-txn.ensures.err in
+    record { ok = record {}; settings = record {}; err = shows.state; unset = shows.settings; rows = shows.rows }
 
 pub add_begin-requires : goal.add_begin-requires
 add_begin-requires g c =
@@ -44,17 +36,9 @@ invariant_of-self-2 g c =
     c.in_ok-txn.ensures.ok (of_ok c.add_begin.result c.unwrap.result c.unwrap.ensures c.add_begin.ensures.ok) c.requires.idle
     (g.met.W.EngineWorld.tells c.self.inside.world).told (g.met.W.EngineWorld.tells c.event_room.new.self).told c.requires.may.1 c.is_short.ensures.few
 
-pub returns-clause-ok : goal.returns-clause-ok
-returns-clause-ok g c =
-    opened_adds c.args.session c.self.invariant c.self.view_is c.requires.joined c.in_ok-event_room.ensures.ok c.args.level c.in_ok-txn.ensures.number
-    c.in_ok-txn.ensures.ok (of_ok c.add_begin.result c.unwrap.result c.unwrap.ensures c.add_begin.ensures.ok)
-
-pub returns-clause-settings : goal.returns-clause-settings
-returns-clause-settings g c =
-    opened_reset c.args.session c.self.invariant c.self.view_is c.requires.joined c.in_ok-event_room.ensures.ok c.args.level c.in_ok-txn.ensures.number
-    c.in_ok-txn.ensures.ok (of_ok c.add_begin.result c.unwrap.result c.unwrap.ensures c.add_begin.ensures.ok)
-
-pub returns-clause-rows : goal.returns-clause-rows
-returns-clause-rows g c =
-    opened_rows c.args.session c.self.invariant c.self.view_is c.requires.joined c.in_ok-event_room.ensures.ok c.args.level c.in_ok-txn.ensures.number
-    c.in_ok-txn.ensures.ok (of_ok c.add_begin.result c.unwrap.result c.unwrap.ensures c.add_begin.ensures.ok)
+pub returns : goal.returns
+returns g c =
+    let shows =
+    opened_shown c.args.session c.self.invariant c.self.view_is c.requires.joined c.in_ok-event_room.ensures.ok c.args.level c.in_ok-txn.ensures.number
+    c.in_ok-txn.ensures.ok (of_ok c.add_begin.result c.unwrap.result c.unwrap.ensures c.add_begin.ensures.ok) in
+    record { ok = shows.state; settings = shows.settings; err = record {}; unset = record {}; rows = shows.rows }

@@ -1,12 +1,12 @@
 use Rattle.std.proofs.Common.{◌≡◌, ◌<◌, ◌∙◌, ℕ, Option, List, length, ap, arith}
-use Rattle.world.specs.{State.WorldState, declared.undo_room.UndoRoom.UndoRoom}
 use Rattle.undo_apply.specs.declared.work_room.WorkRoom.{WorkRoom}
 use Rattle.shared_lists.specs.State.{Lists, task_of}
-use Rattle.desks.specs.{declared.desk.Desk.Desk, Desks.doing_at, Shown.seen_of}
 use Rattle.law_held_steps.proofs.Showing.{tasks_same}
 use Rattle.world_lists.specs.Between.{IsKept}
 use Rattle.world_lists.proofs.Made.{pushed, joined_kept, joined_tasks}
 use Rattle.world_lists.proofs.steps.WorldListsSharedLists.join.Goals as goal
+use Rattle.world.specs.{State.WorldState, declared.undo_room.UndoRoom.UndoRoom}
+use Rattle.desks.specs.{declared.desk.Desk.Desk, Desks.doing_at, Shown.seen_of}
 
 -- what the sessions have under way, where the world's tables and versions are as they were
 tasks_stay : {old : WorldState} {writer : Option ℕ} {desks : List Desk} {cuts : ℕ} {undo : UndoRoom} {room : WorkRoom} {lists : Lists}

@@ -1,7 +1,7 @@
 use Rattle.std.proofs.Common.{sym, subst, ◌∙◌}
 use Rattle.txn_table.specs.Txns.{is_there}
-use Rattle.world_lists.proofs.{Calls.its_work, Calls.its_listed, Calls.its_txn, Made.when_ok, Made.saved_kept, Made.saved_stays, Made.saved_reset}
 use Rattle.world_lists.proofs.steps.WorldListsSharedLists.save.Goals as goal
+use Rattle.world_lists.proofs.{Calls.its_work, Calls.its_listed, Calls.its_txn, Made.when_ok, Made.saved_kept, Made.saved_stays, Made.saved_reset}
 
 pub savepoint-requires : goal.savepoint-requires
 savepoint-requires g c =

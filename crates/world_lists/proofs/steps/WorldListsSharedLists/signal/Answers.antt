@@ -1,6 +1,6 @@
 use Rattle.std.proofs.Common.{refl}
 use Rattle.inno_model.specs.declared.event.Event.TheVariants.{Signal}
-use Rattle.world_lists.proofs.Made.{on_err, stays_same, adds, unset_as, same_rows, signal_kept}
+use Rattle.world_lists.proofs.Made.{on_err, stays_same, enters, signal_kept}
 use Rattle.world_lists.proofs.steps.WorldListsSharedLists.signal.Goals as goal
 
 pub returns-in_err-add_signal-clause-err : goal.returns-in_err-add_signal-clause-err
@@ -11,11 +11,8 @@ invariant_of-self-2 g c =
     signal_kept c.args._session c.self.invariant c.self.view_is c.requires.joined c.args.name c.in_ok-add_signal.ensures.ok c.requires.idle
     (g.met.W.EngineWorld.tells c.self.inside.world).told c.is_short.ensures.few
 
-pub returns-clause-ok : goal.returns-clause-ok
-returns-clause-ok g c = adds c.args._session c.self.invariant c.self.view_is (Signal c.args.name) c.in_ok-add_signal.ensures.ok refl refl refl refl
-
-pub returns-clause-settings : goal.returns-clause-settings
-returns-clause-settings g c = unset_as c.args._session c.self.invariant c.self.view_is c.in_ok-add_signal.ensures.ok refl
-
-pub returns-clause-rows : goal.returns-clause-rows
-returns-clause-rows g c = same_rows c.args._session c.self.invariant c.self.view_is c.in_ok-add_signal.ensures.ok refl
+pub returns : goal.returns
+returns g c =
+    let shows =
+    enters c.args._session c.self.invariant c.self.view_is (Signal c.args.name) c.in_ok-add_signal.ensures.ok refl refl refl refl refl refl in
+    record { ok = shows.state; err = record {}; settings = shows.settings; rows = shows.rows }

@@ -1,6 +1,6 @@
 use Rattle.std.proofs.Common.{◌+◌, ap}
 use Rattle.world_lists.proofs.Calls.{desk_started, desks_started}
-use Rattle.world_lists.proofs.Made.{on_err, stays_same, started_kept, started_adds, started_unset, started_rows}
+use Rattle.world_lists.proofs.Made.{on_err, stays_same, started_kept, started_shown}
 use Rattle.world_lists.proofs.steps.WorldListsSharedLists.start.Goals as goal
 
 pub returns-in_err-start-clause-err : goal.returns-in_err-start-clause-err
@@ -13,18 +13,10 @@ invariant_of-self-2 g c =
     (desks_started c.args.session c.self.invariant c.self.view_is c.requires.joined c.index.ensures c.index_mut.ensures.value)
     c.requires.at_rest (g.met.W.EngineWorld.tells c.self.inside.world).told c.requires.idle c.is_short.ensures.few
 
-pub returns-clause-ok : goal.returns-clause-ok
-returns-clause-ok g c =
-    started_adds c.args.session c.self.invariant c.self.view_is c.requires.joined _
+pub returns : goal.returns
+returns g c =
+    let shows =
+    started_shown c.args.session c.self.invariant c.self.view_is c.requires.joined _
     (ap (λ n. n + 1) (desk_started c.args.session c.self.invariant c.self.view_is c.requires.joined c.index.ensures)) c.args.item c.in_ok-start.ensures.ok
-    (desks_started c.args.session c.self.invariant c.self.view_is c.requires.joined c.index.ensures c.index_mut.ensures.value)
-
-pub returns-clause-settings : goal.returns-clause-settings
-returns-clause-settings g c =
-    started_unset c.args.session c.self.invariant c.self.view_is c.requires.joined _
-    (ap (λ n. n + 1) (desk_started c.args.session c.self.invariant c.self.view_is c.requires.joined c.index.ensures)) c.args.item c.in_ok-start.ensures.ok
-
-pub returns-clause-rows : goal.returns-clause-rows
-returns-clause-rows g c =
-    started_rows c.args.session c.self.invariant c.self.view_is c.requires.joined _
-    (ap (λ n. n + 1) (desk_started c.args.session c.self.invariant c.self.view_is c.requires.joined c.index.ensures)) c.args.item c.in_ok-start.ensures.ok
+    (desks_started c.args.session c.self.invariant c.self.view_is c.requires.joined c.index.ensures c.index_mut.ensures.value) in
+    record { ok = shows.state; err = record {}; settings = shows.settings; rows = shows.rows }

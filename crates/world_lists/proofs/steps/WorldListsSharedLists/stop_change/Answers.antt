@@ -1,6 +1,6 @@
 use Rattle.std.proofs.Common.{refl, sym, ◌∙◌}
-use Rattle.world_lists.proofs.{Changing.step_kept, Changing.step_shown, Changing.step_stops, Changing.none_entered, Searching.desks_given}
 use Rattle.world_lists.proofs.steps.WorldListsSharedLists.stop_change.Goals as goal
+use Rattle.world_lists.proofs.{Changing.step_kept, Changing.step_shown, Changing.step_stops, Changing.none_entered, Searching.desks_given}
 
 pub invariant_of-self : goal.invariant_of-self
 invariant_of-self g c =

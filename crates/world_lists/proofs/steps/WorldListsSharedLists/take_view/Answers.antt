@@ -1,5 +1,5 @@
 use Rattle.world_lists.proofs.Calls.{its_work}
-use Rattle.world_lists.proofs.Made.{on_err, stays_same, viewed_kept, viewed_adds, viewed_unset, viewed_rows}
+use Rattle.world_lists.proofs.Made.{on_err, stays_same, viewed_kept, viewed_shown}
 use Rattle.world_lists.proofs.steps.WorldListsSharedLists.take_view.Goals as goal
 
 pub add_view-requires : goal.add_view-requires
@@ -13,17 +13,9 @@ invariant_of-self-2 g c =
     viewed_kept c.args.session c.self.invariant c.self.view_is c.requires.joined c.requires.is_open c.in_ok-active.ensures.ok c.next_id-next.ensures
     c.in_ok-add_view.ensures.ok c.requires.idle (g.met.W.EngineWorld.tells c.self.inside.world).told c.is_short.ensures.few
 
-pub returns-clause-ok : goal.returns-clause-ok
-returns-clause-ok g c =
-    viewed_adds c.args.session c.self.invariant c.self.view_is c.requires.joined c.requires.is_open c.in_ok-active.ensures.ok c.next_id-next.ensures
-    c.in_ok-add_view.ensures.ok
-
-pub returns-clause-settings : goal.returns-clause-settings
-returns-clause-settings g c =
-    viewed_unset c.args.session c.self.invariant c.self.view_is c.requires.joined c.requires.is_open c.in_ok-active.ensures.ok c.next_id-next.ensures
-    c.in_ok-add_view.ensures.ok
-
-pub returns-clause-rows : goal.returns-clause-rows
-returns-clause-rows g c =
-    viewed_rows c.args.session c.self.invariant c.self.view_is c.requires.joined c.requires.is_open c.in_ok-active.ensures.ok c.next_id-next.ensures
-    c.in_ok-add_view.ensures.ok
+pub returns : goal.returns
+returns g c =
+    let shows =
+    viewed_shown c.args.session c.self.invariant c.self.view_is c.requires.joined c.requires.is_open c.in_ok-active.ensures.ok c.next_id-next.ensures
+    c.in_ok-add_view.ensures.ok in
+    record { ok = shows.state; err = record {}; settings = shows.settings; rows = shows.rows }

@@ -1,5 +1,0 @@
-use Rattle.law_logged_changes.proofs.entry_changes.a_change_goes_on.Goals as goal
-use Rattle.law_logged_changes.proofs.Entering.{goes_on}
-
-pub returns : goal.returns
-returns c = goes_on

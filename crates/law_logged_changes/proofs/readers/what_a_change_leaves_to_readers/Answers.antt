@@ -1,5 +1,0 @@
-use Rattle.law_logged_changes.proofs.readers.what_a_change_leaves_to_readers.Goals as goal
-use Rattle.law_logged_changes.proofs.Readable.{readable}
-
-pub returns : goal.returns
-returns c = readable
