@@ -1,5 +1,5 @@
 -- What a change of one entry makes of what its key says, and which entries a change of a row asks for.
-use Rattle.std.proofs.Common.{◌≡◌, ◌≢◌, ◌∙◌, sym, ap, subst, refl, ℕ, Bool, true, false, cond, List, [], ◌∷◌, Option, None, Some, ◌⊎◌, inl, inr}
+use Rattle.std.proofs.Common.{◌≡◌, ◌≢◌, ◌∙◌, sym, ap, refl, ℕ, Bool, true, false, cond, List, [], ◌∷◌, Option, None, Some, ◌⊎◌, inl, inr}
 use Rattle.std.specs.Prelude.{is_some, ◌||◌, not}
 use Rattle.std.specs.List.{list_any}
 use Rattle.std.proofs.lemmas.Bool.{true≢false}
@@ -35,23 +35,17 @@ module _ (schema : Schema) (column : ℕ) (entries : List Pair) (was now : Value
   said_after : (key other : Value) → entry_at key other ≢ entry_at here value → (t s : Bool) → is_same_value here key ≡ t
       → is_same_value value other ≡ s → entry_of column other (was key) ≡ entry_of column other (now key)
   said_after key other differ false s place_is value_is = ap (entry_of column other) (sym (elsewhere key place_is))
-  said_after key other differ true false place_is value_is =
-      subst (λ (k : Value). entry_of column other (was k) ≡ entry_of column other (now k)) (same_value here key place_is) (alike other value_is)
+  said_after key other differ true false place_is value_is = rw (same_value here key place_is) at (alike other value_is)
   said_after key other differ true true place_is value_is =
-      let one_place : key ≡ here = sym (same_value here key place_is) in
-      let one_value : other ≡ value = sym (same_value value other value_is) in
-      absurd (differ (λ i. entry_at (one_place i) (one_value i)))
+      absurd (differ (λ i. entry_at (sym (same_value here key place_is) i) (sym (same_value value other value_is) i)))
 
   mark_after : (key other : Value) → HasKey is.primary.kind key → HasEntry is.indexed.kind other → (entry_at key other ≡ entry_at here value)
       ⊎ (entry_at key other ≢ entry_at here value) → value_of (entry_at key other) edited ≡ entry_of column other (now key)
   mark_after key other has_too entry_too (inl same) =
       let parts = same_entry is.indexed.kind other value (key_code is.primary.kind key) (key_code is.primary.kind here) entry_too.0 has_entry.0
       entry_too.1 has_entry.1 same in
-      let key_is = one_key is.primary.kind key here has_too has parts.1 in
-      let one_value : value ≡ other = sym parts.0 in
-      let one_place : here ≡ key = sym key_is in
-      ap (λ (e : List ℕ). value_of e edited) same ∙
-      (value_now (entry_at here value) (entry_of column value (now here)) entries is.rising ∙ (λ i. entry_of column (one_value i) (now (one_place i))))
+      rw (one_key is.primary.kind key here has_too has parts.1, parts.0)
+      (value_now (entry_at here value) (entry_of column value (now here)) entries is.rising)
   mark_after key other has_too entry_too (inr differ) =
       others_now (entry_at here value) (entry_of column value (now here)) (entry_at key other) entries differ
       ∙ (is.marks key other has_too entry_too ∙ said_after key other differ (is_same_value here key) (is_same_value value other) refl refl)
@@ -100,17 +94,12 @@ newest_has : (column : ℕ) (value : Value) (versions : List Version) → has_va
 newest_has column value [] has = absurd (true≢false (sym has))
 newest_has column value (version ∷ versions) has = rw has refl
 
--- a version without the value is put in front of versions of which the newest hasn't it either
-hidden : (column : ℕ) (value : Value) (version : Version) (versions : List Version) → has_value column value version.row ≡ false
-    → has_value column value (newest versions) ≡ false → entry_of column value versions ≡ entry_of column value (version ∷ versions)
-hidden column value version versions apart not_newest = rw (apart, not_newest) refl
-
 behind_alike : (first second any : Bool) → first ≡ second → telling (second || any) second ≡ telling (first || (second || any)) first
 behind_alike first true any same = rw same refl
 behind_alike first false any same = rw same refl
 
--- a version in front that has the value where the newest one has it
-pub same_tells : (column : ℕ) (value : Value) (version : Version) (versions : List Version)
+-- a version in front that has the value exactly where the newest one has it
+same_tells : (column : ℕ) (value : Value) (version : Version) (versions : List Version)
     → has_value column value version.row ≡ has_value column value (newest versions)
     → entry_of column value versions ≡ entry_of column value (version ∷ versions)
 same_tells column value version [] same = rw same refl
@@ -121,7 +110,7 @@ same_tells column value version (first ∷ versions) same =
 pub marked : (column : ℕ) (value : Value) (gone : Version) (versions : List Version) → has_value column value (newest versions) ≡ true
     → gone.row ≡ None → TellAlikeBut value column versions (gone ∷ versions)
 marked column value gone versions has none other apart =
-    hidden column other gone versions (no_row column other gone.row none) (other_value column value other (newest versions) has apart)
+    same_tells column other gone versions (no_row column other gone.row none ∙ sym (other_value column value other (newest versions) has apart))
 
 pub is_marked : (column : ℕ) (value : Value) (gone : Version) (versions : List Version) → has_value column value (newest versions) ≡ true
     → gone.row ≡ None → entry_of column value (gone ∷ versions) ≡ Some (1 ∷ [])
@@ -130,16 +119,12 @@ is_marked column value gone versions has none = rw (no_row column value gone.row
 -- The new row's entry is put where the newest version has no row.
 pub put : (column : ℕ) (value : Value) (version : Version) (versions : List Version) → has_value column value version.row ≡ true
     → newest versions ≡ None → TellAlikeBut value column versions (version ∷ versions)
-put column value version versions has none other apart = hidden column other version versions (other_value column value other version.row has apart)
-    (no_row column other (newest versions) none)
+put column value version versions has none other apart =
+    same_tells column other version versions (other_value column value other version.row has apart ∙ sym (no_row column other (newest versions) none))
 
 pub is_put : (column : ℕ) (value : Value) (version : Version) (versions : List Version) → has_value column value version.row ≡ true
     → entry_of column value (version ∷ versions) ≡ Some (0 ∷ [])
 is_put column value version versions has = rw has refl
-
-pub passed_over : (column : ℕ) (version gone : Version) (versions : List Version) → gone.row ≡ None
-    → TellAlike column (version ∷ gone ∷ versions) (version ∷ versions)
-passed_over column version gone versions none value = rw (no_row column value gone.row none) refl
 
 -- The newest row's entry is taken back: marked where an older version has the value, and removed where none has.
 pub taken : (column : ℕ) (value : Value) (version gone : Version) (versions : List Version) → has_value column value version.row ≡ true
@@ -163,12 +148,11 @@ is_unmarked column value versions has = rw (newest_has column value versions has
 pub without_row : (column : ℕ) (gone : Version) (versions : List Version) → gone.row ≡ None → newest versions ≡ None
     → TellAlike column versions (gone ∷ versions)
 without_row column gone versions none nothing value =
-    hidden column value gone versions (no_row column value gone.row none) (no_row column value (newest versions) nothing)
+    same_tells column value gone versions (no_row column value gone.row none ∙ sym (no_row column value (newest versions) nothing))
 
 -- The new row has the value that the newest row has.
 pub value_again : (column : ℕ) (row : List Value) (version : Version) (versions : List Version) (new_row : List Value) → newest versions ≡ Some row
     → version.row ≡ Some new_row → value_in column row ≡ value_in column new_row
     → TellAlike column versions (version ∷ versions)
 value_again column row version versions new_row first second same value =
-    same_tells column value version versions (ap (has_value column value) second ∙
-    (ap (is_same_value value) (sym same) ∙ ap (has_value column value) (sym first)))
+    same_tells column value version versions (rw (second, first) (ap (is_same_value value) (sym same)))

@@ -13,10 +13,8 @@ pub mod Together
 pub mod Applying
 pub mod Coding
 pub mod Declared
-pub mod Example
 pub mod Numbers
 pub mod Outcomes
 pub mod Rows
 pub mod Spelled
-pub mod Stored
 pub mod FittingValues

@@ -1,11 +1,15 @@
-use Rattle.law_stored_rows.proofs.FromTables.{found, newest_there, under_way}
+use Rattle.std.proofs.Common.{refl}
+use Rattle.law_stored_rows.specs.Tables.{what_is_there}
+use Rattle.law_stored_rows.proofs.Found.{found_where_told, each_found, newest_found}
 use Rattle.law_stored_rows.proofs.reading.a_search_through_a_key_misses_no_row.Goals as goal
 
-pub returns-clause-found : goal.returns-clause-found
-returns-clause-found c = found
-
-pub returns-clause-newest : goal.returns-clause-newest
-returns-clause-newest c = newest_there
-
-pub returns-clause-under_way : goal.returns-clause-under_way
-returns-clause-under_way c = under_way
+pub returns : goal.returns
+returns c = record {
+  found = λ schemas indexes kept chains table which schema key primary indexed value is there also primary_is indexed_is has.
+      each_found schemas indexes kept chains (what_is_there chains) table which schema key primary indexed is there also primary_is indexed_is value has refl;
+  newest = λ schemas indexes kept chains table which schema key primary indexed value row is there also primary_is indexed_is has first.
+      newest_found schemas indexes kept chains (what_is_there chains) table which schema key primary indexed is there also primary_is indexed_is
+      value has refl row first;
+  under_way = λ schemas indexes kept chains said table which schema key primary indexed value is there also primary_is indexed_is has.
+      found_where_told schemas indexes kept chains said table which schema key primary indexed is there also primary_is indexed_is value has;
+}
