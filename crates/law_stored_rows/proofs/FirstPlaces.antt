@@ -1,5 +1,5 @@
 -- The first pair that passes a test is the record of the first place that does.
-use Rattle.std.proofs.Common.{◌≡◌, ◌≢◌, ◌∙◌, sym, ap, subst, ℕ, Bool, true, List, [], ◌∷◌, Option, None, Some, slice_get, ◌⊎◌, inl, inr, refl, arith}
+use Rattle.std.proofs.Common.{◌≡◌, ◌∙◌, sym, ap, subst, ℕ, Bool, true, List, [], ◌∷◌, Option, None, Some, slice_get, ◌⊎◌, inl, inr, refl, arith}
 use Rattle.std.specs.Prelude.{MatchOption, is_some, find}
 use Rattle.std.proofs.lemmas.Bool.{true≢false}
 use Rattle.std.proofs.lemmas.Bool.Decides.{nat_tests}

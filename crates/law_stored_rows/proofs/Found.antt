@@ -52,9 +52,9 @@ rows_at_home schema kept pairs rows is value = All-from_recursion (Shows (IsRowA
       let code = key_code is.primary.kind value in
       let at_home : (bytes : List ℕ) (coded : Coded) → IsCodeOf schema code bytes coded → IsRowAt schema value coded.row =
       λ bytes coded coded_is.
-          let both = key_there schema code bytes coded is.primary is.primary_is coded_is in
-          let one = one_key is.primary.kind (key_of schema coded.row) value both.0 found.0 (sym both.1) in
-          record { fits = coded_is.record_is.fits; bits = coded_is.numbers.row; key_is = one } in
+      let both = key_there schema code bytes coded is.primary is.primary_is coded_is in
+      let one = one_key is.primary.kind (key_of schema coded.row) value both.0 found.0 (sym both.1) in
+      record { fits = coded_is.record_is.fits; bits = coded_is.numbers.row; key_is = one } in
       of_record schema code kept (IsRowAt schema value) at_home (value_of code pairs) (rows value) (is.records value found.0)
 ])
 

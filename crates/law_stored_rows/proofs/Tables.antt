@@ -1,5 +1,5 @@
 -- What a change of the versions at one place leaves, and what stays when more is kept.
-use Rattle.std.proofs.Common.{◌≡◌, ◌∙◌, sym, ℕ, ◌<◌, ◌≤◌, false, List, [], ◌∷◌, length, Option, Some, slice_get, arith}
+use Rattle.std.proofs.Common.{◌≡◌, ◌∙◌, sym, ℕ, ◌<◌, ◌≤◌, false, List, ◌∷◌, length, Option, Some, slice_get, arith}
 use Rattle.std.proofs.lemmas.Option.{slice_get_within}
 use Rattle.inno_types.specs.{declared.value.Value.Value, declared.value.Key.Key, declared.value.Schema.Schema}
 use Rattle.entries.specs.Pairs.{Pair}
