@@ -9,7 +9,6 @@ pub mod Found
 pub mod Steps
 pub mod Made
 pub mod FromTables
-pub mod Together
 pub mod Applying
 pub mod Coding
 pub mod Declared

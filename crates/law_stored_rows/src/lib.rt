@@ -11,9 +11,8 @@ mod records;
 mod walks;
 
 pub use changes::{
-    a_change_is_over, a_new_table_has_no_rows, an_update_ends_in_coded_rows,
-    an_update_is_taken_back_to_coded_rows, keys_lag_at_the_place_alone, keys_say_what_tells_alike,
-    no_tables_have_no_rows,
+    a_change_is_over, a_new_table_has_no_rows, keys_lag_at_the_place_alone,
+    keys_say_what_tells_alike, no_tables_have_no_rows,
 };
 pub use entries_of_keys::{
     a_change_without_a_new_value_needs_no_entry, the_new_entry_is_put, the_new_entry_is_taken_back,
