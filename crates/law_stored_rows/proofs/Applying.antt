@@ -1,5 +1,5 @@
 -- Changes that fit leave a database that fits.
-use Rattle.std.proofs.Common.{◌≡◌, ℕ, true, false, cond, List, [], ◌∷◌, ◌++◌, Option, Some, None, refl, sym, subst, ◌∙◌, append-nil, inl, inr}
+use Rattle.std.proofs.Common.{◌≡◌, ℕ, true, false, cond, List, [], ◌∷◌, ◌++◌, Some, None, refl, sym, subst, ◌∙◌, append-nil, inl, inr}
 use Rattle.std.specs.Prelude.{slice_get, IsSomeAnd, All}
 use Rattle.std.specs.Ordering.{eq_by_cmp}
 use Rattle.std.specs.FinMap.{get, from_entries, get-empty, get-insert, get-remove}
@@ -20,7 +20,7 @@ use Rattle.law_stored_rows.proofs.{Pairs.got_before, Pairs.got_last, Values.eq_i
 there-more : (P : Schema → Type 0) (schemas more : List Schema) (n : ℕ) → IsSomeAnd (slice_get schemas n) P → IsSomeAnd (slice_get (schemas ++ more) n) P
 there-more P schemas more n h =
     let found = schema_at P (slice_get schemas n) h in
-    subst (λ (o : Option Schema). IsSomeAnd o P) (sym (got_before schemas more n found.0 found.1)) found.2
+    rw (got_before schemas more n found.0 found.1) found.2
 
 -- what fits some tables fits them and more
 pub FitsTables-more : (schemas more : List Schema) (change : Change) → FitsTables schemas change → FitsTables (schemas ++ more) change
@@ -55,8 +55,7 @@ stands_at_its_key : (schemas : List Schema) (table : ℕ) (row : List Value) →
     → FitsAt schemas (table, key_in schemas table row) row
 stands_at_its_key schemas table row fits =
     let found = schema_at (λ schema. FitsTable schema row) (slice_get schemas table) fits in
-    subst (λ (o : Option Schema). IsSomeAnd o (λ schema. FitsTable schema row × (key_in schemas table row ≡ key_of schema row))) (sym found.1)
-    (found.2, key_in-at schemas table found.0 row found.1)
+    rw found.1 (found.2, key_in-at schemas table found.0 row found.1)
 
 pub AreFitting-apply_one : (db : Database) (change : Change) → AreFitting db → FitsTables db.schemas change → AreFitting (apply_one db change)
 AreFitting-apply_one db (Create made) fitting fits = record {
@@ -86,8 +85,7 @@ schemas-apply_one db other = sym (append-nil db.schemas)
 
 -- what fits a database still does after a change
 FitsTables-after : (db : Database) (made change : Change) → FitsTables db.schemas change → FitsTables (apply_one db made).schemas change
-FitsTables-after db made change fits =
-    subst (λ (l : List Schema). FitsTables l change) (sym (schemas-apply_one db made)) (FitsTables-more db.schemas (tables_added made) change fits)
+FitsTables-after db made change fits = rw (schemas-apply_one db made) (FitsTables-more db.schemas (tables_added made) change fits)
 
 pub AreFitting-apply : (db : Database) (changes : List Change) → AreFitting db → All (FitsTables db.schemas) changes → AreFitting (apply db changes)
 AreFitting-apply db [] fitting all = fitting
@@ -122,6 +120,5 @@ pub AreFitting-mixed : (schemas : List Schema) (rows : RowMap) → AreStorable s
 AreFitting-mixed schemas rows storable each = record {
   tables = storable;
   rows = λ place row is. let stood = each place row is in
-      subst (λ (l : List Schema). FitsAt l place row) (sym stood.tables)
-      (FitsAt-more stood.db.schemas stood.more place row (stood.fitting.rows place row stood.there));
+      rw stood.tables (FitsAt-more stood.db.schemas stood.more place row (stood.fitting.rows place row stood.there));
 }

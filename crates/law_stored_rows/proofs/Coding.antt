@@ -1,5 +1,5 @@
 -- The record and the entries of a row that fits its table.
-use Rattle.std.proofs.Common.{◌≡◌, ℕ, ◌≤◌, List, length, get_or, Some, refl, ap, ◌∙◌, subst, arith}
+use Rattle.std.proofs.Common.{◌≡◌, ℕ, ◌≤◌, List, length, get_or, Some, refl, ap, ◌∙◌, arith}
 use Rattle.std.specs.Prelude.{All, slice_get}
 use Rattle.inno_types.specs.{declared.value.Kind.Kind, declared.value.Kind.TheVariants.BigInt, declared.value.Kind.TheVariants.VarBinary}
 use Rattle.inno_types.specs.{declared.value.Column.Column, declared.value.Schema.Schema, declared.value.Value.Value, declared.value.Value.TheVariants.Null}
@@ -11,9 +11,6 @@ use Rattle.row_codec.specs.Rows.{IsRowOf, IsKeyOf, IsRecordOf, version_code}
 use Rattle.row_codec.proofs.Stored.{length-version_code}
 use Rattle.law_stored_rows.specs.{Storable.IsStorable, Fitting.IsKeyFor, Fitting.FitsTable, FittingRecords.value_in, FittingRecords.IsEntryOf}
 use Rattle.law_stored_rows.proofs.FittingValues.{value-fits, of_kind_or_null}
-
-same_column : (columns : List Column) (place : ℕ) (a b : Column) → slice_get columns place ≡ Some a → slice_get columns place ≡ Some b → a ≡ b
-same_column columns place a b is also = cc
 
 pub value_in-kind : (columns : List Column) (row : List Value) (place : ℕ) (column : Column) → IsRowOf columns row
     → slice_get columns place ≡ Some column → IsOfKindOrNull column.kind (value_in place row)
@@ -36,8 +33,8 @@ HasRecord schema version fits =
 length-key : (schema : Schema) (row : List Value) (key : List ℕ) (column : Column) → slice_get schema.columns schema.primary ≡ Some column
     → IsKeyOf schema row key → length key ≡ key_width column.kind
 length-key schema row key column there is =
-    ap length is.spelled ∙ length-key_code is.column.kind (key_of schema row) is.present
-    ∙ ap (λ (c : Column). key_width c.kind) (same_column schema.columns schema.primary is.column column is.primary there)
+    let one : is.column ≡ column = cc (is.primary, there) in
+    rw one at (ap length is.spelled ∙ length-key_code is.column.kind (key_of schema row) is.present)
 
 pub short_key : (schema : Schema) (row : List Value) (key : List ℕ) → IsStorable schema → IsKeyOf schema row key → length key ≤ 33
 short_key schema row key storable is = omega (arith, length-key schema row key storable.column storable.primary is, storable.short)
@@ -72,7 +69,8 @@ short_entries schema storable = λ k d below row bytes is.
     let key = get_or schema.keys k d in
     let on = storable.keys k d below in
     let width = ap length is.spelled ∙ length-entry_code is.column.kind (value_in key.column row) is.primary is.of_kind in
-    let same = ap (λ (c : Column). key_width c.kind) (same_column schema.columns key.column is.column on.column is.there on.there) in
+    let one : is.column ≡ on.column = cc (is.there, on.there) in
+    let same = ap (λ (c : Column). key_width c.kind) one in
     let front = length-key schema row is.primary storable.column storable.primary is.primary_is in
     omega (arith, width, same, front, on.short)
 
@@ -80,8 +78,7 @@ short_entries schema storable = λ k d below row bytes is.
 
 pub IsKeyFor-kind : (schema : Schema) (key : Value) (column : Column) → IsKeyFor schema key → slice_get schema.columns schema.primary ≡ Some column
     → IsOfKind column.kind key
-IsKeyFor-kind schema key column is there =
-    subst (λ (c : Column). IsOfKind c.kind key) (same_column schema.columns schema.primary is.column column is.primary there) is.of_kind
+IsKeyFor-kind schema key column is there = let one : is.column ≡ column = cc (is.primary, there) in rw one at is.of_kind
 
 no_key : (kind : Kind) → IsOfKind kind Null → ⊥
 no_key BigInt is = is

@@ -73,9 +73,6 @@ then_some : {X : Type 0} (o : Option X) (P Q : X → Type 0) → ((x : X) → o 
 then_some None P Q goes p = tt
 then_some (Some x) P Q goes p = goes x refl p
 
-told : (some : Bool) (mark : List ℕ) → some ≡ true → is_some (cond some (Some mark) None) ≡ true
-told some mark is = rw is refl
-
 there_tells : (some : Bool) (mark : List ℕ) → is_some (cond some (Some mark) None) ≡ true → some ≡ true
 there_tells true mark there = refl
 there_tells false mark there = there
@@ -144,9 +141,7 @@ module _ (schemas : List Schema) (indexes : ℕ → List Pair) (kept : ℕ → O
   pub found_where_told : (here : Value) → HasKey primary.kind here → All (Shows (IsFoundIfTold here)) (rows here)
   found_where_told here has k d below =
       then_some (slice_index_or (rows here) k d).row HasItsEntry (IsFoundIfTold here)
-      (λ row row_is has_entry some. let value = value_in key.column row in
-      ap is_some (mark_is here value has has_entry)
-      ∙ told (any_has key.column value (tells here)) (mark_code (not (has_value key.column value (newest (tells here)))) ∷ []) some)
+      (λ row row_is has_entry some. rw (mark_is here (value_in key.column row) has has_entry, some) refl)
       (All-from_recursion (Shows HasItsEntry) (rows here) (rows_have here has) k d below)
 
   pub each_found : (here : Value) → HasKey primary.kind here → tells here ≡ rows here → All (Shows (IsFound here)) (rows here)

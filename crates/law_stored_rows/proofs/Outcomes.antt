@@ -1,5 +1,5 @@
 -- What holds of each change of an outcome; these changes fit the tables of its database.
-use Rattle.std.proofs.Common.{◌≡◌, ℕ, ◌<◌, true, false, List, [], ◌∷◌, ◌++◌, length, Option, Some, None, Ok, Err, Result, is_some, inl, inr, refl, sym, subst}
+use Rattle.std.proofs.Common.{◌≡◌, ℕ, ◌<◌, true, false, List, [], ◌∷◌, ◌++◌, length, Option, Some, None, Ok, Err, Result, is_some, inl, inr, refl, subst}
 use Rattle.std.proofs.Common.{⊎_elim, arith}
 use Rattle.std.specs.Prelude.{slice_get, IsSomeAnd, All, if◌then◌else◌}
 use Rattle.std.specs.List.{AllByRecursion}
@@ -130,7 +130,7 @@ module _ (db : Database) (fitting : AreFitting db) where
   makes-else (Update table sets condition) = λ n schema is k d below row made. tt
   makes-else (Delete table condition) = λ n schema is.
       All-weaker (FitsTable schema) (λ row. IsSomeAnd (slice_get db.schemas n) (λ s. IsKeyFor s (key_of schema row)))
-      (λ row fits. subst (λ (o : Option Schema). IsSomeAnd o (λ s. IsKeyFor s (key_of schema row))) (sym is) fits.key)
+      (λ row fits. rw is fits.key)
       (rows_of n db) (rows_of-FitsTable db fitting n schema is)
   makes-else other = tt
 
@@ -139,8 +139,7 @@ module _ (db : Database) (fitting : AreFitting db) where
   put-fits table row fits there = elim (slice_get_cases db.schemas table).1 [
     | inl found ↦
         let schema = found.0 in
-        subst (λ (o : Option Schema). IsSomeAnd o (λ s. FitsTable s row)) (sym found.2)
-        (FitsTable-from_row schema row (fitting.tables table schema found.2) (row_fits schema.columns row (fits schema found.2)))
+        rw found.2 (FitsTable-from_row schema row (fitting.tables table schema found.2) (row_fits schema.columns row (fits schema found.2)))
     | inr past ↦ absurd (omega (arith, past.0, there))
   ]
 

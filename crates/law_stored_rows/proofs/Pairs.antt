@@ -1,8 +1,7 @@
 -- One key of an index is given another value, or none; one index of several is changed.
 use Rattle.std.proofs.Common.{◌≡◌, ◌≢◌, ◌∙◌, sym, ap, refl, ℕ, ◌<◌, zero, suc, List, [], ◌∷◌, ◌++◌, length, Option, None, Some, slice_get}
 use Rattle.std.proofs.Common.{◌⊎◌, inl, inr, arith}
-use Rattle.std.specs.Prelude.{◌==◌}
-use Rattle.std.proofs.lemmas.Bool.{ne_eqb, eq-eqb, cond-true, cond-false}
+use Rattle.std.proofs.lemmas.Bool.{ne_eqb, eq-eqb}
 use Rattle.std.specs.declared.cmp.Ordering.{Ordering}
 use Rattle.std.specs.declared.cmp.Ordering.TheVariants.{Equal}
 use Rattle.entries.specs.Pairs.{Pair, key_cmp, AreRising, value_of}
@@ -53,12 +52,11 @@ others_now key (Some value) other pairs differ = others_stay key value other pai
 
 pub at_index : (old new : ℕ → List Pair) (index : ℕ) (key : List ℕ) (value : Option (List ℕ)) → Puts old new index key value
     → new index ≡ with_value key value (old index)
-at_index old new index key value puts = puts index ∙ cond-true (index == index) (with_value key value (old index)) (old index) (eq-eqb index index refl)
+at_index old new index key value puts = rw (eq-eqb index index refl) at (puts index)
 
 pub at_others : (old new : ℕ → List Pair) (index : ℕ) (key : List ℕ) (value : Option (List ℕ)) (other : ℕ) → Puts old new index key value
     → other ≢ index → new other ≡ old other
-at_others old new index key value other puts differ = puts other ∙
-    cond-false (other == index) (with_value key value (old index)) (old other) (ne_eqb other index differ)
+at_others old new index key value other puts differ = rw (ne_eqb other index differ) at (puts other)
 
 pub other_rows : (table other : ℕ) → other ≢ table → clustered_index other ≢ clustered_index table
 other_rows table other differ same = differ (omega (arith, same))
