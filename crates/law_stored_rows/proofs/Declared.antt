@@ -1,6 +1,6 @@
 -- What a CREATE TABLE declares can be stored.
 use Rattle.std.proofs.Common.{◌≡◌, ℕ, suc, ◌+◌, ◌<◌, ◌≤◌, List, [], ◌∷◌, length, take, drop, Bool, true, false, ◌&&◌, ◌||◌, not, Option, Some, None, refl}
-use Rattle.std.proofs.Common.{sym, ap, ◌∙◌, subst, arith, add-one}
+use Rattle.std.proofs.Common.{ap, subst, arith, add-one}
 use Rattle.std.specs.Prelude.{All, slice_get, nat_le, sum_by, remove, unwrap_or}
 use Rattle.std.specs.List.{list_all}
 use Rattle.std.specs.Str.{str_eq_ignore_ascii_case}
@@ -11,7 +11,7 @@ use Rattle.std.proofs.lemmas.List.Sums.{AllPass-from_list_all, sum_by-cons, sum_
 use Rattle.std.proofs.lemmas.List.Quantifiers.{position-Some}
 use Rattle.std.proofs.lemmas.Option.{slice_get_within, get_or_from_slice_get, cond_some}
 use Rattle.inno_types.specs.{declared.value.Kind.Kind, declared.value.Kind.TheVariants.BigInt, declared.value.Kind.TheVariants.VarBinary}
-use Rattle.inno_types.specs.{declared.value.Column.Column, declared.value.Key.Key, declared.value.Schema.Schema, declared.stmt.Definition.Definition}
+use Rattle.inno_types.specs.{declared.value.Column.Column, declared.value.Schema.Schema, declared.stmt.Definition.Definition}
 use Rattle.inno_types.specs.declared.stmt.Definition.TheVariants as definition
 use Rattle.inno_db.specs.{Names.column_at, Names.column_place, declared.limits.TheConstants.MOST_COLUMNS, declared.limits.TheConstants.MOST_BYTES_OF_ROW}
 use Rattle.inno_db.specs.Declarations.{has_twins, is_sized, says_not_null, columns_of, primaries_of, key_columns_of, key_bytes, keys_of, row_bytes, is_short}
@@ -84,46 +84,29 @@ found columns (Some place) h = elim (slice_get columns place) as
       | Some column ↦ λ is e. record { column = column; at = refl; there = is; short = e }
     ] refl h
 
--- the first column of a name has it
-has_name : (columns : List Column) (name : List ℕ) (place : ℕ) (column : Column) → column_place columns name ≡ Some place
-    → slice_get columns place ≡ Some column → str_eq_ignore_ascii_case column.name name ≡ true
-has_name columns name place column is there =
-    let first = position-Some (λ c. str_eq_ignore_ascii_case c.name name) columns place column is in
-    ap (λ (c : Column). str_eq_ignore_ascii_case c.name name) (sym (get_or_from_slice_get columns place column column there)) ∙ first.1
-
--- a column that is there passes what all pass
-passes_at : (test : Column → Bool) (columns : List Column) (place : ℕ) (column : Column) → list_all test columns ≡ true
-    → slice_get columns place ≡ Some column → test column ≡ true
-passes_at test columns place column all there =
-    ap test (sym (get_or_from_slice_get columns place column column there)) ∙
-    AllPass-from_list_all test columns all place column (slice_get_within columns place column there)
-
 takes_no_null : (columns : List Column) (primary : List ℕ) (place : ℕ) (column : Column) → list_all (holds_no_null primary) columns ≡ true
     → column_place columns primary ≡ Some place → slice_get columns place ≡ Some column → column.not_null ≡ true
 takes_no_null columns primary place column all is there =
-    rw (has_name columns primary place column is there) at (passes_at (holds_no_null primary) columns place column all there)
+    let here = get_or_from_slice_get columns place column column there in
+    let named : str_eq_ignore_ascii_case column.name primary ≡ true =
+    rw here at (position-Some (λ c. str_eq_ignore_ascii_case c.name primary) columns place column is).1 in
+    let passes = rw here at (AllPass-from_list_all (holds_no_null primary) columns all place column (slice_get_within columns place column there)) in
+    rw named at passes
 
 -- ---- secondary keys
 
 abbrev can_be_indexed : List Column → List ℕ → Bool
 can_be_indexed columns name = is_indexable (column_at columns (column_place columns name))
 
-key_on : (columns : List Column) (primary : Kind) (key : Key) (place : Option ℕ) → key.column ≡ unwrap_or place 0 → key_width primary ≤ 33
-    → IsFound columns place → IsKeyOn columns primary key
-key_on columns primary key place is narrow f = record {
-  column = f.column;
-  there = ap (slice_get columns) is ∙ f.there;
-  short = omega (arith, narrow, short_width f.column.kind f.short);
-}
-
 keys_on : (columns : List Column) (primary : Kind) (definitions : List Definition) → key_width primary ≤ 33
     → list_all (can_be_indexed columns) (key_columns_of definitions) ≡ true → All (IsKeyOn columns primary) (keys_of columns definitions)
 keys_on columns primary [] narrow all = All-nil (IsKeyOn columns primary)
 keys_on columns primary (definition.Key name column ∷ rest) narrow all =
     let here = and_parts (can_be_indexed columns column) (list_all (can_be_indexed columns) (key_columns_of rest)) all in
-    let others = keys_on columns primary rest narrow here.1 in
+    let f = found columns (column_place columns column) here.0 in
     All-cons (IsKeyOn columns primary) _ (keys_of columns rest)
-    (key_on columns primary _ (column_place columns column) refl narrow (found columns (column_place columns column) here.0)) others
+    (record { column = f.column; there = f.there; short = omega (arith, narrow, short_width f.column.kind f.short) })
+    (keys_on columns primary rest narrow here.1)
 keys_on columns primary (other ∷ rest) narrow all = keys_on columns primary rest narrow all
 
 as_many_keys : (columns : List Column) (definitions : List Definition) → length (keys_of columns definitions) ≡ length (key_columns_of definitions)
@@ -135,9 +118,8 @@ as_many_keys columns (other ∷ rest) = as_many_keys columns rest
 
 few_bytes : (columns : List Column) → are_good_columns columns ≡ true → row_bytes columns ≤ 1000
 few_bytes columns sound =
-    let small = list_all (λ c. is_sized c.kind) columns && nat_le (row_bytes columns) MOST_BYTES_OF_ROW in
-    let apart = and_parts (nat_le (length columns) MOST_COLUMNS) (not (has_twins columns) && small) sound in
-    let rest = and_parts (not (has_twins columns)) small apart.1 in
+    let apart = and_parts (nat_le (length columns) MOST_COLUMNS) _ sound in
+    let rest = and_parts (not (has_twins columns)) _ apart.1 in
     at_most (row_bytes columns) 1000 (and_parts (list_all (λ c. is_sized c.kind) columns) (nat_le (row_bytes columns) MOST_BYTES_OF_ROW) rest.1).1
 
 storable : (table primary : List ℕ) (definitions : List Definition) → are_good_columns (columns_of primary definitions) ≡ true

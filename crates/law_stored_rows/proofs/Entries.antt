@@ -1,6 +1,6 @@
 -- What a change of one entry makes of what its key says, and which entries a change of a row asks for.
 use Rattle.std.proofs.Common.{◌≡◌, ◌≢◌, ◌∙◌, sym, ap, refl, ℕ, Bool, true, false, cond, List, [], ◌∷◌, Option, None, Some, ◌⊎◌, inl, inr}
-use Rattle.std.specs.Prelude.{is_some, ◌||◌, not}
+use Rattle.std.specs.Prelude.{◌||◌, not}
 use Rattle.std.specs.List.{list_any}
 use Rattle.std.proofs.lemmas.Bool.{true≢false}
 use Rattle.inno_types.specs.{declared.value.Value.Value, declared.value.Schema.Schema}
@@ -10,7 +10,7 @@ use Rattle.row_codec.specs.Rows.{mark_code}
 use Rattle.entries.specs.Pairs.{Pair, value_of}
 use Rattle.row_versions.specs.{declared.version.Version.Version, Chains.newest}
 use Rattle.law_stored_rows.specs.Edits.{with_value}
-use Rattle.law_stored_rows.specs.Entries.{is_same_value, value_in, has_value, entry_of, IsSomeEntry, HasEntries, TellAlike, TellAlikeBut}
+use Rattle.law_stored_rows.specs.Entries.{is_same_value, value_in, has_value, entry_of, HasEntries, TellAlike, TellAlikeBut}
 use Rattle.law_stored_rows.proofs.{Values.same_value, Values.apart_from, Values.one_key, Pairs.same_or_not, Pairs.rising_now, Pairs.value_now}
 use Rattle.law_stored_rows.proofs.{Pairs.others_now}
 
@@ -24,12 +24,6 @@ module _ (schema : Schema) (column : ℕ) (entries : List Pair) (was now : Value
 
   abbrev edited : List Pair
   edited = with_value (entry_at here value) (entry_of column value (now here)) entries
-
-  each_after : (entry : List ℕ) → (entry ≡ entry_at here value) ⊎ (entry ≢ entry_at here value) → is_some (value_of entry edited) ≡ true
-      → IsSomeEntry is.primary.kind is.indexed.kind entry
-  each_after entry (inl same) there = (here, value, has, has_entry, same)
-  each_after entry (inr differ) there =
-      is.each entry (ap is_some (sym (others_now (entry_at here value) (entry_of column value (now here)) entry entries differ)) ∙ there)
 
   -- what another entry says of the place has not changed
   said_after : (key other : Value) → entry_at key other ≢ entry_at here value → (t s : Bool) → is_same_value here key ≡ t
@@ -57,7 +51,10 @@ module _ (schema : Schema) (column : ℕ) (entries : List Pair) (was now : Value
     indexed = is.indexed;
     indexed_is = is.indexed_is;
     rising = rising_now (entry_at here value) (entry_of column value (now here)) entries is.rising;
-    each = λ entry there. each_after entry (same_or_not entry (entry_at here value)) there;
+    each = λ entry there. elim (same_or_not entry (entry_at here value)) [
+      | inl same ↦ (here, value, has, has_entry, same)
+      | inr differ ↦ is.each entry (rw (others_now (entry_at here value) (entry_of column value (now here)) entry entries differ) at there)
+    ];
     marks = λ key other has_too entry_too. mark_after key other has_too entry_too (same_or_not (entry_at key other) (entry_at here value));
   }
 

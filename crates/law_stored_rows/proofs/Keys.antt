@@ -1,5 +1,5 @@
 -- What a change of one entry makes of the keys of all tables, and how a change of a place begins and ends.
-use Rattle.std.proofs.Common.{◌≡◌, ◌≢◌, ◌∙◌, sym, ap, subst, refl, ℕ, ◌<◌, Bool, true, false, List, Option, Some, slice_get, ◌⊎◌, inl, inr}
+use Rattle.std.proofs.Common.{◌≡◌, ◌≢◌, ◌∙◌, sym, ap, subst, refl, ℕ, ◌<◌, Bool, true, false, List, Option, Some, slice_get, inl, inr}
 use Rattle.std.specs.Prelude.{◌==◌}
 use Rattle.std.proofs.lemmas.Bool.{cases_eq, eq-eqb, ne_eqb, and_from, and_right}
 use Rattle.inno_types.specs.{declared.value.Value.Value, declared.value.Key.Key, declared.value.Column.Column, declared.value.Schema.Schema}
@@ -83,21 +83,6 @@ module _ (schemas : List Schema) (old new : ℕ → List Pair) (kept : ℕ → O
       subst (λ (f : Value → List Version). HasEntries s c.column (new (key_index other at_key)) f) same_said
       (rw (others_stay (key_index other at_key) apart) (is.keyed.keys other at_key s c is_there is_key))
 
-  each_now : (other at_key : ℕ) (s : Schema) (c : Key) → slice_get schemas other ≡ Some s → slice_get s.keys at_key ≡ Some c
-      → (other ≡ table) ⊎ (other ≢ table) → (at_key ≡ which) ⊎ (at_key ≢ which)
-      → HasEntries s c.column (new (key_index other at_key)) (now other at_key)
-  each_now other at_key s c is_there is_key (inl same) (inl same_key) =
-      let is_table : slice_get schemas table ≡ Some s = rw same at is_there in
-      let one : s ≡ schema = cc (there, is_table) in
-      let is_which : slice_get schema.keys which ≡ Some c = rw (same_key, one) at is_key in
-      let one_key : c ≡ k = cc (also, is_which) in
-      rw (same, same_key, one, one_key) key_now
-  each_now other at_key s c is_there is_key (inl same) (inr differ) =
-      others_now other at_key s c is_there is_key (λ a b. differ b) (λ v. others_say was now (at table here) which versions says other at_key v differ)
-  each_now other at_key s c is_there is_key (inr differ) which_is =
-      others_now other at_key s c is_there is_key (λ a b. differ a)
-      (λ v. says_apart was now (at table here) which versions says other at_key v (in_other_table (at table here) (at other v) (λ e. differ (sym e))))
-
   pub entry_changed : AreCodedAs schemas new kept chains now
   entry_changed = record {
     clustered = record {
@@ -107,7 +92,20 @@ module _ (schemas : List Schema) (old new : ℕ → List Pair) (kept : ℕ → O
     };
     keyed = record {
       few = is.keyed.few;
-      keys = λ other at_key s c is_there is_key. each_now other at_key s c is_there is_key (cases_eq other table) (cases_eq at_key which);
+      keys = λ other at_key s c is_there is_key. elim (cases_eq other table) [
+        | inl same ↦ elim (cases_eq at_key which) [
+          | inl same_key ↦
+              let is_table : slice_get schemas table ≡ Some s = rw same at is_there in
+              let one : s ≡ schema = cc (there, is_table) in
+              let is_which : slice_get schema.keys which ≡ Some c = rw (same_key, one) at is_key in
+              let one_key : c ≡ k = cc (also, is_which) in
+              rw (same, same_key, one, one_key) key_now
+          | inr differ ↦ others_now other at_key s c is_there is_key (λ a b. differ b)
+              (λ v. others_say was now (at table here) which versions says other at_key v differ)
+        ]
+        | inr differ ↦ others_now other at_key s c is_there is_key (λ a b. differ a)
+            (λ v. says_apart was now (at table here) which versions says other at_key v (in_other_table (at table here) (at other v) (λ e. differ (sym e))))
+      ];
     };
   }
 

@@ -1,11 +1,11 @@
 -- Tables without rows: none, and one more.
-use Rattle.std.proofs.Common.{◌≡◌, sym, ap, ℕ, ◌≤◌, List, [], ◌∷◌, ◌++◌, length, Option, None, Some, refl, slice_get, ◌⊎◌, inl, inr, arith}
+use Rattle.std.proofs.Common.{◌≡◌, sym, ap, ℕ, List, [], ◌∷◌, ◌++◌, length, Option, None, Some, refl, slice_get, inl, inr, arith}
 use Rattle.std.proofs.lemmas.Bool.{true≢false}
 use Rattle.std.proofs.lemmas.Option.{slice_get_past}
 use Rattle.inno_types.specs.{declared.value.Value.Value, declared.value.Key.Key, declared.value.Schema.Schema}
 use Rattle.entries.specs.Pairs.{Pair}
 use Rattle.row_versions.specs.{declared.kept.Kept.Kept, declared.place.Place.Place, Chains.Chains, Chains.versions_at}
-use Rattle.law_stored_rows.specs.{Edits.clustered_index, Edits.key_index, Entries.entry_of, Entries.HasEntries, Records.IsClustered}
+use Rattle.law_stored_rows.specs.{Entries.entry_of, Entries.HasEntries, Records.IsClustered}
 use Rattle.law_stored_rows.specs.{Tables.in_table, Tables.HasItsColumns, Tables.HasNoPairs, Tables.AreCoded}
 use Rattle.law_stored_rows.proofs.{Pairs.got_before, Pairs.got_last, Tables.at, Tables.few_of}
 
@@ -26,10 +26,6 @@ not_before schemas schema table none = elim (slice_get schemas table) as (λ o. 
 
 module _ (schemas : List Schema) (schema : Schema) (indexes : ℕ → List Pair) (kept : ℕ → Option Kept) (chains : Chains)
     (is : AreCoded schemas indexes kept chains) (columns : HasItsColumns schema) (empty : HasNoPairs indexes (length schemas)) where
-  -- a table is one of those before, or the new one
-  abbrev Which : ℕ → Schema → Type 0
-  Which table s = (slice_get schemas table ≡ Some s) ⊎ ((table ≡ length schemas) × (schema ≡ s))
-
   none_there : (value : Value) → in_table (length schemas) chains value ≡ []
   none_there value = is.clustered.nowhere_else (length schemas) value (slice_get_past schemas (length schemas) (omega arith))
 
@@ -55,29 +51,21 @@ module _ (schemas : List Schema) (schema : Schema) (indexes : ℕ → List Pair)
     marks = λ at_key value has has_entry. ap (entry_of key.column value) (sym (none_there at_key));
   }
 
-  rows_too : (table : ℕ) (s : Schema) → Which table s → IsClustered s kept (indexes (clustered_index table)) (in_table table chains)
-  rows_too table s (inl before) = is.clustered.tables table s before
-  rows_too table s (inr last) = rw (last.0, ← last.1, empty.rows) no_rows_yet
-
-  few_too : (table : ℕ) (s : Schema) → Which table s → length s.keys ≤ 4
-  few_too table s (inl before) = is.keyed.few table s before
-  few_too table s (inr last) = rw (← last.1) columns.few
-
-  entries_too : (table which : ℕ) (s : Schema) (key : Key) → slice_get s.keys which ≡ Some key → Which table s
-      → HasEntries s key.column (indexes (key_index table which)) (in_table table chains)
-  entries_too table which s key also (inl before) = is.keyed.keys table which s key before also
-  entries_too table which s key also (inr last) =
-      let key_is : slice_get schema.keys which ≡ Some key = rw (← last.1) at also in
-      rw (last.0, ← last.1, empty.entries which (few_of schema which key columns.few key_is)) (no_entries_yet which key key_is)
-
   pub a_table_more : AreCoded (schemas ++ schema ∷ []) indexes kept chains
   a_table_more = record {
     clustered = record {
-      tables = λ table s there. rows_too table s (got_last schemas schema s table there);
+      tables = λ table s there. elim (got_last schemas schema s table there)
+          [ inl before ↦ is.clustered.tables table s before | inr last ↦ rw (last.0, ← last.1, empty.rows) no_rows_yet ];
       nowhere_else = λ table value none. is.clustered.nowhere_else table value (not_before schemas schema table none);
     };
     keyed = record {
-      few = λ table s there. few_too table s (got_last schemas schema s table there);
-      keys = λ table which s key there also. entries_too table which s key also (got_last schemas schema s table there);
+      few = λ table s there. elim (got_last schemas schema s table there)
+          [ inl before ↦ is.keyed.few table s before | inr last ↦ rw (← last.1) columns.few ];
+      keys = λ table which s key there also. elim (got_last schemas schema s table there) [
+        | inl before ↦ is.keyed.keys table which s key before also
+        | inr last ↦
+            let key_is : slice_get schema.keys which ≡ Some key = rw (← last.1) at also in
+            rw (last.0, ← last.1, empty.entries which (few_of schema which key columns.few key_is)) (no_entries_yet which key key_is)
+      ];
     };
   }

@@ -8,7 +8,7 @@ use Rattle.row_codec.proofs.Once.{same_version}
 use Rattle.entries.specs.Pairs.{Pair, value_of}
 use Rattle.row_versions.specs.{declared.kept.Kept.Kept, Versions.kept_in, declared.version.Version.Version, Chains.older}
 use Rattle.law_stored_rows.specs.{Edits.with_value, Entries.is_same_value}
-use Rattle.law_stored_rows.specs.Records.{shown, IsCodeOf, LeadTo, IsRecordWith, IsSomeKey, IsClustered, KeepsMore}
+use Rattle.law_stored_rows.specs.Records.{shown, IsCodeOf, LeadTo, IsRecordWith, IsClustered, KeepsMore}
 use Rattle.law_stored_rows.proofs.Pairs.{same_or_not, nothing_or_more, got_before, rising_now, value_now, others_now}
 use Rattle.law_stored_rows.proofs.Values.{same_value, apart_by_keys, one_key}
 
@@ -152,17 +152,6 @@ module _ (schema : Schema) (kept : ℕ → Option Kept) (pairs : List Pair) (was
   abbrev edited : List Pair
   edited = with_value (code here) found pairs
 
-  key_after : (other : List ℕ) → (other ≡ code here) ⊎ (other ≢ code here) → is_some (value_of other edited) ≡ true → IsSomeKey is.primary.kind other
-  key_after other (inl same) there = (here, has, same)
-  key_after other (inr differ) there = is.keys other (ap is_some (sym (others_now (code here) found other pairs differ)) ∙ there)
-
-  record_after : IsRecordWith schema (code here) kept found (now here) → (value : Value) → HasKey is.primary.kind value
-      → (code value ≡ code here) ⊎ (code value ≢ code here) → IsRecordWith schema (code value) kept (value_of (code value) edited) (now value)
-  record_after new value has_too (inl same) =
-      rw (one_key is.primary.kind value here has_too has same, value_now (code here) found pairs is.rising) new
-  record_after new value has_too (inr differ) =
-      rw (others_now (code here) found (code value) pairs differ, elsewhere value (apart_by_keys is.primary.kind here value differ)) (is.records value has_too)
-
   home_after : (value : Value) (t : Bool) → is_same_value here value ≡ t → now value ≢ [] → HasKey is.primary.kind value
   home_after value true same there = subst (λ (v : Value). HasKey is.primary.kind v) (same_value here value same) has
   home_after value false apart there = is.nowhere_else value (λ none. there (elsewhere value apart ∙ none))
@@ -172,7 +161,14 @@ module _ (schema : Schema) (kept : ℕ → Option Kept) (pairs : List Pair) (was
     primary = is.primary;
     primary_is = is.primary_is;
     rising = rising_now (code here) found pairs is.rising;
-    keys = λ other there. key_after other (same_or_not other (code here)) there;
-    records = λ value has_too. record_after new value has_too (same_or_not (code value) (code here));
+    keys = λ other there. elim (same_or_not other (code here)) [
+      | inl same ↦ (here, has, same)
+      | inr differ ↦ is.keys other (rw (others_now (code here) found other pairs differ) at there)
+    ];
+    records = λ value has_too. elim (same_or_not (code value) (code here)) [
+      | inl same ↦ rw (one_key is.primary.kind value here has_too has same, value_now (code here) found pairs is.rising) new
+      | inr differ ↦ rw (others_now (code here) found (code value) pairs differ, elsewhere value (apart_by_keys is.primary.kind here value differ))
+          (is.records value has_too)
+    ];
     nowhere_else = λ value there. home_after value (is_same_value here value) refl there;
   }

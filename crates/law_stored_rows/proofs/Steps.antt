@@ -1,5 +1,5 @@
 -- The steps of a change and of a taking back: what each makes of the rows, and of what its key says of the place.
-use Rattle.std.proofs.Common.{◌≡◌, ◌≢◌, ◌∙◌, sym, subst, ℕ, true, false, cond, List, [], ◌∷◌, Option, None, Some, slice_get, ◌⊎◌, inl, inr}
+use Rattle.std.proofs.Common.{◌≡◌, ◌≢◌, ◌∙◌, sym, subst, ℕ, true, false, cond, List, [], ◌∷◌, Option, None, Some, slice_get, inl, inr}
 use Rattle.std.specs.List.{list_any}
 use Rattle.std.proofs.lemmas.Bool.{cases_eq}
 use Rattle.inno_types.specs.{declared.value.Value.Value, declared.value.Schema.Schema}
@@ -37,10 +37,8 @@ module _ (schemas : List Schema) (old new : ℕ → List Pair) (kept : ℕ → O
     stays_in : (other : ℕ) (value : Value) → other ≢ table → in_table other after value ≡ in_table other before value
     stays_in other value differ = elsewhere (at other value) (in_other_table home (at other value) (λ same. differ (sym same)))
 
-    abbrev Made : Type 0
-    Made = IsClustered schema kept (new (clustered_index table)) (in_table table after)
-
-    made : (With (value_of key pairs) (versions_at home before) → With found (versions_at home after)) → Made
+    made : (With (value_of key pairs) (versions_at home before) → With found (versions_at home after))
+        → IsClustered schema kept (new (clustered_index table)) (in_table table after)
     made makes =
         let here = key_of schema coded.row in
         let was = is.clustered.tables table schema step.there in
@@ -51,28 +49,24 @@ module _ (schemas : List Schema) (old new : ℕ → List Pair) (kept : ℕ → O
         rw (at_index old new (clustered_index table) key found step.puts, both.1)
         (clustered_after schema kept pairs (in_table table before) (in_table table after) was here both.0 found stays record_now)
 
-    table_after : Made → (other : ℕ) (s : Schema) → slice_get schemas other ≡ Some s → (other ≡ table) ⊎ (other ≢ table)
-        → IsClustered s kept (new (clustered_index other)) (in_table other after)
-    table_after now other s there (inl same) =
-        let also : slice_get schemas table ≡ Some s = rw same at there in
-        let one : s ≡ schema = cc (step.there, also) in
-        rw (same, one) now
-    table_after now other s there (inr differ) =
-        let same_rows : in_table other before ≡ in_table other after = λ i value. sym (stays_in other value differ) i in
-        subst (λ (f : Value → List Version). IsClustered s kept (new (clustered_index other)) f) same_rows
-        (rw (at_others old new (clustered_index table) key found (clustered_index other) step.puts (other_rows table other differ))
-        (is.clustered.tables other s there))
-
-    nowhere_after : (other : ℕ) (value : Value) → slice_get schemas other ≡ None → (other ≡ table) ⊎ (other ≢ table)
-        → in_table other after value ≡ []
-    nowhere_after other value none (inl same) = let also : slice_get schemas table ≡ None = rw same at none in absurd (cc (step.there, also))
-    nowhere_after other value none (inr differ) = stays_in other value differ ∙ is.clustered.nowhere_else other value none
-
     changed : (With (value_of key pairs) (versions_at home before) → With found (versions_at home after)) → AreCodedAs schemas new kept after said
     changed makes = record {
       clustered = record {
-        tables = λ other s there. table_after (made makes) other s there (cases_eq other table);
-        nowhere_else = λ other value none. nowhere_after other value none (cases_eq other table);
+        tables = λ other s there. elim (cases_eq other table) [
+          | inl same ↦
+              let also : slice_get schemas table ≡ Some s = rw same at there in
+              let one : s ≡ schema = cc (step.there, also) in
+              rw (same, one) (made makes)
+          | inr differ ↦
+              let same_rows : in_table other before ≡ in_table other after = λ i value. sym (stays_in other value differ) i in
+              subst (λ (f : Value → List Version). IsClustered s kept (new (clustered_index other)) f) same_rows
+              (rw (at_others old new (clustered_index table) key found (clustered_index other) step.puts (other_rows table other differ))
+              (is.clustered.tables other s there))
+        ];
+        nowhere_else = λ other value none. elim (cases_eq other table) [
+          | inl same ↦ let also : slice_get schemas table ≡ None = rw same at none in absurd (cc (step.there, also))
+          | inr differ ↦ stays_in other value differ ∙ is.clustered.nowhere_else other value none
+        ];
       };
       keyed = record {
         few = is.keyed.few;
