@@ -1,7 +1,7 @@
 -- What a change of one entry makes of the keys of all tables, and how a change of a place begins and ends.
-use Rattle.std.proofs.Common.{◌≡◌, ◌≢◌, ◌∙◌, sym, ap, subst, refl, ℕ, ◌<◌, Bool, true, false, List, Option, Some, slice_get, inl, inr}
+use Rattle.std.proofs.Common.{◌≡◌, ◌≢◌, ◌∙◌, sym, ap, subst, refl, ℕ, ◌<◌, false, List, Option, Some, slice_get, inl, inr}
 use Rattle.std.specs.Prelude.{◌==◌}
-use Rattle.std.proofs.lemmas.Bool.{cases_eq, eq-eqb, ne_eqb, and_from, and_right}
+use Rattle.std.proofs.lemmas.Bool.{cases_eq, cases_Bool, eq-eqb, ne_eqb, and_from, and_right}
 use Rattle.inno_types.specs.{declared.value.Value.Value, declared.value.Key.Key, declared.value.Column.Column, declared.value.Schema.Schema}
 use Rattle.inno_db.specs.Database.{key_of}
 use Rattle.store_api.specs.declared.answers.Version.{Version as Coded}
@@ -11,7 +11,7 @@ use Rattle.row_versions.specs.{declared.kept.Kept.Kept, declared.place.Place.Pla
 use Rattle.row_versions.specs.{Chains.is_same_place}
 use Rattle.law_stored_rows.specs.{Edits.clustered_index, Edits.key_index, Edits.Puts, Records.IsCodeOf}
 use Rattle.law_stored_rows.specs.Entries.{is_same_value, value_in, entry_of, HasEntries, TellAlike, TellAlikeBut}
-use Rattle.law_stored_rows.specs.Tables.{place_in, in_table, Said, AreCodedAs, AreCoded, what_is_there, LagAt, SaysNow}
+use Rattle.law_stored_rows.specs.Tables.{place_in, Said, AreCodedAs, AreCoded, what_is_there, LagAt, SaysNow}
 use Rattle.law_stored_rows.proofs.Values.{in_one_table, in_other_table, place_itself, same_place, key_there, entry_there}
 use Rattle.law_stored_rows.proofs.{Pairs.at_index, Pairs.at_others, Pairs.no_key, Pairs.other_key, Entries.entries_after, Entries.entries_alike, Tables.at}
 use Rattle.law_stored_rows.proofs.Tables.{few_of}
@@ -134,12 +134,10 @@ pub change_over : (schemas : List Schema) (indexes : ℕ → List Pair) (kept : 
     → TellAlike key.column (said place.table which place.key) (versions_at place chains))
     → AreCoded schemas indexes kept chains
 change_over schemas indexes kept chains place said is lag alike =
-    said_alike schemas indexes kept chains said (what_is_there chains) is (λ table which schema k there also value.
-    tells table which schema k there also value (is_same_place place (at table value)) refl) where
-      tells : (table which : ℕ) (schema : Schema) (k : Key) → slice_get schemas table ≡ Some schema → slice_get schema.keys which ≡ Some k
-          → (v : Value) (t : Bool) → is_same_place place (at table v) ≡ t
-          → TellAlike k.column (said table which v) (in_table table chains v)
-      tells table which schema k there also v true same =
+    said_alike schemas indexes kept chains said (what_is_there chains) is (λ table which schema k there also v.
+    elim (cases_Bool (is_same_place place (at table v))) [
+      | inl same ↦
           let Alike : Place → Type 0 = λ p. slice_get schemas p.table ≡ Some schema → TellAlike k.column (said p.table which p.key) (versions_at p chains) in
           subst Alike (same_place place (at table v) same) (λ is_there. alike which schema k is_there also) there
-      tells table which schema k there also v false apart = λ value. ap (entry_of k.column value) (lag table which v apart)
+      | inr apart ↦ λ value. ap (entry_of k.column value) (lag table which v apart)
+    ])

@@ -96,17 +96,16 @@ values_from-Has64Bits names tuple place (column ∷ columns) row all h =
     let rest = values_from-Has64Bits names tuple (place + 1) columns d.0 all d.1 in
     subst (All Has64Bits) (ok_same d.2) (All-cons Has64Bits a.0 d.0 (subst Has64Bits (stored_same column b.0 a.0 b.2) value) rest)
 
-put_in-Has64Bits : (column : Option Column) (place : ℕ) (row after : List Value) (value : Value) → All Has64Bits row → Has64Bits value
-    → put_in column place row value ≡ Ok after → All Has64Bits after
-put_in-Has64Bits None place row after value all fits h = subst (All Has64Bits) (ok_same h) all
-put_in-Has64Bits (Some column) place row after value all fits h =
-    let a = and_then-ok (stored column value) (λ v. Ok (slice_set row place v)) after h in
-    subst (All Has64Bits) (ok_same a.2) (All-set Has64Bits row place a.0 (subst Has64Bits (stored_same column value a.0 a.1) fits) all)
-
 put_at-Has64Bits : (columns : List Column) (row after : List Value) (place : Option ℕ) (value : Value) → All Has64Bits row → Has64Bits value
     → put_at columns row place value ≡ Ok after → All Has64Bits after
 put_at-Has64Bits columns row after None value all fits h = subst (All Has64Bits) (ok_same h) all
-put_at-Has64Bits columns row after (Some place) value all fits h = put_in-Has64Bits (slice_get columns place) place row after value all fits h
+put_at-Has64Bits columns row after (Some place) value all fits h =
+    elim (slice_get columns place) as (λ o. put_in o place row value ≡ Ok after → All Has64Bits after) [
+      | None ↦ λ e. subst (All Has64Bits) (ok_same e) all
+      | Some column ↦ λ e.
+          let a = and_then-ok (stored column value) (λ v. Ok (slice_set row place v)) after e in
+          subst (All Has64Bits) (ok_same a.2) (All-set Has64Bits row place a.0 (subst Has64Bits (stored_same column value a.0 a.1) fits) all)
+    ] h
 
 -- a row after assignments
 all_assigned-Has64Bits : (columns : List Column) (row after : List Value) (sets : List Set) → All Has64Bits row

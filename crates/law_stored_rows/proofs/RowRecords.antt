@@ -1,6 +1,7 @@
 -- What a record says of its row, and what a change of it makes of the rows of its table.
-use Rattle.std.proofs.Common.{◌≡◌, ◌≢◌, ◌∙◌, sym, ap, subst, refl, ℕ, Bool, true, false, List, [], ◌∷◌, ◌++◌, Option, None, Some, ◌⊎◌, inl, inr, zero, suc}
+use Rattle.std.proofs.Common.{◌≡◌, ◌≢◌, ◌∙◌, sym, ap, subst, refl, ℕ, true, false, List, [], ◌∷◌, ◌++◌, Option, None, Some, ◌⊎◌, inl, inr, zero, suc}
 use Rattle.std.specs.Prelude.{is_some}
+use Rattle.std.proofs.lemmas.Bool.{cases_Bool}
 use Rattle.inno_types.specs.{declared.value.Value.Value, declared.value.Schema.Schema}
 use Rattle.store_api.specs.declared.answers.Version.{Version as Coded}
 use Rattle.key_codec.specs.Keys.{HasKey, key_code}
@@ -152,10 +153,6 @@ module _ (schema : Schema) (kept : ℕ → Option Kept) (pairs : List Pair) (was
   abbrev edited : List Pair
   edited = with_value (code here) found pairs
 
-  home_after : (value : Value) (t : Bool) → is_same_value here value ≡ t → now value ≢ [] → HasKey is.primary.kind value
-  home_after value true same there = subst (λ (v : Value). HasKey is.primary.kind v) (same_value here value same) has
-  home_after value false apart there = is.nowhere_else value (λ none. there (elsewhere value apart ∙ none))
-
   pub clustered_after : IsRecordWith schema (code here) kept found (now here) → IsClustered schema kept edited now
   clustered_after new = record {
     primary = is.primary;
@@ -170,5 +167,8 @@ module _ (schema : Schema) (kept : ℕ → Option Kept) (pairs : List Pair) (was
       | inr differ ↦ rw (others_now (code here) found (code value) pairs differ, elsewhere value (apart_by_keys is.primary.kind here value differ))
           (is.records value has_too)
     ];
-    nowhere_else = λ value there. home_after value (is_same_value here value) refl there;
+    nowhere_else = λ value there. elim (cases_Bool (is_same_value here value)) [
+      | inl same ↦ subst (λ (v : Value). HasKey is.primary.kind v) (same_value here value same) has
+      | inr apart ↦ is.nowhere_else value (λ none. there (elsewhere value apart ∙ none))
+    ];
   }
