@@ -1,23 +1,21 @@
 -- What holds of each change of an outcome; these changes fit the tables of its database.
-use Rattle.std.proofs.Common.{◌≡◌, ℕ, ◌<◌, true, false, List, [], ◌∷◌, ◌++◌, length, Option, Some, None, Ok, Err, Result, is_some, inl, inr, refl, subst}
-use Rattle.std.proofs.Common.{⊎_elim, arith}
+use Rattle.std.proofs.Common.{◌≡◌, ℕ, true, false, List, [], ◌∷◌, ◌++◌, Option, Some, None, Ok, Err, Result, is_some, refl, subst}
 use Rattle.std.specs.Prelude.{slice_get, IsSomeAnd, All, if◌then◌else◌}
 use Rattle.std.specs.List.{AllByRecursion}
 use Rattle.std.proofs.lemmas.List.Elements.{All-from_recursion, recursion_from_All, All-weaker, All-filter, All-map}
-use Rattle.std.proofs.lemmas.Option.{slice_get_cases}
 use Rattle.inno_types.specs.{declared.value.Value.Value, declared.value.Schema.Schema, declared.stmt.Literal.Literal, declared.stmt.Set.Set}
 use Rattle.inno_types.specs.{declared.stmt.Definition.Definition, declared.stmt.Stmt.Stmt, declared.reply.Reply.TheVariants.Done}
 use Rattle.inno_types.specs.{declared.reply.SqlError.SqlError, declared.reply.SqlError.TheVariants.Duplicate}
 use Rattle.inno_types.specs.declared.stmt.Stmt.TheVariants.{CreateTable, Select, Insert, Update, Delete}
 use Rattle.inno_db.specs.{declared.change.Change.Change, declared.change.Change.TheVariants.Create, declared.change.Change.TheVariants.Put}
-use Rattle.inno_db.specs.{declared.change.Change.TheVariants.Remove, declared.limits.TheConstants.MOST_TABLES, declared.outcome.Outcome.Outcome}
+use Rattle.inno_db.specs.{declared.change.Change.TheVariants.Remove, declared.outcome.Outcome.Outcome}
 use Rattle.inno_db.specs.{Database.Database, Database.rows_of, Database.key_of, Names.table_place, Conditions.matches, Expressions.and_then}
 use Rattle.inno_db.specs.{Storing.all_assigned, Storing.row_of_tuple, Declarations.schema_declared, Refusals.refusal}
 use Rattle.inno_db.specs.Outcome.{has_key, matching, is_same_row, new_row, row_for, put_then, inserted, change_to, change_then, updated, deleted, on_schema}
 use Rattle.inno_db.specs.Outcome.{on_number, on_rows, creation, created, answered, select_answer, insert_answer, update_answer, delete_answer, answer_to}
 use Rattle.inno_db.specs.Outcome.{unless_refused, outcome}
-use Rattle.law_db.specs.{Fitting.IsRowIn, Fitting.AllFit, RowChanges.AreOfTables}
-use Rattle.law_db.proofs.{Values.ok_same, Values.never, Values.and_then-ok, Fits.outcome-AllFit, Applicable.outcome-AreApplicable}
+use Rattle.law_db.specs.{Fitting.AllFit}
+use Rattle.law_db.proofs.{Values.ok_same, Values.never, Values.and_then-ok, Fits.outcome-AllFit}
 use Rattle.law_stored_rows.specs.{Storable.IsStorable, Fitting.IsKeyFor, Fitting.FitsTable, Fitting.FitsTables, Fitting.AreFitting}
 use Rattle.law_stored_rows.proofs.{Declared.declared-IsStorable, Rows.rows_of-FitsTable, Rows.rows_by_type, FittingValues.row_fits}
 use Rattle.law_stored_rows.proofs.FittingValues.{FitsTable-from_row}
@@ -117,48 +115,35 @@ module _ (P : Change → Type 0) where
 
 -- ---- they fit their tables
 
--- what the laws on rows that are put don't say
+-- what the law on rows that are put doesn't say
 abbrev FitsElse : List Schema → Change → Type 0
 FitsElse schemas (Create schema) = IsStorable schema
-FitsElse schemas (Put table row) = Unit {0}
+FitsElse schemas (Put table row) = (schema : Schema) × (slice_get schemas table ≡ Some schema)
 FitsElse schemas (Remove table key) = IsSomeAnd (slice_get schemas table) (λ schema. IsKeyFor schema key)
 
 module _ (db : Database) (fitting : AreFitting db) where
   makes-else : (stmt : Stmt) → Makes (FitsElse db.schemas) db stmt
   makes-else (CreateTable table if_not_exists definitions) = λ schema is. declared-IsStorable table definitions schema is
-  makes-else (Insert table names tuples) = λ n schema is k d below row made. tt
-  makes-else (Update table sets condition) = λ n schema is k d below row made. tt
+  makes-else (Insert table names tuples) = λ n schema is k d below row made. (schema, is)
+  makes-else (Update table sets condition) = λ n schema is k d below row made. (schema, is)
   makes-else (Delete table condition) = λ n schema is.
       All-weaker (FitsTable schema) (λ row. IsSomeAnd (slice_get db.schemas n) (λ s. IsKeyFor s (key_of schema row)))
       (λ row fits. rw is fits.key)
       (rows_of n db) (rows_of-FitsTable db fitting n schema is)
   makes-else other = tt
 
-  put-fits : (table : ℕ) (row : List Value) → IsRowIn db.schemas table row → table < length db.schemas
-      → IsSomeAnd (slice_get db.schemas table) (λ schema. FitsTable schema row)
-  put-fits table row fits there = elim (slice_get_cases db.schemas table).1 [
-    | inl found ↦
-        let schema = found.0 in
-        rw found.2 (FitsTable-from_row schema row (fitting.tables table schema found.2) (row_fits schema.columns row (fits schema found.2)))
-    | inr past ↦ absurd (omega (arith, past.0, there))
-  ]
-
-  together : (changes : List Change) → AllFit db.schemas changes → AreOfTables db.schemas changes → AllByRecursion (FitsElse db.schemas) changes
+  together : (changes : List Change) → AllFit db.schemas changes → AllByRecursion (FitsElse db.schemas) changes
       → AllByRecursion (FitsTables db.schemas) changes
-  together [] fit there other = tt
-  together (Create schema ∷ changes) fit there other = absurd there
-  together (Put table row ∷ changes) fit there other = (put-fits table row fit.0 there.0, together changes fit.1 there.1 other.1)
-  together (Remove table key ∷ changes) fit there other = (other.0, together changes fit there.1 other.1)
-
-  one_table : (changes : List Change) (schema : Schema) → changes ≡ Create schema ∷ [] → AllByRecursion (FitsElse db.schemas) changes
-      → AllByRecursion (FitsTables db.schemas) changes
-  one_table changes schema is other = rw is ((rw is at other).0, tt)
+  together [] fit other = tt
+  together (Create schema ∷ changes) fit other = (other.0, together changes fit other.1)
+  together (Put table row ∷ changes) fit other =
+      let there = other.0 in
+      let row_is = row_fits there.0.columns row (fit.0 there.0 there.1) in
+      (rw there.1 (FitsTable-from_row there.0 row (fitting.tables table there.0 there.1) row_is), together changes fit.1 other.1)
+  together (Remove table key ∷ changes) fit other = (other.0, together changes fit other.1)
 
   pub outcome-FitsTables : (stmt : Stmt) → All (FitsTables db.schemas) (outcome stmt db).changes
   outcome-FitsTables stmt =
       let changes = (outcome stmt db).changes in
       let other = recursion_from_All (FitsElse db.schemas) changes (outcome-each (FitsElse db.schemas) db stmt (makes-else stmt)) in
-      All-from_recursion (FitsTables db.schemas) changes (⊎_elim
-      (λ (of : AreOfTables db.schemas changes). together changes (outcome-AllFit db (rows_by_type db fitting) stmt) of other)
-      (λ (one : (schema : Schema) × (changes ≡ Create schema ∷ []) × (length db.schemas < MOST_TABLES)). one_table changes one.0 one.1 other)
-      (outcome-AreApplicable stmt db))
+      All-from_recursion (FitsTables db.schemas) changes (together changes (outcome-AllFit db (rows_by_type db fitting) stmt) other)
