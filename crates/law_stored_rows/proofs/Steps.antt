@@ -109,13 +109,6 @@ module _ (schemas : List Schema) (old new : ℕ → List Pair) (kept : ℕ → O
 
 -- ---- entries
 
--- a row that is shown has its value
-shown_has : (column : ℕ) (coded : Coded) → coded.marked ≡ false → has_value column (value_in column coded.row) (row_shown coded.marked coded.row) ≡ true
-shown_has column coded plain = rw plain (value_itself (value_in column coded.row))
-
-first_has : (column : ℕ) (row : List Value) (found : Option (List Value)) → found ≡ Some row → has_value column (value_in column row) found ≡ true
-first_has column row found is = rw is (value_itself (value_in column row))
-
 module _ (schemas : List Schema) (old new : ℕ → List Pair) (kept : ℕ → Option Kept) (chains : Chains) (was now : Said) (table : ℕ) (schema : Schema)
     (which column : ℕ) (coded : Coded)
     (is : AreCodedAs schemas old kept chains was) where
@@ -139,7 +132,7 @@ module _ (schemas : List Schema) (old new : ℕ → List Pair) (kept : ℕ → O
       → told ≡ versions → newest versions ≡ Some coded.row → gone.row ≡ None
       → SaysNow was now place which (gone ∷ versions) → AreCodedAs schemas new kept chains now
   old_marked gone versions step told_is first none says =
-      let has = first_has column coded.row (newest versions) first in
+      let has : has_value column value (newest versions) ≡ true = rw first (value_itself value) in
       entry_step versions (gone ∷ versions) (Some (1 ∷ [])) told_is step (marked column value gone versions has none)
       (is_marked column value gone versions has none) says
 
@@ -147,7 +140,7 @@ module _ (schemas : List Schema) (old new : ℕ → List Pair) (kept : ℕ → O
       → coded.marked ≡ false → told ≡ gone ∷ versions → gone.row ≡ None
       → SaysNow was now place which (shown coded ∷ versions) → AreCodedAs schemas new kept chains now
   new_put gone versions step plain told_is none says =
-      let has = shown_has column coded plain in
+      let has : has_value column value (row_shown coded.marked coded.row) ≡ true = rw plain (value_itself value) in
       entry_step (gone ∷ versions) (shown coded ∷ versions) (Some (0 ∷ [])) told_is step
       (λ other apart. sym (taken column value (shown coded) gone versions has none other apart)) (is_put column value (shown coded) versions has) says
 
@@ -155,7 +148,7 @@ module _ (schemas : List Schema) (old new : ℕ → List Pair) (kept : ℕ → O
       → told ≡ versions → newest versions ≡ None
       → SaysNow was now place which (shown coded ∷ versions) → AreCodedAs schemas new kept chains now
   first_put versions step plain told_is none says =
-      let has = shown_has column coded plain in
+      let has : has_value column value (row_shown coded.marked coded.row) ≡ true = rw plain (value_itself value) in
       entry_step versions (shown coded ∷ versions) (Some (0 ∷ [])) told_is step (put column value (shown coded) versions has none)
       (is_put column value (shown coded) versions has) says
 
@@ -164,13 +157,14 @@ module _ (schemas : List Schema) (old new : ℕ → List Pair) (kept : ℕ → O
       → cond (list_any (λ version. has_value column value version.row) versions) (Some (1 ∷ [])) None ≡ left
       → SaysNow was now place which (gone ∷ versions) → AreCodedAs schemas new kept chains now
   new_taken gone versions left step plain told_is none left_is says =
-      entry_step (shown coded ∷ versions) (gone ∷ versions) left told_is step
-      (taken column value (shown coded) gone versions (shown_has column coded plain) none) (is_taken column value gone versions none ∙ left_is) says
+      let has : has_value column value (row_shown coded.marked coded.row) ≡ true = rw plain (value_itself value) in
+      entry_step (shown coded ∷ versions) (gone ∷ versions) left told_is step (taken column value (shown coded) gone versions has none)
+      (is_taken column value gone versions none ∙ left_is) says
 
   pub old_unmarked : (gone : Version) (versions : List Version) → PutsEntry schemas old new table schema which column coded (Some (0 ∷ []))
       → told ≡ gone ∷ versions → gone.row ≡ None → newest versions ≡ Some coded.row
       → SaysNow was now place which versions → AreCodedAs schemas new kept chains now
   old_unmarked gone versions step told_is none first says =
-      let has = first_has column coded.row (newest versions) first in
+      let has : has_value column value (newest versions) ≡ true = rw first (value_itself value) in
       entry_step (gone ∷ versions) versions (Some (0 ∷ [])) told_is step (unmarked column value gone versions has none)
       (is_unmarked column value versions has) says
