@@ -8,7 +8,6 @@ mod entries_of_keys;
 mod fitting;
 mod reading;
 mod records;
-mod walks;
 
 pub use changes::{
     a_change_is_over, a_new_table_has_no_rows, keys_lag_at_the_place_alone,
@@ -31,8 +30,4 @@ pub use reading::{
 pub use records::{
     a_new_record_is_a_first_version, a_record_that_replaces_one_is_a_newer_version,
     a_version_is_taken_back, more_may_be_kept,
-};
-pub use walks::{
-    a_walk_begins_at_the_first_place, a_walk_goes_on_at_the_next_place,
-    a_walk_may_begin_at_any_bytes,
 };
