@@ -1,15 +1,15 @@
 -- What is read of all tables: from what is known of one.
-use Rattle.std.proofs.Common.{◌∙◌, ◌≡◌, sym, refl, ℕ, List, [], ◌∷◌, Option, None, Some, slice_get, inl, inr}
+use Rattle.std.proofs.Common.{◌≡◌, ℕ, List, [], ◌∷◌, Option, None, Some, slice_get, inl, inr}
 use Rattle.inno_types.specs.{declared.value.Value.Value, declared.value.Column.Column, declared.value.Schema.Schema}
 use Rattle.inno_db.specs.Database.{key_of}
 use Rattle.store_api.specs.declared.answers.Version.{Version as Coded}
 use Rattle.key_codec.specs.Keys.{HasKey, key_code}
 use Rattle.entries.specs.Pairs.{Pair, value_of}
-use Rattle.row_versions.specs.{declared.kept.Kept.Kept, declared.place.Place.Place, declared.version.Version.Version, Chains.Chains, Chains.versions_at}
+use Rattle.row_versions.specs.{declared.kept.Kept.Kept, Chains.Chains}
 use Rattle.row_versions.specs.{Chains.older}
-use Rattle.law_stored_rows.specs.{Edits.clustered_index, Records.shown, Records.IsCodeOf, Records.LeadTo, Records.IsClustered}
+use Rattle.law_stored_rows.specs.{Edits.clustered_index, Records.shown, Records.IsCodeOf, Records.LeadTo}
 use Rattle.law_stored_rows.specs.Tables.{in_table, AreClustered}
-use Rattle.law_stored_rows.proofs.{Values.key_there, RowRecords.record_read, RowRecords.no_record, RowRecords.one_record, RowRecords.nothing_or_there}
+use Rattle.law_stored_rows.proofs.{Values.key_there, RowRecords.record_read, RowRecords.no_record, RowRecords.nothing_or_there}
 
 pub decoded : (schemas : List Schema) (indexes : ℕ → List Pair) (kept : ℕ → Option Kept) (chains : Chains) (table : ℕ) (schema : Schema)
     (key bytes : List ℕ) (coded : Coded)
@@ -36,33 +36,3 @@ absent schemas indexes kept chains table schema primary value is there primary_i
       | inr found ↦ no_record schema (key_code rows.primary.kind value) kept (in_table table chains value)
           (rw (none_too found.0) at (rows.records value found.0))
     ]
-
--- ---- no other rows
-
-module _ (schema : Schema) (kept : ℕ → Option Kept) (pairs : List Pair) where
-  one_at : (rows others : Value → List Version) (is : IsClustered schema kept pairs rows) → IsClustered schema kept pairs others
-      → (value : Value) → HasKey is.primary.kind value → rows value ≡ others value
-  one_at rows others is also value has =
-      let one : also.primary ≡ is.primary = cc (is.primary_is, also.primary_is) in
-      let record_too = rw one at (also.records value) in
-      let code = key_code is.primary.kind value in
-      one_record schema code kept (value_of code pairs) (rows value) (others value) (is.records value has) (record_too has)
-
-  one_table : (rows others : Value → List Version) → IsClustered schema kept pairs rows → IsClustered schema kept pairs others
-      → (value : Value) → rows value ≡ others value
-  one_table rows others is also value = elim (nothing_or_there is value) [
-    | inr found ↦ one_at rows others is also value found.0
-    | inl none ↦ elim (nothing_or_there also value) [
-      | inr found ↦ sym (one_at others rows also is value found.0)
-      | inl no_other ↦ none ∙ sym no_other
-    ]
-  ]
-
-pub these_alone : (schemas : List Schema) (indexes : ℕ → List Pair) (kept : ℕ → Option Kept) (chains others : Chains) (place : Place)
-    → AreClustered schemas indexes kept chains → AreClustered schemas indexes kept others → versions_at place chains ≡ versions_at place others
-these_alone schemas indexes kept chains others place is also = go (slice_get schemas place.table) refl where
-  go : (found : Option Schema) → slice_get schemas place.table ≡ found → in_table place.table chains place.key ≡ in_table place.table others place.key
-  go None none = is.nowhere_else place.table place.key none ∙ sym (also.nowhere_else place.table place.key none)
-  go (Some schema) there =
-      one_table schema kept (indexes (clustered_index place.table)) (in_table place.table chains) (in_table place.table others)
-      (is.tables place.table schema there) (also.tables place.table schema there) place.key

@@ -24,8 +24,7 @@ pub use fitting::{
     rows_of_storable_tables_have_keys, stored_numbers_have_64_bits, tables_without_rows_fit,
 };
 pub use reading::{
-    a_pointer_is_followed, a_record_is_the_newest_version, a_search_through_a_key_misses_no_row,
-    coded_rows_are_these_alone, entries_are_of_rows, rows_stand_at_their_places,
+    a_pointer_is_followed, a_record_is_the_newest_version, rows_stand_at_their_places,
 };
 pub use records::{
     a_new_record_is_a_first_version, a_record_that_replaces_one_is_a_newer_version,
