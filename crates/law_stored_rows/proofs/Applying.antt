@@ -1,10 +1,11 @@
 -- Changes that fit leave a database that fits.
-use Rattle.std.proofs.Common.{◌≡◌, ℕ, true, false, cond, List, [], ◌∷◌, ◌++◌, Some, None, refl, sym, subst, ◌∙◌, append-nil, inl, inr}
+use Rattle.std.proofs.Common.{◌≡◌, ℕ, List, [], ◌∷◌, ◌++◌, Some, None, refl, sym, subst, ◌∙◌, append-nil, inl, inr}
 use Rattle.std.specs.Prelude.{slice_get, IsSomeAnd, All}
 use Rattle.std.specs.Ordering.{eq_by_cmp}
 use Rattle.std.specs.FinMap.{get, from_entries, get-empty, get-insert, get-remove}
 use Rattle.std.proofs.lemmas.List.Elements.{All-head, All-tail, All-weaker}
 use Rattle.std.proofs.lemmas.Option.{same_Some}
+use Rattle.std.proofs.lemmas.Bool.{cond_both}
 use Rattle.inno_types.specs.{declared.value.Value.Value, declared.value.Schema.Schema}
 use Rattle.inno_db.specs.{declared.change.Change.Change, declared.change.Change.TheVariants.Create, declared.change.Change.TheVariants.Put}
 use Rattle.inno_db.specs.{declared.change.Change.TheVariants.Remove, Changes.apply_one, Changes.apply, Order.place_cmp_total}
@@ -40,16 +41,14 @@ module _ (P : Place → List Value → Type 0) (db : Database) (each : (place : 
       → (place : Place) (found : List Value) → get (apply_one db (Put table row)).rows place ≡ Some found → P place found
   rows_put row put place found is =
       let home : Place = (table, key_in db.schemas table row) in
-      elim (eq_by_cmp place_cmp place home) as
-      (λ b. eq_by_cmp place_cmp place home ≡ b → cond b (Some row) (get db.rows place) ≡ Some found → P place found) [
-        | true ↦ λ here e. rw (place_cmp-IsAntisymmetric place home (eq_is (place_cmp place home) here), ← (same_Some row found e)) put
-        | false ↦ λ elsewhere e. each place found e
-      ] refl (sym (get-insert place_cmp_total db.rows home row place) ∙ is)
+      cond_both (eq_by_cmp place_cmp place home) (Some row) (get db.rows place) (λ o. o ≡ Some found → P place found)
+      (λ here e. rw (place_cmp-IsAntisymmetric place home (eq_is (place_cmp place home) here), ← (same_Some row found e)) put)
+      (λ elsewhere e. each place found e) (sym (get-insert place_cmp_total db.rows home row place) ∙ is)
 
   pub rows_removed : (key : Value) (place : Place) (found : List Value) → get (apply_one db (Remove table key)).rows place ≡ Some found → P place found
-  rows_removed key place found is = elim (eq_by_cmp place_cmp place (table, key)) as
-      (λ b. cond b None (get db.rows place) ≡ Some found → P place found) [ true ↦ λ e. cc | false ↦ λ e. each place found e ]
-      (sym (get-remove place_cmp_total db.rows (table, key) place) ∙ is)
+  rows_removed key place found is =
+      cond_both (eq_by_cmp place_cmp place (table, key)) None (get db.rows place) (λ o. o ≡ Some found → P place found)
+      (λ here e. cc) (λ elsewhere e. each place found e) (sym (get-remove place_cmp_total db.rows (table, key) place) ∙ is)
 
 stands_at_its_key : (schemas : List Schema) (table : ℕ) (row : List Value) → IsSomeAnd (slice_get schemas table) (λ schema. FitsTable schema row)
     → FitsAt schemas (table, key_in schemas table row) row

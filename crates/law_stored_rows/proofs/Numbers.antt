@@ -1,9 +1,10 @@
 -- Changes of statements whose literals have 64 bits leave rows whose numbers have 64 bits.
-use Rattle.std.proofs.Common.{◌≡◌, ◌∙◌, ℕ, ◌+◌, ℤ, pos, negsuc, ◌+ℤ◌, ◌-ℤ◌, ◌*ℤ◌, neg_ℤ, true, false, List, [], ◌∷◌, Option, Some, None, Ok, Err, refl, sym}
+use Rattle.std.proofs.Common.{◌≡◌, ◌∙◌, ℕ, ◌+◌, ℤ, pos, negsuc, ◌+ℤ◌, ◌-ℤ◌, ◌*ℤ◌, neg_ℤ, true, List, [], ◌∷◌, Option, Some, None, Ok, Err, sym}
 use Rattle.std.proofs.Common.{subst, arith}
-use Rattle.std.specs.Prelude.{slice_get, slice_set, FitsSigned, All, if◌then◌else◌}
+use Rattle.std.specs.Prelude.{slice_get, slice_set, FitsSigned, All}
 use Rattle.std.specs.Int.{w64}
 use Rattle.std.specs.FinMap.{from_entries, get-empty}
+use Rattle.std.proofs.lemmas.Bool.{cond_both}
 use Rattle.std.proofs.lemmas.Bool.Decides.{nat_tests}
 use Rattle.std.proofs.lemmas.List.Elements.{All-nil, All-cons, All-head, All-tail, All-set, All-weaker}
 use Rattle.inno_types.specs.{declared.value.Value.Value, declared.value.Value.TheVariants.Null, declared.value.Value.TheVariants.Int}
@@ -43,10 +44,8 @@ bigint-Has64Bits (negsuc n) h = record { sfits = grind (arith, nat_tests) }
 
 in_range-Has64Bits : (n : ℤ) (value : Value) → in_range n ≡ Ok value → Has64Bits value
 in_range-Has64Bits n value h =
-    elim (is_bigint n) as (λ b. is_bigint n ≡ b → ◌≡◌ {A = Valued} (if b then Ok (Int n) else Err OutOfRange) (Ok value) → Has64Bits value) [
-      | true ↦ λ is e. subst Has64Bits (ok_same e) (bigint-Has64Bits n is)
-      | false ↦ λ is e. never e
-    ] refl h
+    cond_both (is_bigint n) (Ok (Int n)) (Err OutOfRange) (λ (r : Valued). r ≡ Ok value → Has64Bits value)
+    (λ is e. subst Has64Bits (ok_same e) (bigint-Has64Bits n is)) (λ is e. never e) h
 
 on_two-Has64Bits : (f : ℤ → ℤ → ℤ) (a b value : Value) → on_two f a b ≡ Ok value → Has64Bits value
 on_two-Has64Bits f (Int a) (Int b) value h = in_range-Has64Bits (f a b) value h

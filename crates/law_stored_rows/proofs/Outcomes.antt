@@ -2,6 +2,7 @@
 use Rattle.std.proofs.Common.{◌≡◌, ℕ, true, false, List, [], ◌∷◌, ◌++◌, Option, Some, None, Ok, Err, Result, is_some, refl, subst}
 use Rattle.std.specs.Prelude.{slice_get, IsSomeAnd, All, if◌then◌else◌}
 use Rattle.std.specs.List.{AllByRecursion}
+use Rattle.std.proofs.lemmas.Bool.{cond_both}
 use Rattle.std.proofs.lemmas.List.Elements.{All-from_recursion, recursion_from_All, All-weaker, All-filter, All-map}
 use Rattle.inno_types.specs.{declared.value.Value.Value, declared.value.Schema.Schema, declared.stmt.Literal.Literal, declared.stmt.Set.Set}
 use Rattle.inno_types.specs.{declared.stmt.Definition.Definition, declared.stmt.Stmt.Stmt, declared.reply.Reply.TheVariants.Done}
@@ -24,9 +25,8 @@ use Rattle.law_stored_rows.proofs.FittingValues.{FitsTable-from_row}
 
 new_row-same : (schema : Schema) (rows : List (List Value)) (row made : List Value) → new_row schema rows row ≡ Ok made → row ≡ made
 new_row-same schema rows row made h =
-    elim (has_key schema (key_of schema row) rows) as
-    (λ b. ◌≡◌ {A = Result (List Value) SqlError} (if b then Err (Duplicate (key_of schema row)) else Ok row) (Ok made) → row ≡ made)
-    [ true ↦ λ e. never e | false ↦ λ e. ok_same e ] h
+    cond_both (has_key schema (key_of schema row) rows) (Err (Duplicate (key_of schema row))) (Ok row)
+    (λ (r : Result (List Value) SqlError). r ≡ Ok made → row ≡ made) (λ is e. never e) (λ is e. ok_same e) h
 
 module _ (P : Change → Type 0) where
   abbrev Each : List Change → Type 0

@@ -1,7 +1,8 @@
 -- The literals of a statement that a text spells have 64 bits.
-use Rattle.std.proofs.Common.{◌≡◌, ℕ, zero, suc, ◌^◌, pos, neg_ℤ, true, false, List, [], refl, arith}
-use Rattle.std.specs.Prelude.{All, FitsSigned, nat_lt, nat_le, if◌then◌else◌}
+use Rattle.std.proofs.Common.{◌≡◌, ℕ, zero, suc, ◌^◌, pos, neg_ℤ, true, List, [], arith}
+use Rattle.std.specs.Prelude.{All, FitsSigned, nat_lt, nat_le}
 use Rattle.std.specs.Int.{w64}
+use Rattle.std.proofs.lemmas.Bool.{cond_both}
 use Rattle.std.proofs.lemmas.Bool.Decides.{nat_tests}
 use Rattle.std.proofs.lemmas.List.Elements.{All-nil, All-cons}
 use Rattle.inno_types.specs.declared.stmt.Literal.{Literal}
@@ -21,8 +22,7 @@ plain-Has64Bits : (digits : List ℕ) → LiteralHas64Bits (plain_number digits)
 unfolding plain_number
 plain-Has64Bits digits =
     let n = number_of digits in
-    elim (nat_lt n (2 ^ 63)) as (λ b. nat_lt n (2 ^ 63) ≡ b → LiteralHas64Bits (if b then literal.Int (pos n) else literal.TooBig))
-    [ true ↦ λ h. below n h | false ↦ λ h. tt ] refl
+    cond_both (nat_lt n (2 ^ 63)) (literal.Int (pos n)) literal.TooBig LiteralHas64Bits (below n) (λ h. tt)
 
 at_most : (n : ℕ) → nat_le n (2 ^ 63) ≡ true → FitsSigned w64 (neg_ℤ (pos n))
 at_most zero h = record { sfits = omega arith }
@@ -32,8 +32,7 @@ negative-Has64Bits : (digits : List ℕ) → LiteralHas64Bits (negative_number d
 unfolding negative_number
 negative-Has64Bits digits =
     let n = number_of digits in
-    elim (nat_le n (2 ^ 63)) as (λ b. nat_le n (2 ^ 63) ≡ b → LiteralHas64Bits (if b then literal.Int (neg_ℤ (pos n)) else literal.TooBig))
-    [ true ↦ λ h. at_most n h | false ↦ λ h. tt ] refl
+    cond_both (nat_le n (2 ^ 63)) (literal.Int (neg_ℤ (pos n))) literal.TooBig LiteralHas64Bits (at_most n) (λ h. tt)
 
 literal-Has64Bits : {xs ys : List Token} {l : Literal} → Lit xs l ys → LiteralHas64Bits l
 literal-Has64Bits (grammar.number {digits = digits}) = plain-Has64Bits digits
