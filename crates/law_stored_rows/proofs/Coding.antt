@@ -1,21 +1,20 @@
 -- The record and the entries of a row that fits its table.
-use Rattle.std.proofs.Common.{◌≡◌, ℕ, ◌≤◌, List, length, get_or, Some, refl, sym, ap, ◌∙◌, subst, arith}
+use Rattle.std.proofs.Common.{◌≡◌, ℕ, ◌≤◌, List, length, get_or, Some, refl, ap, ◌∙◌, arith}
 use Rattle.std.specs.Prelude.{All, slice_get}
 use Rattle.inno_types.specs.{declared.value.Kind.Kind, declared.value.Kind.TheVariants.BigInt, declared.value.Kind.TheVariants.VarBinary}
-use Rattle.inno_types.specs.{declared.value.Column.Column, declared.value.Key.Key, declared.value.Schema.Schema, declared.value.Value.Value}
-use Rattle.inno_types.specs.{declared.value.Value.TheVariants.Null}
+use Rattle.inno_types.specs.{declared.value.Column.Column, declared.value.Schema.Schema, declared.value.Value.Value, declared.value.Value.TheVariants.Null}
 use Rattle.store_api.specs.declared.answers.Version.{Version}
 use Rattle.inno_db.specs.Database.{key_of}
 use Rattle.key_codec.specs.Keys.{IsOfKind, IsOfKindOrNull, key_code, key_width, entry_code}
 use Rattle.key_codec.proofs.Lengths.{length-key_code, length-entry_code}
 use Rattle.row_codec.specs.Rows.{IsRowOf, IsKeyOf, IsRecordOf, version_code}
 use Rattle.row_codec.proofs.Stored.{length-version_code}
-use Rattle.law_stored_rows.specs.{Storable.IsKeyOn, Storable.IsStorable, Fitting.IsKeyFor, Fitting.FitsTable, FittingRecords.value_in}
-use Rattle.law_stored_rows.specs.{FittingRecords.IsEntryOf}
+use Rattle.law_stored_rows.specs.{Storable.IsStorable, Fitting.IsKeyFor, Fitting.FitsTable, FittingRecords.value_in, FittingRecords.IsEntryOf}
 use Rattle.law_stored_rows.proofs.FittingValues.{value-fits, of_kind_or_null}
 
-same_column : (columns : List Column) (place : ℕ) (a b : Column) → slice_get columns place ≡ Some a → slice_get columns place ≡ Some b → a ≡ b
-same_column columns place a b is also = let both : Some a ≡ Some b = sym is ∙ also in cc
+pub value_in-kind : (columns : List Column) (row : List Value) (place : ℕ) (column : Column) → IsRowOf columns row
+    → slice_get columns place ≡ Some column → IsOfKindOrNull column.kind (value_in place row)
+value_in-kind columns row place column fits there = of_kind_or_null column (value_in place row) (value-fits columns row place column fits there)
 
 -- ---- the clustered record
 
@@ -34,8 +33,8 @@ HasRecord schema version fits =
 length-key : (schema : Schema) (row : List Value) (key : List ℕ) (column : Column) → slice_get schema.columns schema.primary ≡ Some column
     → IsKeyOf schema row key → length key ≡ key_width column.kind
 length-key schema row key column there is =
-    ap length is.spelled ∙ length-key_code is.column.kind (key_of schema row) is.present
-    ∙ ap (λ (c : Column). key_width c.kind) (same_column schema.columns schema.primary is.column column is.primary there)
+    let one : is.column ≡ column = cc (is.primary, there) in
+    rw one at (ap length is.spelled ∙ length-key_code is.column.kind (key_of schema row) is.present)
 
 pub short_key : (schema : Schema) (row : List Value) (key : List ℕ) → IsStorable schema → IsKeyOf schema row key → length key ≤ 33
 short_key schema row key storable is = omega (arith, length-key schema row key storable.column storable.primary is, storable.short)
@@ -45,50 +44,41 @@ short_value schema version key value storable is = omega (arith, ap length is.va
 
 -- ---- entries
 
-entry_on : (schema : Schema) (row : List Value) (primary : Kind) (key : Key) → FitsTable schema row → IsKeyOn schema.columns primary key
-    → (bytes : List ℕ) × IsEntryOf schema key row bytes
-entry_on schema row primary key fits on =
-    let value = value_in key.column row in
+-- the row has an entry in each secondary key
+pub HasEntries : (schema : Schema) (row : List Value) → IsStorable schema → FitsTable schema row
+    → All (λ key. (bytes : List ℕ) × IsEntryOf schema key row bytes) schema.keys
+HasEntries schema row storable fits = λ k d below.
+    let key = get_or schema.keys k d in
+    let on = storable.keys k d below in
     let front = key_of_row schema row fits in (
-      entry_code on.column.kind value front.0,
+      entry_code on.column.kind (value_in key.column row) front.0,
       record {
         column = on.column;
         there = on.there;
-        of_kind = of_kind_or_null on.column value (value-fits schema.columns row key.column on.column fits.columns on.there);
+        of_kind = value_in-kind schema.columns row key.column on.column fits.columns on.there;
         primary = front.0;
         primary_is = front.1;
         spelled = refl;
       },
     )
 
--- the row has an entry in each secondary key
-pub HasEntries : (schema : Schema) (row : List Value) → IsStorable schema → FitsTable schema row
-    → All (λ key. (bytes : List ℕ) × IsEntryOf schema key row bytes) schema.keys
-HasEntries schema row storable fits = λ k d below. entry_on schema row storable.column.kind (get_or schema.keys k d) fits (storable.keys k d below)
-
-short_entry_on : (schema : Schema) (key : Key) (row : List Value) (bytes : List ℕ) (storable : IsStorable schema)
-    → IsKeyOn schema.columns storable.column.kind key → IsEntryOf schema key row bytes → length bytes ≤ 67
-short_entry_on schema key row bytes storable on is =
-    let width = ap length is.spelled ∙ length-entry_code is.column.kind (value_in key.column row) is.primary is.of_kind in
-    let same = ap (λ (c : Column). key_width c.kind) (same_column schema.columns key.column is.column on.column is.there on.there) in
-    let front = length-key schema row is.primary storable.column storable.primary is.primary_is in
-    omega (arith, width, same, front, on.short)
-
 -- and no entry is longer than an index takes
 pub short_entries : (schema : Schema) → IsStorable schema
     → All (λ key. (row : List Value) (bytes : List ℕ) → IsEntryOf schema key row bytes → length bytes ≤ 67) schema.keys
-short_entries schema storable = λ k d below row bytes is. short_entry_on schema (get_or schema.keys k d) row bytes storable (storable.keys k d below) is
+short_entries schema storable = λ k d below row bytes is.
+    let key = get_or schema.keys k d in
+    let on = storable.keys k d below in
+    let width = ap length is.spelled ∙ length-entry_code is.column.kind (value_in key.column row) is.primary is.of_kind in
+    let one : is.column ≡ on.column = cc (is.there, on.there) in
+    let same = ap (λ (c : Column). key_width c.kind) one in
+    let front = length-key schema row is.primary storable.column storable.primary is.primary_is in
+    omega (arith, width, same, front, on.short)
 
--- ---- what writers of keys and entries ask
+-- ---- what writers of keys ask
 
 pub IsKeyFor-kind : (schema : Schema) (key : Value) (column : Column) → IsKeyFor schema key → slice_get schema.columns schema.primary ≡ Some column
     → IsOfKind column.kind key
-IsKeyFor-kind schema key column is there =
-    subst (λ (c : Column). IsOfKind c.kind key) (same_column schema.columns schema.primary is.column column is.primary there) is.of_kind
-
-pub value_in-kind : (columns : List Column) (row : List Value) (place : ℕ) (column : Column) → IsRowOf columns row
-    → slice_get columns place ≡ Some column → IsOfKindOrNull column.kind (value_in place row)
-value_in-kind columns row place column fits there = of_kind_or_null column (value_in place row) (value-fits columns row place column fits there)
+IsKeyFor-kind schema key column is there = let one : is.column ≡ column = cc (is.primary, there) in rw one at is.of_kind
 
 no_key : (kind : Kind) → IsOfKind kind Null → ⊥
 no_key BigInt is = is

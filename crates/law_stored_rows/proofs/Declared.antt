@@ -1,27 +1,23 @@
 -- What a CREATE TABLE declares can be stored.
 use Rattle.std.proofs.Common.{◌≡◌, ℕ, suc, ◌+◌, ◌<◌, ◌≤◌, List, [], ◌∷◌, length, take, drop, Bool, true, false, ◌&&◌, ◌||◌, not, Option, Some, None, refl}
-use Rattle.std.proofs.Common.{sym, ap, ◌∙◌, subst, arith, add-one}
-use Rattle.std.specs.Prelude.{All, slice_get, nat_le, sum_by, remove, unwrap_or, if◌then◌else◌}
+use Rattle.std.proofs.Common.{ap, subst, arith, add-one}
+use Rattle.std.specs.Prelude.{All, slice_get, nat_le, sum_by, remove, unwrap_or}
 use Rattle.std.specs.List.{list_all}
 use Rattle.std.specs.Str.{str_eq_ignore_ascii_case}
-use Rattle.std.proofs.lemmas.Bool.{and_from}
+use Rattle.std.proofs.lemmas.Bool.{and_from, and_parts}
 use Rattle.std.proofs.lemmas.Bool.Decides.{nat_tests}
 use Rattle.std.proofs.lemmas.List.Elements.{All-nil, All-cons}
 use Rattle.std.proofs.lemmas.List.Sums.{AllPass-from_list_all, sum_by-cons, sum_by-append, sum_by-take-drop, sum_by-drop_more}
 use Rattle.std.proofs.lemmas.List.Quantifiers.{position-Some}
-use Rattle.std.proofs.lemmas.Option.{slice_get_within, get_or_from_slice_get}
+use Rattle.std.proofs.lemmas.Option.{slice_get_within, get_or_from_slice_get, cond_some}
 use Rattle.inno_types.specs.{declared.value.Kind.Kind, declared.value.Kind.TheVariants.BigInt, declared.value.Kind.TheVariants.VarBinary}
-use Rattle.inno_types.specs.{declared.value.Column.Column, declared.value.Key.Key, declared.value.Schema.Schema, declared.stmt.Definition.Definition}
+use Rattle.inno_types.specs.{declared.value.Column.Column, declared.value.Schema.Schema, declared.stmt.Definition.Definition}
 use Rattle.inno_types.specs.declared.stmt.Definition.TheVariants as definition
 use Rattle.inno_db.specs.{Names.column_at, Names.column_place, declared.limits.TheConstants.MOST_COLUMNS, declared.limits.TheConstants.MOST_BYTES_OF_ROW}
 use Rattle.inno_db.specs.Declarations.{has_twins, is_sized, says_not_null, columns_of, primaries_of, key_columns_of, key_bytes, keys_of, row_bytes, is_short}
 use Rattle.inno_db.specs.Declarations.{is_indexable, are_good_columns, are_good_keys, schema_of, declared_by, schema_declared}
 use Rattle.key_codec.specs.Keys.{key_width}
 use Rattle.law_stored_rows.specs.Storable.{record_width, IsKeyOn, IsStorable}
-
-both : (a b : Bool) → (a && b) ≡ true → (a ≡ true) × (b ≡ true)
-both true b h = (refl, h)
-both false b h = absurd (cc)
 
 at_most : (m n : ℕ) → nat_le m n ≡ true → m ≤ n
 at_most m n h = grind (arith, nat_tests)
@@ -63,21 +59,15 @@ abbrev holds_no_null : List ℕ → Column → Bool
 holds_no_null primary c = not (str_eq_ignore_ascii_case c.name primary) || c.not_null
 
 no_null : (says is : Bool) → (not is || (says || is)) ≡ true
+no_null says false = refl
 no_null true true = refl
-no_null true false = refl
 no_null false true = refl
-no_null false false = refl
 
 all_hold_no_null : (primary : List ℕ) (definitions : List Definition) → list_all (holds_no_null primary) (columns_of primary definitions) ≡ true
 all_hold_no_null primary [] = refl
 all_hold_no_null primary (definition.Column name kind nullable is_primary ∷ rest) =
     and_from _ _ (no_null (says_not_null nullable) (str_eq_ignore_ascii_case name primary)) (all_hold_no_null primary rest)
-all_hold_no_null primary (definition.Primary column ∷ rest) = all_hold_no_null primary rest
-all_hold_no_null primary (definition.Key name column ∷ rest) = all_hold_no_null primary rest
-
-not_null_if : (is not_null : Bool) → (not is || not_null) ≡ true → is ≡ true → not_null ≡ true
-not_null_if true b h is = h
-not_null_if false b h is = absurd (cc)
+all_hold_no_null primary (other ∷ rest) = all_hold_no_null primary rest
 
 -- a column that can be indexed is there, and is short
 record IsFound (columns : List Column) (place : Option ℕ) : Type 0 where
@@ -86,83 +76,60 @@ record IsFound (columns : List Column) (place : Option ℕ) : Type 0 where
   there : slice_get columns (unwrap_or place 0) ≡ Some column
   short : is_short column.kind ≡ true
 
-found_at : (columns : List Column) (place : ℕ) → is_indexable (slice_get columns place) ≡ true → IsFound columns (Some place)
-found_at columns place h = elim (slice_get columns place) as (λ o. slice_get columns place ≡ o → is_indexable o ≡ true → IsFound columns (Some place)) [
-  | None ↦ λ is e. absurd (cc)
-  | Some column ↦ λ is e. record { column = column; at = refl; there = is; short = e }
-] refl h
-
 found : (columns : List Column) (place : Option ℕ) → is_indexable (column_at columns place) ≡ true → IsFound columns place
 found columns None h = absurd (cc)
-found columns (Some place) h = found_at columns place h
-
--- the first column of a name has it
-has_name : (columns : List Column) (name : List ℕ) (place : ℕ) (column : Column) → column_place columns name ≡ Some place
-    → slice_get columns place ≡ Some column → str_eq_ignore_ascii_case column.name name ≡ true
-has_name columns name place column is there =
-    let first = position-Some (λ c. str_eq_ignore_ascii_case c.name name) columns place column is in
-    ap (λ (c : Column). str_eq_ignore_ascii_case c.name name) (sym (get_or_from_slice_get columns place column column there)) ∙ first.1
-
--- a column that is there passes what all pass
-passes_at : (test : Column → Bool) (columns : List Column) (place : ℕ) (column : Column) → list_all test columns ≡ true
-    → slice_get columns place ≡ Some column → test column ≡ true
-passes_at test columns place column all there =
-    ap test (sym (get_or_from_slice_get columns place column column there)) ∙
-    AllPass-from_list_all test columns all place column (slice_get_within columns place column there)
+found columns (Some place) h = elim (slice_get columns place) as
+    (λ o. slice_get columns place ≡ o → is_indexable o ≡ true → IsFound columns (Some place)) [
+      | None ↦ λ is e. absurd (cc)
+      | Some column ↦ λ is e. record { column = column; at = refl; there = is; short = e }
+    ] refl h
 
 takes_no_null : (columns : List Column) (primary : List ℕ) (place : ℕ) (column : Column) → list_all (holds_no_null primary) columns ≡ true
     → column_place columns primary ≡ Some place → slice_get columns place ≡ Some column → column.not_null ≡ true
 takes_no_null columns primary place column all is there =
-    not_null_if (str_eq_ignore_ascii_case column.name primary) column.not_null (passes_at (holds_no_null primary) columns place column all there)
-    (has_name columns primary place column is there)
+    let here = get_or_from_slice_get columns place column column there in
+    let named : str_eq_ignore_ascii_case column.name primary ≡ true =
+    rw here at (position-Some (λ c. str_eq_ignore_ascii_case c.name primary) columns place column is).1 in
+    let passes = rw here at (AllPass-from_list_all (holds_no_null primary) columns all place column (slice_get_within columns place column there)) in
+    rw named at passes
 
 -- ---- secondary keys
 
 abbrev can_be_indexed : List Column → List ℕ → Bool
 can_be_indexed columns name = is_indexable (column_at columns (column_place columns name))
 
-key_on : (columns : List Column) (primary : Kind) (key : Key) (place : Option ℕ) → key.column ≡ unwrap_or place 0 → key_width primary ≤ 33
-    → IsFound columns place → IsKeyOn columns primary key
-key_on columns primary key place is narrow f = record {
-  column = f.column;
-  there = ap (slice_get columns) is ∙ f.there;
-  short = omega (arith, narrow, short_width f.column.kind f.short);
-}
-
 keys_on : (columns : List Column) (primary : Kind) (definitions : List Definition) → key_width primary ≤ 33
     → list_all (can_be_indexed columns) (key_columns_of definitions) ≡ true → All (IsKeyOn columns primary) (keys_of columns definitions)
 keys_on columns primary [] narrow all = All-nil (IsKeyOn columns primary)
-keys_on columns primary (definition.Column name kind nullable is_primary ∷ rest) narrow all = keys_on columns primary rest narrow all
-keys_on columns primary (definition.Primary column ∷ rest) narrow all = keys_on columns primary rest narrow all
 keys_on columns primary (definition.Key name column ∷ rest) narrow all =
-    let here = both (can_be_indexed columns column) (list_all (can_be_indexed columns) (key_columns_of rest)) all in
-    let others = keys_on columns primary rest narrow here.1 in
+    let here = and_parts (can_be_indexed columns column) (list_all (can_be_indexed columns) (key_columns_of rest)) all in
+    let f = found columns (column_place columns column) here.0 in
     All-cons (IsKeyOn columns primary) _ (keys_of columns rest)
-    (key_on columns primary _ (column_place columns column) refl narrow (found columns (column_place columns column) here.0)) others
+    (record { column = f.column; there = f.there; short = omega (arith, narrow, short_width f.column.kind f.short) })
+    (keys_on columns primary rest narrow here.1)
+keys_on columns primary (other ∷ rest) narrow all = keys_on columns primary rest narrow all
 
 as_many_keys : (columns : List Column) (definitions : List Definition) → length (keys_of columns definitions) ≡ length (key_columns_of definitions)
 as_many_keys columns [] = refl
-as_many_keys columns (definition.Column name kind nullable is_primary ∷ rest) = as_many_keys columns rest
-as_many_keys columns (definition.Primary column ∷ rest) = as_many_keys columns rest
 as_many_keys columns (definition.Key name column ∷ rest) = omega (arith, as_many_keys columns rest)
+as_many_keys columns (other ∷ rest) = as_many_keys columns rest
 
 -- ---- the schema
 
 few_bytes : (columns : List Column) → are_good_columns columns ≡ true → row_bytes columns ≤ 1000
 few_bytes columns sound =
-    let small = list_all (λ c. is_sized c.kind) columns && nat_le (row_bytes columns) MOST_BYTES_OF_ROW in
-    let apart = both (nat_le (length columns) MOST_COLUMNS) (not (has_twins columns) && small) sound in
-    let rest = both (not (has_twins columns)) small apart.1 in
-    at_most (row_bytes columns) 1000 (both (list_all (λ c. is_sized c.kind) columns) (nat_le (row_bytes columns) MOST_BYTES_OF_ROW) rest.1).1
+    let apart = and_parts (nat_le (length columns) MOST_COLUMNS) _ sound in
+    let rest = and_parts (not (has_twins columns)) _ apart.1 in
+    at_most (row_bytes columns) 1000 (and_parts (list_all (λ c. is_sized c.kind) columns) (nat_le (row_bytes columns) MOST_BYTES_OF_ROW) rest.1).1
 
 storable : (table primary : List ℕ) (definitions : List Definition) → are_good_columns (columns_of primary definitions) ≡ true
     → are_good_keys primary (columns_of primary definitions) definitions ≡ true
     → IsStorable (schema_of table primary (columns_of primary definitions) definitions)
 storable table primary definitions sound keyed =
     let columns = columns_of primary definitions in
-    let few = both (nat_le (length (key_columns_of definitions)) 4) _ keyed in
-    let places = both (list_all (can_be_indexed columns) (primary ∷ key_columns_of definitions)) _ few.1 in
-    let indexed = both (can_be_indexed columns primary) (list_all (can_be_indexed columns) (key_columns_of definitions)) places.0 in
+    let few = and_parts (nat_le (length (key_columns_of definitions)) 4) _ keyed in
+    let places = and_parts (list_all (can_be_indexed columns) (primary ∷ key_columns_of definitions)) _ few.1 in
+    let indexed = and_parts (can_be_indexed columns primary) (list_all (can_be_indexed columns) (key_columns_of definitions)) places.0 in
     let f = found columns (column_place columns primary) indexed.0 in
     let narrow = short_width f.column.kind f.short in
     record {
@@ -176,19 +143,14 @@ storable table primary definitions sound keyed =
           (slice_get_within columns _ f.column f.there);
     }
 
-if_some : (test : Bool) (made schema : Schema) → (if test then Some made else None) ≡ Some schema → (test ≡ true) × (made ≡ schema)
-if_some true made schema h = (refl, cc)
-if_some false made schema h = absurd (cc)
-
 by_one : (table : List ℕ) (definitions : List Definition) (primaries : List (List ℕ)) (schema : Schema)
     → declared_by table definitions primaries ≡ Some schema → IsStorable schema
-by_one table definitions [] schema h = absurd (cc)
-by_one table definitions (primary ∷ another ∷ more) schema h = absurd (cc)
 by_one table definitions (primary ∷ []) schema h =
     let columns = columns_of primary definitions in
-    let is = if_some (are_good_columns columns && are_good_keys primary columns definitions) (schema_of table primary columns definitions) schema h in
-    let good = both (are_good_columns columns) (are_good_keys primary columns definitions) is.0 in
+    let is = cond_some (are_good_columns columns && are_good_keys primary columns definitions) (schema_of table primary columns definitions) schema h in
+    let good = and_parts (are_good_columns columns) (are_good_keys primary columns definitions) is.0 in
     subst IsStorable is.1 (storable table primary definitions good.0 good.1)
+by_one table definitions primaries schema h = cc
 
 pub declared-IsStorable : (table : List ℕ) (definitions : List Definition) (schema : Schema) → schema_declared table definitions ≡ Some schema
     → IsStorable schema

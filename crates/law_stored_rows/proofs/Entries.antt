@@ -1,16 +1,16 @@
 -- What a change of one entry makes of what its key says, and which entries a change of a row asks for.
-use Rattle.std.proofs.Common.{◌≡◌, ◌≢◌, ◌∙◌, sym, ap, subst, refl, ℕ, Bool, true, false, cond, List, [], ◌∷◌, Option, None, Some, ◌⊎◌, inl, inr}
-use Rattle.std.specs.Prelude.{is_some, ◌||◌, not}
+use Rattle.std.proofs.Common.{◌≡◌, ◌≢◌, ◌∙◌, sym, ap, refl, ℕ, Bool, true, false, cond, List, [], ◌∷◌, Option, None, Some, inl, inr}
+use Rattle.std.specs.Prelude.{◌||◌, not}
 use Rattle.std.specs.List.{list_any}
 use Rattle.std.proofs.lemmas.Bool.{true≢false}
 use Rattle.inno_types.specs.{declared.value.Value.Value, declared.value.Schema.Schema}
 use Rattle.key_codec.specs.Keys.{HasKey, HasEntry, key_code, entry_code}
 use Rattle.key_codec.proofs.Once.{same_entry}
 use Rattle.row_codec.specs.Rows.{mark_code}
-use Rattle.entries.specs.Pairs.{Pair, value_of}
+use Rattle.entries.specs.Pairs.{Pair}
 use Rattle.row_versions.specs.{declared.version.Version.Version, Chains.newest}
 use Rattle.law_stored_rows.specs.Edits.{with_value}
-use Rattle.law_stored_rows.specs.Entries.{is_same_value, value_in, has_value, entry_of, IsSomeEntry, HasEntries, TellAlike, TellAlikeBut}
+use Rattle.law_stored_rows.specs.Entries.{is_same_value, value_in, has_value, entry_of, HasEntries, TellAlike, TellAlikeBut}
 use Rattle.law_stored_rows.proofs.{Values.same_value, Values.apart_from, Values.one_key, Pairs.same_or_not, Pairs.rising_now, Pairs.value_now}
 use Rattle.law_stored_rows.proofs.{Pairs.others_now}
 
@@ -25,36 +25,13 @@ module _ (schema : Schema) (column : ℕ) (entries : List Pair) (was now : Value
   abbrev edited : List Pair
   edited = with_value (entry_at here value) (entry_of column value (now here)) entries
 
-  each_after : (entry : List ℕ) → (entry ≡ entry_at here value) ⊎ (entry ≢ entry_at here value) → is_some (value_of entry edited) ≡ true
-      → IsSomeEntry is.primary.kind is.indexed.kind entry
-  each_after entry (inl same) there = (here, value, has, has_entry, same)
-  each_after entry (inr differ) there =
-      is.each entry (ap is_some (sym (others_now (entry_at here value) (entry_of column value (now here)) entry entries differ)) ∙ there)
-
   -- what another entry says of the place has not changed
   said_after : (key other : Value) → entry_at key other ≢ entry_at here value → (t s : Bool) → is_same_value here key ≡ t
       → is_same_value value other ≡ s → entry_of column other (was key) ≡ entry_of column other (now key)
   said_after key other differ false s place_is value_is = ap (entry_of column other) (sym (elsewhere key place_is))
-  said_after key other differ true false place_is value_is =
-      subst (λ (k : Value). entry_of column other (was k) ≡ entry_of column other (now k)) (same_value here key place_is) (alike other value_is)
+  said_after key other differ true false place_is value_is = rw (same_value here key place_is) at (alike other value_is)
   said_after key other differ true true place_is value_is =
-      let one_place : key ≡ here = sym (same_value here key place_is) in
-      let one_value : other ≡ value = sym (same_value value other value_is) in
-      absurd (differ (λ i. entry_at (one_place i) (one_value i)))
-
-  mark_after : (key other : Value) → HasKey is.primary.kind key → HasEntry is.indexed.kind other → (entry_at key other ≡ entry_at here value)
-      ⊎ (entry_at key other ≢ entry_at here value) → value_of (entry_at key other) edited ≡ entry_of column other (now key)
-  mark_after key other has_too entry_too (inl same) =
-      let parts = same_entry is.indexed.kind other value (key_code is.primary.kind key) (key_code is.primary.kind here) entry_too.0 has_entry.0
-      entry_too.1 has_entry.1 same in
-      let key_is = one_key is.primary.kind key here has_too has parts.1 in
-      let one_value : value ≡ other = sym parts.0 in
-      let one_place : here ≡ key = sym key_is in
-      ap (λ (e : List ℕ). value_of e edited) same ∙
-      (value_now (entry_at here value) (entry_of column value (now here)) entries is.rising ∙ (λ i. entry_of column (one_value i) (now (one_place i))))
-  mark_after key other has_too entry_too (inr differ) =
-      others_now (entry_at here value) (entry_of column value (now here)) (entry_at key other) entries differ
-      ∙ (is.marks key other has_too entry_too ∙ said_after key other differ (is_same_value here key) (is_same_value value other) refl refl)
+      absurd (differ (λ i. entry_at (sym (same_value here key place_is) i) (sym (same_value value other value_is) i)))
 
   pub entries_after : HasEntries schema column edited now
   entries_after = record {
@@ -63,8 +40,20 @@ module _ (schema : Schema) (column : ℕ) (entries : List Pair) (was now : Value
     indexed = is.indexed;
     indexed_is = is.indexed_is;
     rising = rising_now (entry_at here value) (entry_of column value (now here)) entries is.rising;
-    each = λ entry there. each_after entry (same_or_not entry (entry_at here value)) there;
-    marks = λ key other has_too entry_too. mark_after key other has_too entry_too (same_or_not (entry_at key other) (entry_at here value));
+    each = λ entry there. elim (same_or_not entry (entry_at here value)) [
+      | inl same ↦ (here, value, has, has_entry, same)
+      | inr differ ↦ is.each entry (rw (others_now (entry_at here value) (entry_of column value (now here)) entry entries differ) at there)
+    ];
+    marks = λ key other has_too entry_too. elim (same_or_not (entry_at key other) (entry_at here value)) [
+      | inl same ↦
+          let parts = same_entry is.indexed.kind other value (key_code is.primary.kind key) (key_code is.primary.kind here) entry_too.0 has_entry.0
+          entry_too.1 has_entry.1 same in
+          rw (one_key is.primary.kind key here has_too has parts.1, parts.0)
+          (value_now (entry_at here value) (entry_of column value (now here)) entries is.rising)
+      | inr differ ↦
+          others_now (entry_at here value) (entry_of column value (now here)) (entry_at key other) entries differ
+          ∙ (is.marks key other has_too entry_too ∙ said_after key other differ (is_same_value here key) (is_same_value value other) refl refl)
+    ];
   }
 
 -- Entries are those of all rows that tell alike.
@@ -88,9 +77,6 @@ other_value : (column : ℕ) (value other : Value) (row : Option (List Value)) �
 other_value column value other None has apart = absurd (true≢false (sym has))
 other_value column value other (Some row) has apart = apart_from value other (value_in column row) apart has
 
-no_row : (column : ℕ) (value : Value) (row : Option (List Value)) → row ≡ None → has_value column value row ≡ false
-no_row column value row none = ap (has_value column value) none
-
 -- the entry that says this: whether a version has the value, and whether the newest has
 abbrev telling : Bool → Bool → Option (List ℕ)
 telling some first = cond some (Some (mark_code (not first) ∷ [])) None
@@ -100,56 +86,46 @@ newest_has : (column : ℕ) (value : Value) (versions : List Version) → has_va
 newest_has column value [] has = absurd (true≢false (sym has))
 newest_has column value (version ∷ versions) has = rw has refl
 
--- a version without the value is put in front of versions of which the newest hasn't it either
-hidden : (column : ℕ) (value : Value) (version : Version) (versions : List Version) → has_value column value version.row ≡ false
-    → has_value column value (newest versions) ≡ false → entry_of column value versions ≡ entry_of column value (version ∷ versions)
-hidden column value version versions apart not_newest = rw (apart, not_newest) refl
+behind_alike : (first any : Bool) → telling (first || any) first ≡ telling (first || (first || any)) first
+behind_alike true any = refl
+behind_alike false any = refl
 
-behind_alike : (first second any : Bool) → first ≡ second → telling (second || any) second ≡ telling (first || (second || any)) first
-behind_alike first true any same = rw same refl
-behind_alike first false any same = rw same refl
-
--- a version in front that has the value where the newest one has it
-pub same_tells : (column : ℕ) (value : Value) (version : Version) (versions : List Version)
+-- a version in front that has the value exactly where the newest one has it
+same_tells : (column : ℕ) (value : Value) (version : Version) (versions : List Version)
     → has_value column value version.row ≡ has_value column value (newest versions)
     → entry_of column value versions ≡ entry_of column value (version ∷ versions)
 same_tells column value version [] same = rw same refl
 same_tells column value version (first ∷ versions) same =
-    behind_alike (has_value column value version.row) (has_value column value first.row) (list_any (λ v. has_value column value v.row) versions) same
+    rw same (behind_alike (has_value column value first.row) (list_any (λ v. has_value column value v.row) versions))
 
 -- The newest row's entry is marked: as a version without a row in front would have it.
 pub marked : (column : ℕ) (value : Value) (gone : Version) (versions : List Version) → has_value column value (newest versions) ≡ true
     → gone.row ≡ None → TellAlikeBut value column versions (gone ∷ versions)
 marked column value gone versions has none other apart =
-    hidden column other gone versions (no_row column other gone.row none) (other_value column value other (newest versions) has apart)
+    same_tells column other gone versions (rw none (sym (other_value column value other (newest versions) has apart)))
 
 pub is_marked : (column : ℕ) (value : Value) (gone : Version) (versions : List Version) → has_value column value (newest versions) ≡ true
     → gone.row ≡ None → entry_of column value (gone ∷ versions) ≡ Some (1 ∷ [])
-is_marked column value gone versions has none = rw (no_row column value gone.row none, newest_has column value versions has) refl
+is_marked column value gone versions has none = rw (none, newest_has column value versions has) refl
 
 -- The new row's entry is put where the newest version has no row.
 pub put : (column : ℕ) (value : Value) (version : Version) (versions : List Version) → has_value column value version.row ≡ true
     → newest versions ≡ None → TellAlikeBut value column versions (version ∷ versions)
-put column value version versions has none other apart = hidden column other version versions (other_value column value other version.row has apart)
-    (no_row column other (newest versions) none)
+put column value version versions has none other apart =
+    same_tells column other version versions (rw none (other_value column value other version.row has apart))
 
 pub is_put : (column : ℕ) (value : Value) (version : Version) (versions : List Version) → has_value column value version.row ≡ true
     → entry_of column value (version ∷ versions) ≡ Some (0 ∷ [])
 is_put column value version versions has = rw has refl
 
-pub passed_over : (column : ℕ) (version gone : Version) (versions : List Version) → gone.row ≡ None
-    → TellAlike column (version ∷ gone ∷ versions) (version ∷ versions)
-passed_over column version gone versions none value = rw (no_row column value gone.row none) refl
-
 -- The newest row's entry is taken back: marked where an older version has the value, and removed where none has.
 pub taken : (column : ℕ) (value : Value) (version gone : Version) (versions : List Version) → has_value column value version.row ≡ true
     → gone.row ≡ None → TellAlikeBut value column (version ∷ versions) (gone ∷ versions)
-taken column value version gone versions has none other apart =
-    rw (no_row column other gone.row none, other_value column value other version.row has apart) refl
+taken column value version gone versions has none other apart = rw (none, other_value column value other version.row has apart) refl
 
 pub is_taken : (column : ℕ) (value : Value) (gone : Version) (versions : List Version) → gone.row ≡ None
     → entry_of column value (gone ∷ versions) ≡ cond (list_any (λ version. has_value column value version.row) versions) (Some (1 ∷ [])) None
-is_taken column value gone versions none = rw (no_row column value gone.row none) refl
+is_taken column value gone versions none = rw none refl
 
 -- The entry of the row before is unmarked again.
 pub unmarked : (column : ℕ) (value : Value) (gone : Version) (versions : List Version) → has_value column value (newest versions) ≡ true
@@ -162,13 +138,11 @@ is_unmarked column value versions has = rw (newest_has column value versions has
 
 pub without_row : (column : ℕ) (gone : Version) (versions : List Version) → gone.row ≡ None → newest versions ≡ None
     → TellAlike column versions (gone ∷ versions)
-without_row column gone versions none nothing value =
-    hidden column value gone versions (no_row column value gone.row none) (no_row column value (newest versions) nothing)
+without_row column gone versions none nothing value = same_tells column value gone versions (rw (none, nothing) refl)
 
 -- The new row has the value that the newest row has.
 pub value_again : (column : ℕ) (row : List Value) (version : Version) (versions : List Version) (new_row : List Value) → newest versions ≡ Some row
     → version.row ≡ Some new_row → value_in column row ≡ value_in column new_row
     → TellAlike column versions (version ∷ versions)
 value_again column row version versions new_row first second same value =
-    same_tells column value version versions (ap (has_value column value) second ∙
-    (ap (is_same_value value) (sym same) ∙ ap (has_value column value) (sym first)))
+    same_tells column value version versions (rw (second, first) (ap (is_same_value value) (sym same)))

@@ -1,6 +1,7 @@
 -- The values of a row that fits its columns, and its key.
-use Rattle.std.proofs.Common.{◌≡◌, ℕ, zero, suc, Bool, true, false, List, [], ◌∷◌, Some, sym, subst, ◌∙◌}
-use Rattle.std.specs.Prelude.{slice_get}
+use Rattle.std.proofs.Common.{◌≡◌, ◌∙◌, ℕ, zero, suc, true, false, List, [], ◌∷◌, Some, sym, subst}
+use Rattle.std.specs.Prelude.{slice_get, slice_index_or, All}
+use Rattle.std.proofs.lemmas.List.Elements.{All-head, All-tail}
 use Rattle.inno_types.specs.{declared.value.Value.Value, declared.value.Value.TheVariants.Null, declared.value.Value.TheVariants.Int}
 use Rattle.inno_types.specs.{declared.value.Value.TheVariants.Text, declared.value.Kind.Kind, declared.value.Kind.TheVariants.BigInt}
 use Rattle.inno_types.specs.{declared.value.Kind.TheVariants.VarBinary, declared.value.Column.Column, declared.value.Schema.Schema}
@@ -12,44 +13,41 @@ use Rattle.law_stored_rows.specs.{Storable.IsStorable, Fitting.FitsTable, Fittin
 
 -- ---- what a column takes, said in two ways
 
-number_kind : (kind : Kind) (n : _) → kind ≡ BigInt → IsOfKind kind (Int n)
-number_kind kind n is = subst (λ (k : Kind). IsOfKind k (Int n)) (sym is) tt
-
 big_int : (kind : Kind) (n : _) → IsOfKind kind (Int n) → kind ≡ BigInt
 big_int BigInt n is = cc
 big_int (VarBinary size) n is = absurd is
 
-text_kind : (kind : Kind) (text : List ℕ) → IsTextOf kind text → IsOfKind kind (Text text)
-text_kind BigInt text is = is
-text_kind (VarBinary size) text is = is
-
-kind_text : (kind : Kind) (text : List ℕ) → IsOfKind kind (Text text) → IsTextOf kind text
-kind_text BigInt text is = is
-kind_text (VarBinary size) text is = is
+same_text : (kind : Kind) (text : List ℕ) → (IsTextOf kind text → IsOfKind kind (Text text)) × (IsOfKind kind (Text text) → IsTextOf kind text)
+same_text BigInt text = (λ is. is, λ is. is)
+same_text (VarBinary size) text = (λ is. is, λ is. is)
 
 value_fits : (column : Column) (value : Value) → IsValueOf column value → FitsColumn column value
 value_fits column Null is = is
-value_fits column (Int n) is = number_kind column.kind n is
-value_fits column (Text text) is = text_kind column.kind text is
+value_fits column (Int n) is = rw is tt
+value_fits column (Text text) is = (same_text column.kind text).0 is
 
 fits_value : (column : Column) (value : Value) → FitsColumn column value → IsValueOf column value
 fits_value column Null is = is
 fits_value column (Int n) is = big_int column.kind n is
-fits_value column (Text text) is = kind_text column.kind text is
+fits_value column (Text text) is = (same_text column.kind text).1 is
 
 pub row_fits : (columns : List Column) (row : List Value) → IsRowByType columns row → IsRowOf columns row
-row_fits [] [] is = tt
-row_fits [] (value ∷ row) is = absurd is
-row_fits (column ∷ columns) [] is = absurd is
 row_fits (column ∷ columns) (value ∷ row) is = (value_fits column value is.0, row_fits columns row is.1)
+row_fits [] [] is = tt
+row_fits columns row is = absurd is
 
 pub fits_row : (columns : List Column) (row : List Value) → IsRowOf columns row → IsRowByType columns row
-fits_row [] [] is = tt
-fits_row [] (value ∷ row) is = absurd is
-fits_row (column ∷ columns) [] is = absurd is
 fits_row (column ∷ columns) (value ∷ row) is = (fits_value column value is.0, fits_row columns row is.1)
+fits_row [] [] is = tt
+fits_row columns row is = absurd is
 
 -- ---- one value of a row
+
+-- what holds of all items, and of the one that stands in where there is none
+pub at_or : {A : Type 0} (P : A → Type 0) (other : A) (xs : List A) (place : ℕ) → P other → All P xs → P (slice_index_or xs place other)
+at_or P other [] place holds all = holds
+at_or P other (x ∷ xs) zero holds all = All-head P x xs all
+at_or P other (x ∷ xs) (suc place) holds all = at_or P other xs place holds (All-tail P x xs all)
 
 pub value-fits : (columns : List Column) (row : List Value) (place : ℕ) (column : Column) → IsRowOf columns row
     → slice_get columns place ≡ Some column → FitsColumn column (value_in place row)
@@ -60,16 +58,11 @@ value-fits (c ∷ columns) (value ∷ row) (suc place) column fits there = value
 
 pub of_kind_or_null : (column : Column) (value : Value) → FitsColumn column value → IsOfKindOrNull column.kind value
 of_kind_or_null column Null fits = tt
-of_kind_or_null column (Int n) fits = fits
-of_kind_or_null column (Text text) fits = fits
+of_kind_or_null column value fits = fits
 
-null_is_barred : {A : Type 0} (not_null : Bool) → not_null ≡ true → not_null ≡ false → A
-null_is_barred not_null barred let_in = let both : true ≡ false = sym barred ∙ let_in in cc
-
-pub of_kind : (column : Column) (value : Value) → column.not_null ≡ true → FitsColumn column value → IsOfKind column.kind value
-of_kind column Null barred fits = null_is_barred column.not_null barred fits
-of_kind column (Int n) barred fits = fits
-of_kind column (Text text) barred fits = fits
+of_kind : (column : Column) (value : Value) → column.not_null ≡ true → FitsColumn column value → IsOfKind column.kind value
+of_kind column Null barred fits = let both : true ≡ false = sym barred ∙ fits in cc
+of_kind column value barred fits = fits
 
 -- ---- its key
 

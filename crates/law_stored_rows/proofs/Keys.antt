@@ -1,54 +1,32 @@
 -- What a change of one entry makes of the keys of all tables, and how a change of a place begins and ends.
-use Rattle.std.proofs.Common.{◌≡◌, ◌≢◌, ◌∙◌, sym, ap, subst, refl, ℕ, ◌<◌, Bool, true, false, List, Option, Some, slice_get, ◌⊎◌, inl, inr}
-use Rattle.std.specs.Prelude.{◌==◌, ◌&&◌}
-use Rattle.std.proofs.lemmas.Bool.{cases_eq, cond-true, cond-false, eq-eqb, ne_eqb, and_from, and_left, and_right}
+use Rattle.std.proofs.Common.{◌≡◌, ◌≢◌, ◌∙◌, sym, ap, subst, refl, ℕ, ◌<◌, false, List, Option, Some, slice_get, inl, inr}
+use Rattle.std.specs.Prelude.{◌==◌}
+use Rattle.std.proofs.lemmas.Bool.{cases_eq, cases_Bool, eq-eqb, ne_eqb, and_from, and_right}
 use Rattle.inno_types.specs.{declared.value.Value.Value, declared.value.Key.Key, declared.value.Column.Column, declared.value.Schema.Schema}
 use Rattle.inno_db.specs.Database.{key_of}
 use Rattle.store_api.specs.declared.answers.Version.{Version as Coded}
-use Rattle.key_codec.specs.Keys.{key_code, entry_code}
+use Rattle.key_codec.specs.Keys.{entry_code}
 use Rattle.entries.specs.Pairs.{Pair}
 use Rattle.row_versions.specs.{declared.kept.Kept.Kept, declared.place.Place.Place, declared.version.Version.Version, Chains.Chains, Chains.versions_at}
 use Rattle.row_versions.specs.{Chains.is_same_place}
-use Rattle.law_stored_rows.specs.{Edits.with_value, Edits.clustered_index, Edits.key_index, Edits.Puts, Records.IsCodeOf}
+use Rattle.law_stored_rows.specs.{Edits.clustered_index, Edits.key_index, Edits.Puts, Records.IsCodeOf}
 use Rattle.law_stored_rows.specs.Entries.{is_same_value, value_in, entry_of, HasEntries, TellAlike, TellAlikeBut}
-use Rattle.law_stored_rows.specs.Tables.{place_in, in_table, Said, AreClustered, AreCodedAs, AreCoded, what_is_there, LagAt, SaysNow}
+use Rattle.law_stored_rows.specs.Tables.{place_in, Said, AreCodedAs, AreCoded, what_is_there, LagAt, SaysNow}
 use Rattle.law_stored_rows.proofs.Values.{in_one_table, in_other_table, place_itself, same_place, key_there, entry_there}
 use Rattle.law_stored_rows.proofs.{Pairs.at_index, Pairs.at_others, Pairs.no_key, Pairs.other_key, Entries.entries_after, Entries.entries_alike, Tables.at}
-use Rattle.law_stored_rows.proofs.{Tables.clustered_alike, Tables.few_of, Tables.entries_same}
-
--- ---- clustered indexes stay as they were
-
-pub rows_stay : (schemas : List Schema) (old new : ℕ → List Pair) (kept : ℕ → Option Kept) (chains : Chains) (table which : ℕ) (key : List ℕ)
-    (found : Option (List ℕ)) → which < 4 → Puts old new (key_index table which) key found
-    → AreClustered schemas old kept chains → AreClustered schemas new kept chains
-rows_stay schemas old new kept chains table which key found few puts is = record {
-  tables = λ other schema there.
-      clustered_alike schema kept (old (clustered_index other)) (new (clustered_index other)) (in_table other chains) (in_table other chains)
-      (at_others old new (key_index table which) key found (clustered_index other) puts (λ same. no_key other table which few (sym same)))
-      (λ value. refl) (is.tables other schema there);
-  nowhere_else = is.nowhere_else;
-}
+use Rattle.law_stored_rows.proofs.Tables.{few_of}
 
 -- ---- what keys say of a place
 
 module _ (was now : Said) (place : Place) (which : ℕ) (versions : List Version) (says : SaysNow was now place which versions) where
   pub now_says : now place.table which place.key ≡ versions
-  now_says =
-      says place.table which place.key
-      ∙ cond-true (which == which && is_same_place place place) versions (was place.table which place.key)
-      (and_from (which == which) (is_same_place place place) (eq-eqb which which refl) (place_itself place))
+  now_says = rw (and_from (which == which) (is_same_place place place) (eq-eqb which which refl) (place_itself place)) at (says place.table which place.key)
 
   pub says_apart : (table key : ℕ) (value : Value) → is_same_place place (at table value) ≡ false → now table key value ≡ was table key value
-  says_apart table key value apart =
-      says table key value ∙
-      cond-false (key == which && is_same_place place (at table value)) versions (was table key value)
-      (and_right (key == which) (is_same_place place (at table value)) apart)
+  says_apart table key value apart = rw (and_right (key == which) (is_same_place place (at table value)) apart) at (says table key value)
 
   pub others_say : (table key : ℕ) (value : Value) → key ≢ which → now table key value ≡ was table key value
-  others_say table key value differ =
-      says table key value ∙
-      cond-false (key == which && is_same_place place (at table value)) versions (was table key value)
-      (and_left (key == which) (is_same_place place (at table value)) (ne_eqb key which differ))
+  others_say table key value differ = rw (ne_eqb key which differ) at (says table key value)
 
   pub lag_says : (chains : Chains) → LagAt place chains was → LagAt place chains now
   lag_says chains lag table key value apart = says_apart table key value apart ∙ lag table key value apart
@@ -72,66 +50,62 @@ module _ (schemas : List Schema) (old new : ℕ → List Pair) (kept : ℕ → O
   abbrev entry : List ℕ
   entry = entry_code indexed.kind value key
 
+  abbrev mark : Option (List ℕ)
+  mark = entry_of k.column value versions
+
   few : which < 4
   few = few_of schema which k (is.keyed.few table schema there) also
 
-  says_versions : now table which here ≡ versions
-  says_versions = now_says was now (at table here) which versions says
+  -- all other indexes have what they had
+  others_stay : (other : ℕ) → other ≢ key_index table which → new other ≡ old other
+  others_stay other differ = at_others old new (key_index table which) entry mark other puts differ
 
   key_now : HasEntries schema k.column (new (key_index table which)) (now table which)
   key_now =
-      let pairs = old (key_index table which) in
       let e = is.keyed.keys table which schema k there also in
       let both = key_there schema key bytes coded e.primary e.primary_is code in
       let one : e.indexed ≡ indexed = cc (e.indexed_is, indexed_is) in
       let has_entry = entry_there schema key bytes coded k.column e.indexed code e.indexed_is in
-      let told : TellAlikeBut value k.column (was table which here) (now table which here)
-      = λ other apart. alike other apart ∙ ap (entry_of k.column other) (sym says_versions) in
+      let says_versions : now table which here ≡ versions = now_says was now (at table here) which versions says in
+      let told : TellAlikeBut value k.column (was table which here) (now table which here) = rw says_versions alike in
       let stays : (other : Value) → is_same_value here other ≡ false → now table which other ≡ was table which other
       = λ other apart. says_apart was now (at table here) which versions says table which other (in_one_table table here other ∙ apart) in
-      let after = entries_after schema k.column pairs (was table which) (now table which) e here value both.0 has_entry told stays in
-      let same_entry : entry_code e.indexed.kind value (key_code e.primary.kind here) ≡ entry = λ i. entry_code (one i).kind value (sym both.1 i) in
-      let same_mark : entry_of k.column value (now table which here) ≡ entry_of k.column value versions = ap (entry_of k.column value) says_versions in
-      let same_pairs : with_value (entry_code e.indexed.kind value (key_code e.primary.kind here)) (entry_of k.column value (now table which here))
-      pairs ≡ new (key_index table which)
-      = (λ i. with_value (same_entry i) (same_mark i) pairs) ∙ sym (at_index old new (key_index table which) entry (entry_of k.column value versions) puts) in
-      subst (λ (p : List Pair). HasEntries schema k.column p (now table which)) same_pairs after
+      let after = entries_after schema k.column (old (key_index table which)) (was table which) (now table which) e here value both.0 has_entry told stays in
+      rw (at_index old new (key_index table which) entry mark puts) (rw (← both.1, one, says_versions) at after)
 
   others_now : (other at_key : ℕ) (s : Schema) (c : Key) → slice_get schemas other ≡ Some s → slice_get s.keys at_key ≡ Some c
       → ((other ≡ table) → (at_key ≡ which) → ⊥)
       → ((v : Value) → now other at_key v ≡ was other at_key v) → HasEntries s c.column (new (key_index other at_key)) (now other at_key)
   others_now other at_key s c is_there is_key differ same =
-      entries_same s c.column (old (key_index other at_key)) (new (key_index other at_key)) (was other at_key) (now other at_key)
-      (at_others old new (key_index table which) entry (entry_of k.column value versions) (key_index other at_key) puts
-      (λ e. let parts = other_key table other at_key which (few_of s at_key c (is.keyed.few other s is_there) is_key) few e in differ parts.0 parts.1))
-      same (is.keyed.keys other at_key s c is_there is_key)
-
-  each_now : (other at_key : ℕ) (s : Schema) (c : Key) → slice_get schemas other ≡ Some s → slice_get s.keys at_key ≡ Some c
-      → (other ≡ table) ⊎ (other ≢ table) → (at_key ≡ which) ⊎ (at_key ≢ which)
-      → HasEntries s c.column (new (key_index other at_key)) (now other at_key)
-  each_now other at_key s c is_there is_key (inl same) (inl same_key) =
-      let is_table : slice_get schemas table ≡ Some s = subst (λ (t : ℕ). slice_get schemas t ≡ Some s) same is_there in
-      let one : schema ≡ s = cc (there, is_table) in
-      let is_which : slice_get schema.keys which ≡ Some c =
-      subst (λ (w : ℕ). slice_get schema.keys w ≡ Some c) same_key (subst (λ (x : Schema). slice_get x.keys at_key ≡ Some c) (sym one) is_key) in
-      let one_key : k ≡ c = cc (also, is_which) in
-      let At : Schema → Key → ℕ → ℕ → Type 0 = λ x y t w. HasEntries x y.column (new (key_index t w)) (now t w) in
-      subst (λ (x : Schema). At x c other at_key) one
-      (subst (λ (y : Key). At schema y other at_key) one_key
-      (subst (λ (t : ℕ). At schema k t at_key) (sym same)
-      (subst (λ (w : ℕ). At schema k table w) (sym same_key) key_now)))
-  each_now other at_key s c is_there is_key (inl same) (inr differ) =
-      others_now other at_key s c is_there is_key (λ a b. differ b) (λ v. others_say was now (at table here) which versions says other at_key v differ)
-  each_now other at_key s c is_there is_key (inr differ) which_is =
-      others_now other at_key s c is_there is_key (λ a b. differ a)
-      (λ v. says_apart was now (at table here) which versions says other at_key v (in_other_table (at table here) (at other v) (λ e. differ (sym e))))
+      let same_said : was other at_key ≡ now other at_key = λ i v. sym (same v) i in
+      let apart : key_index other at_key ≢ key_index table which =
+      λ e. let parts = other_key table other at_key which (few_of s at_key c (is.keyed.few other s is_there) is_key) few e in differ parts.0 parts.1 in
+      subst (λ (f : Value → List Version). HasEntries s c.column (new (key_index other at_key)) f) same_said
+      (rw (others_stay (key_index other at_key) apart) (is.keyed.keys other at_key s c is_there is_key))
 
   pub entry_changed : AreCodedAs schemas new kept chains now
   entry_changed = record {
-    clustered = rows_stay schemas old new kept chains table which entry (entry_of k.column value versions) few puts is.clustered;
+    clustered = record {
+      tables = λ other s is_there.
+          rw (others_stay (clustered_index other) (λ same. no_key other table which few (sym same))) (is.clustered.tables other s is_there);
+      nowhere_else = is.clustered.nowhere_else;
+    };
     keyed = record {
       few = is.keyed.few;
-      keys = λ other at_key s c is_there is_key. each_now other at_key s c is_there is_key (cases_eq other table) (cases_eq at_key which);
+      keys = λ other at_key s c is_there is_key. elim (cases_eq other table) [
+        | inl same ↦ elim (cases_eq at_key which) [
+          | inl same_key ↦
+              let is_table : slice_get schemas table ≡ Some s = rw same at is_there in
+              let one : s ≡ schema = cc (there, is_table) in
+              let is_which : slice_get schema.keys which ≡ Some c = rw (same_key, one) at is_key in
+              let one_key : c ≡ k = cc (also, is_which) in
+              rw (same, same_key, one, one_key) key_now
+          | inr differ ↦ others_now other at_key s c is_there is_key (λ a b. differ b)
+              (λ v. others_say was now (at table here) which versions says other at_key v differ)
+        ]
+        | inr differ ↦ others_now other at_key s c is_there is_key (λ a b. differ a)
+            (λ v. says_apart was now (at table here) which versions says other at_key v (in_other_table (at table here) (at other v) (λ e. differ (sym e))))
+      ];
     };
   }
 
@@ -160,12 +134,10 @@ pub change_over : (schemas : List Schema) (indexes : ℕ → List Pair) (kept : 
     → TellAlike key.column (said place.table which place.key) (versions_at place chains))
     → AreCoded schemas indexes kept chains
 change_over schemas indexes kept chains place said is lag alike =
-    said_alike schemas indexes kept chains said (what_is_there chains) is (λ table which schema k there also value.
-    tells table which schema k there also value (is_same_place place (at table value)) refl) where
-      tells : (table which : ℕ) (schema : Schema) (k : Key) → slice_get schemas table ≡ Some schema → slice_get schema.keys which ≡ Some k
-          → (v : Value) (t : Bool) → is_same_place place (at table v) ≡ t
-          → TellAlike k.column (said table which v) (in_table table chains v)
-      tells table which schema k there also v true same =
+    said_alike schemas indexes kept chains said (what_is_there chains) is (λ table which schema k there also v.
+    elim (cases_Bool (is_same_place place (at table v))) [
+      | inl same ↦
           let Alike : Place → Type 0 = λ p. slice_get schemas p.table ≡ Some schema → TellAlike k.column (said p.table which p.key) (versions_at p chains) in
           subst Alike (same_place place (at table v) same) (λ is_there. alike which schema k is_there also) there
-      tells table which schema k there also v false apart = λ value. ap (entry_of k.column value) (lag table which v apart)
+      | inr apart ↦ λ value. ap (entry_of k.column value) (lag table which v apart)
+    ])

@@ -9,14 +9,11 @@ pub mod Found
 pub mod Steps
 pub mod Made
 pub mod FromTables
-pub mod Together
 pub mod Applying
 pub mod Coding
 pub mod Declared
-pub mod Example
 pub mod Numbers
 pub mod Outcomes
 pub mod Rows
 pub mod Spelled
-pub mod Stored
 pub mod FittingValues

@@ -1,175 +1,150 @@
 -- Changes of statements whose literals have 64 bits leave rows whose numbers have 64 bits.
-use Rattle.std.proofs.Common.{◌≡◌, ℕ, Bool, true, false, cond, List, [], ◌∷◌, ◌++◌, map, Option, Some, None, Ok, Err, Result, is_some, refl, sym, subst, ◌∙◌}
-use Rattle.std.specs.Prelude.{slice_get, All, filter, ◌==◌, if◌then◌else◌}
-use Rattle.std.specs.List.{AllByRecursion}
-use Rattle.std.specs.Ordering.{eq_by_cmp}
-use Rattle.std.specs.FinMap.{entries, entries_sorted, get, from_entries, get-empty, get-insert, get-remove, get-entries}
-use Rattle.std.proofs.lemmas.List.Elements.{All-nil, All-cons, All-head, All-tail}
-use Rattle.inno_types.specs.{declared.value.Value.Value, declared.value.Column.Column, declared.value.Schema.Schema, declared.stmt.Literal.Literal}
-use Rattle.inno_types.specs.{declared.stmt.Set.Set, declared.stmt.Filter.Filter, declared.stmt.Definition.Definition, declared.stmt.Stmt.Stmt}
-use Rattle.inno_types.specs.{declared.reply.Reply.TheVariants.Done, declared.reply.SqlError.SqlError, declared.reply.SqlError.TheVariants.Duplicate}
-use Rattle.inno_types.specs.declared.stmt.Stmt.TheVariants.{CreateTable, Select, Insert, Update, Delete, Begin, Commit, Rollback, RollbackTo, Savepoint}
-use Rattle.inno_types.specs.declared.stmt.Stmt.TheVariants.{SetAutocommit, SetLevel}
+use Rattle.std.proofs.Common.{◌≡◌, ◌∙◌, ℕ, ◌+◌, ℤ, pos, negsuc, ◌+ℤ◌, ◌-ℤ◌, ◌*ℤ◌, neg_ℤ, true, List, [], ◌∷◌, Option, Some, None, Ok, Err, sym}
+use Rattle.std.proofs.Common.{subst, arith}
+use Rattle.std.specs.Prelude.{slice_get, slice_set, FitsSigned, All}
+use Rattle.std.specs.Int.{w64}
+use Rattle.std.specs.FinMap.{from_entries, get-empty}
+use Rattle.std.proofs.lemmas.Bool.{cond_both}
+use Rattle.std.proofs.lemmas.Bool.Decides.{nat_tests}
+use Rattle.std.proofs.lemmas.List.Elements.{All-nil, All-cons, All-head, All-tail, All-set, All-weaker}
+use Rattle.inno_types.specs.{declared.value.Value.Value, declared.value.Value.TheVariants.Null, declared.value.Value.TheVariants.Int}
+use Rattle.inno_types.specs.{declared.value.Column.Column, declared.value.Schema.Schema, declared.stmt.Literal.Literal}
+use Rattle.inno_types.specs.declared.stmt.Literal.TheVariants as literal
+use Rattle.inno_types.specs.declared.stmt.Expr.{Expr}
+use Rattle.inno_types.specs.declared.stmt.Expr.TheVariants as expr
+use Rattle.inno_types.specs.{declared.stmt.Set.Set, declared.stmt.Stmt.Stmt, declared.reply.SqlError.TheVariants.OutOfRange}
+use Rattle.inno_types.specs.declared.stmt.Stmt.TheVariants.{CreateTable, Insert, Update, Delete}
 use Rattle.inno_db.specs.{declared.change.Change.Change, declared.change.Change.TheVariants.Create, declared.change.Change.TheVariants.Put}
-use Rattle.inno_db.specs.{declared.change.Change.TheVariants.Remove, declared.outcome.Outcome.Outcome, Changes.apply_one, Changes.apply}
-use Rattle.inno_db.specs.{Order.place_cmp_total, Names.table_place, Conditions.matches, Expressions.and_then, Storing.all_assigned, Storing.row_of_tuple}
-use Rattle.inno_db.specs.{Declarations.schema_declared, Refusals.refusal}
-use Rattle.inno_db.specs.Database.{Database, Place, place_cmp, rows_of, key_of, key_in}
-use Rattle.inno_db.specs.Outcome.{matching, has_key, is_same_row, new_row, row_for, put_then, inserted, change_to, change_then, updated, deleted, on_schema}
-use Rattle.inno_db.specs.Outcome.{on_number, on_rows, creation, created, answered, select_answer, insert_answer, update_answer, delete_answer, answer_to}
-use Rattle.inno_db.specs.Outcome.{unless_refused, outcome}
+use Rattle.inno_db.specs.{declared.change.Change.TheVariants.Remove, Changes.apply_one, Changes.apply, Database.Database, Database.place_cmp, Database.rows_of}
+use Rattle.inno_db.specs.{Database.key_of, Names.column_place, Names.value_at, Outcome.outcome}
+use Rattle.inno_db.specs.Expressions.{Valued, and_then, on_two, negated, in_range, is_bigint, both, literal_given, expr_value}
+use Rattle.inno_db.specs.Storing.{misfit, unless_refused, stored, place_in_tuple, literal_at, values_from, put_in, put_at, assigned, all_assigned}
 use Rattle.inno_model.specs.Past.{changed}
 use Rattle.key_codec.specs.Keys.{Has64Bits}
 use Rattle.law_db.proofs.Values.{ok_same, never, and_then-ok}
 use Rattle.law_stored_rows.specs.Numbers.{LiteralHas64Bits, ExprHas64Bits, Stores64Bits, ChangeHas64Bits, RowsHave64Bits}
-use Rattle.law_stored_rows.proofs.{Rows.all_found, Rows.IsFoundIn, Stored.row_of_tuple-Has64Bits, Stored.all_assigned-Has64Bits, Stored.key_of-Has64Bits}
+use Rattle.law_stored_rows.proofs.{FittingValues.at_or, Rows.rows_have, Applying.rows_put, Applying.rows_removed, Outcomes.OfTuple, Outcomes.OfUpdated}
+use Rattle.law_stored_rows.proofs.{Outcomes.Makes, Outcomes.outcome-each}
 
-abbrev All64 : List Change → Type 0
-All64 changes = All ChangeHas64Bits changes
+-- ---- values that are stored
 
-none-Has64Bits : All64 []
-none-Has64Bits = All-nil ChangeHas64Bits
+-- a value that a column takes is stored as it is
+stored_same : (column : Column) (value made : Value) → stored column value ≡ Ok made → value ≡ made
+stored_same column value made h = elim (misfit column value) as (λ o. ◌≡◌ {A = Valued} (unless_refused o value) (Ok made) → value ≡ made)
+    [ None ↦ λ e. ok_same e | Some error ↦ λ e. never e ] h
+
+given-Has64Bits : (l : Literal) (value : Value) → LiteralHas64Bits l → literal_given l ≡ Ok value → Has64Bits value
+given-Has64Bits (literal.Int n) value fits h = subst Has64Bits (ok_same h) fits
+given-Has64Bits literal.TooBig value fits h = never h
+given-Has64Bits l value fits h = subst Has64Bits (ok_same h) tt
+
+bigint-Has64Bits : (n : ℤ) → is_bigint n ≡ true → FitsSigned w64 n
+bigint-Has64Bits (pos n) h = record { sfits = grind (arith, nat_tests) }
+bigint-Has64Bits (negsuc n) h = record { sfits = grind (arith, nat_tests) }
+
+in_range-Has64Bits : (n : ℤ) (value : Value) → in_range n ≡ Ok value → Has64Bits value
+in_range-Has64Bits n value h =
+    cond_both (is_bigint n) (Ok (Int n)) (Err OutOfRange) (λ (r : Valued). r ≡ Ok value → Has64Bits value)
+    (λ is e. subst Has64Bits (ok_same e) (bigint-Has64Bits n is)) (λ is e. never e) h
+
+on_two-Has64Bits : (f : ℤ → ℤ → ℤ) (a b value : Value) → on_two f a b ≡ Ok value → Has64Bits value
+on_two-Has64Bits f (Int a) (Int b) value h = in_range-Has64Bits (f a b) value h
+on_two-Has64Bits f a b value h = subst Has64Bits (ok_same h) tt
+
+negated-Has64Bits : (a value : Value) → negated a ≡ Ok value → Has64Bits value
+negated-Has64Bits (Int n) value h = in_range-Has64Bits (neg_ℤ n) value h
+negated-Has64Bits a value h = subst Has64Bits (ok_same h) tt
+
+both-Has64Bits : (f : ℤ → ℤ → ℤ) (left right : Valued) (value : Value) → both f left right ≡ Ok value → Has64Bits value
+both-Has64Bits f left right value h =
+    let a = and_then-ok left (λ x. and_then right (λ y. on_two f x y)) value h in
+    let b = and_then-ok right (λ y. on_two f a.0 y) value a.2 in
+    on_two-Has64Bits f a.0 b.0 value b.2
+
+value_at-Has64Bits : (row : List Value) (place : Option ℕ) → All Has64Bits row → Has64Bits (value_at row place)
+value_at-Has64Bits row None all = tt
+value_at-Has64Bits row (Some place) all = at_or Has64Bits Null row place tt all
+
+expr-Has64Bits : (columns : List Column) (row : List Value) (e : Expr) (value : Value) → All Has64Bits row → ExprHas64Bits e
+    → expr_value columns row e ≡ Ok value → Has64Bits value
+expr-Has64Bits columns row (expr.Literal l) value all fits h = given-Has64Bits l value fits h
+expr-Has64Bits columns row (expr.Column name) value all fits h = subst Has64Bits (ok_same h) (value_at-Has64Bits row (column_place columns name) all)
+expr-Has64Bits columns row (expr.Negate' p e) value all fits h = let a = and_then-ok (expr_value columns row e) negated value h in
+    negated-Has64Bits a.0 value a.2
+expr-Has64Bits columns row (expr.Add' p a q b) value all fits h = both-Has64Bits ◌+ℤ◌ (expr_value columns row a) (expr_value columns row b) value h
+expr-Has64Bits columns row (expr.Subtract' p a q b) value all fits h = both-Has64Bits ◌-ℤ◌ (expr_value columns row a) (expr_value columns row b) value h
+expr-Has64Bits columns row (expr.Multiply' p a q b) value all fits h = both-Has64Bits ◌*ℤ◌ (expr_value columns row a) (expr_value columns row b) value h
+
+-- ---- rows that are put
+
+literal_at-Has64Bits : (tuple : List Literal) (place : Option ℕ) → All LiteralHas64Bits tuple → LiteralHas64Bits (literal_at tuple place)
+literal_at-Has64Bits tuple None all = tt
+literal_at-Has64Bits tuple (Some place) all = at_or LiteralHas64Bits literal.Null tuple place tt all
+
+-- the row of a tuple
+values_from-Has64Bits : (names : Option (List (List ℕ))) (tuple : List Literal) (place : ℕ) (columns : List Column) (row : List Value)
+    → All LiteralHas64Bits tuple → values_from names tuple place columns ≡ Ok row → All Has64Bits row
+values_from-Has64Bits names tuple place [] row all h = subst (All Has64Bits) (ok_same h) (All-nil Has64Bits)
+values_from-Has64Bits names tuple place (column ∷ columns) row all h =
+    let l = literal_at tuple (place_in_tuple names place column) in
+    let a = and_then-ok (and_then (literal_given l) (stored column))
+    (λ value. and_then (values_from names tuple (place + 1) columns) (λ values. Ok (value ∷ values))) row h in
+    let b = and_then-ok (literal_given l) (stored column) a.0 a.1 in
+    let d = and_then-ok (values_from names tuple (place + 1) columns) (λ values. Ok (a.0 ∷ values)) row a.2 in
+    let value = given-Has64Bits l b.0 (literal_at-Has64Bits tuple (place_in_tuple names place column) all) b.1 in
+    let rest = values_from-Has64Bits names tuple (place + 1) columns d.0 all d.1 in
+    subst (All Has64Bits) (ok_same d.2) (All-cons Has64Bits a.0 d.0 (subst Has64Bits (stored_same column b.0 a.0 b.2) value) rest)
+
+put_at-Has64Bits : (columns : List Column) (row after : List Value) (place : Option ℕ) (value : Value) → All Has64Bits row → Has64Bits value
+    → put_at columns row place value ≡ Ok after → All Has64Bits after
+put_at-Has64Bits columns row after None value all fits h = subst (All Has64Bits) (ok_same h) all
+put_at-Has64Bits columns row after (Some place) value all fits h =
+    elim (slice_get columns place) as (λ o. put_in o place row value ≡ Ok after → All Has64Bits after) [
+      | None ↦ λ e. subst (All Has64Bits) (ok_same e) all
+      | Some column ↦ λ e.
+          let a = and_then-ok (stored column value) (λ v. Ok (slice_set row place v)) after e in
+          subst (All Has64Bits) (ok_same a.2) (All-set Has64Bits row place a.0 (subst Has64Bits (stored_same column value a.0 a.1) fits) all)
+    ] h
+
+-- a row after assignments
+all_assigned-Has64Bits : (columns : List Column) (row after : List Value) (sets : List Set) → All Has64Bits row
+    → All (λ set. ExprHas64Bits set.value) sets → all_assigned columns row sets ≡ Ok after → All Has64Bits after
+all_assigned-Has64Bits columns row after [] all fits h = subst (All Has64Bits) (ok_same h) all
+all_assigned-Has64Bits columns row after (set ∷ sets) all fits h =
+    let a = and_then-ok (assigned columns row set) (λ r. all_assigned columns r sets) after h in
+    let b = and_then-ok (expr_value columns row set.value) (put_at columns row (column_place columns set.column)) a.0 a.1 in
+    let value = expr-Has64Bits columns row set.value b.0 all (All-head (λ (s : Set). ExprHas64Bits s.value) set sets fits) b.1 in
+    all_assigned-Has64Bits columns a.0 after sets (put_at-Has64Bits columns row a.0 (column_place columns set.column) b.0 all value b.2)
+    (All-tail (λ (s : Set). ExprHas64Bits s.value) set sets fits) a.2
 
 -- ---- the changes of an outcome
 
-new_row-same : (schema : Schema) (rows : List (List Value)) (row made : List Value) → new_row schema rows row ≡ Ok made → row ≡ made
-new_row-same schema rows row made h =
-    elim (has_key schema (key_of schema row) rows) as
-    (λ b. ◌≡◌ {A = Result (List Value) SqlError} (if b then Err (Duplicate (key_of schema row)) else Ok row) (Ok made) → row ≡ made) [
-      | true ↦ λ e. never e
-      | false ↦ λ e. ok_same e
-    ] h
-
-inserted-Has64Bits : (table : ℕ) (schema : Schema) (names : Option (List (List ℕ))) (rows : List (List Value)) (tuples : List (List Literal))
-    → All (All LiteralHas64Bits) tuples → All64 (inserted table schema names rows tuples).changes
-inserted-Has64Bits table schema names rows [] all = none-Has64Bits
-inserted-Has64Bits table schema names rows (tuple ∷ tuples) all =
-    elim (row_for schema names rows tuple) as (λ r. row_for schema names rows tuple ≡ r
-    → All64 (put_then table r (λ row. inserted table schema names (rows ++ row ∷ []) tuples)).changes) [
-      | Ok row ↦ λ h.
-          let a = and_then-ok (row_of_tuple schema.columns names tuple) (new_row schema rows) row h in
-          let made = row_of_tuple-Has64Bits schema.columns names tuple a.0 (All-head (All LiteralHas64Bits) tuple tuples all) a.1 in
-          let later = inserted table schema names (rows ++ row ∷ []) tuples in
-          let rest = inserted-Has64Bits table schema names (rows ++ row ∷ []) tuples (All-tail (All LiteralHas64Bits) tuple tuples all) in
-          All-cons ChangeHas64Bits (Put table row) later.changes (subst (All Has64Bits) (new_row-same schema rows a.0 row a.2) made) rest
-      | Err error ↦ λ h. none-Has64Bits
-    ] refl
-
-updated-Has64Bits : (table : ℕ) (schema : Schema) (sets : List Set) (rows : List (List Value)) → All (λ set. ExprHas64Bits set.value) sets
-    → AllByRecursion (All Has64Bits) rows → All64 (updated table schema sets rows).changes
-updated-Has64Bits table schema sets [] fits all = none-Has64Bits
-updated-Has64Bits table schema sets (row ∷ rows) fits all =
-    let later = updated table schema sets rows in
-    let rest = updated-Has64Bits table schema sets rows fits all.1 in
-    elim (all_assigned schema.columns row sets) as (λ r. all_assigned schema.columns row sets ≡ r
-    → All64 (change_then (and_then r (λ after. Ok (change_to table row after))) later).changes) [
-      | Ok after ↦ λ h.
-          let made = all_assigned-Has64Bits schema.columns row after sets all.0 fits h in
-          elim (is_same_row row after) as (λ b. All64 (change_then (Ok (if b then None else Some (Put table after))) later).changes)
-          [ true ↦ rest | false ↦ All-cons ChangeHas64Bits (Put table after) later.changes made rest ]
-      | Err error ↦ λ h. none-Has64Bits
-    ] refl
-
-matching-Has64Bits : (columns : List Column) (condition : Option Filter) (rows : List (List Value)) → AllByRecursion (All Has64Bits) rows
-    → AllByRecursion (All Has64Bits) (matching columns condition rows)
-matching-Has64Bits columns condition [] all = tt
-matching-Has64Bits columns condition (row ∷ rows) all =
-    let rest = matching-Has64Bits columns condition rows all.1 in
-    elim (matches columns condition row) as
-    (λ b. AllByRecursion (All Has64Bits) (cond b (row ∷ matching columns condition rows) (matching columns condition rows)))
-    [ true ↦ (all.0, rest) | false ↦ rest ]
-
-deleted-Has64Bits : (table : ℕ) (schema : Schema) (rows : List (List Value)) → AllByRecursion (All Has64Bits) rows → All64 (deleted table schema rows)
-deleted-Has64Bits table schema [] all = none-Has64Bits
-deleted-Has64Bits table schema (row ∷ rows) all =
-    All-cons ChangeHas64Bits (Remove table (key_of schema row)) (deleted table schema rows) (key_of-Has64Bits schema row all.0)
-    (deleted-Has64Bits table schema rows all.1)
-
-on_rows-Has64Bits : (db : Database) (name : List ℕ) (answer : ℕ → Schema → List (List Value) → Outcome)
-    → ((n : ℕ) (schema : Schema) → All64 (answer n schema (rows_of n db)).changes) → All64 (on_rows db name answer).changes
-on_rows-Has64Bits db name answer each =
-    elim (table_place db.schemas name) as (λ p. All64 (on_number db p answer).changes) [
-      | None ↦ none-Has64Bits
-      | Some n ↦ elim (slice_get db.schemas n) as (λ o. All64 (on_schema n o (rows_of n db) answer).changes)
-          [ None ↦ none-Has64Bits | Some schema ↦ each n schema ]
-    ]
-
-created-Has64Bits : (db : Database) (table : List ℕ) (definitions : List Definition) → All64 (created db table definitions).changes
-created-Has64Bits db table definitions =
-    elim (is_some (table_place db.schemas table)) as (λ b. All64 (if b then answered Done else creation (schema_declared table definitions)).changes) [
-      | true ↦ none-Has64Bits
-      | false ↦ elim (schema_declared table definitions) as (λ o. All64 (creation o).changes) [
-        | None ↦ none-Has64Bits
-        | Some schema ↦ All-cons ChangeHas64Bits (Create schema) [] tt none-Has64Bits
-      ]
-    ]
-
--- ---- the rows of a table
-
-among-Has64Bits : (n : ℕ) (es : List (Place × List Value)) → AllByRecursion (λ e. All Has64Bits e.1) es
-    → AllByRecursion (All Has64Bits) (map (λ (e : Place × List Value). e.1) (filter (λ (e : Place × List Value). e.0.0 == n) es))
-among-Has64Bits n [] all = tt
-among-Has64Bits n (e ∷ es) all =
-    let rest = among-Has64Bits n es all.1 in
-    let among = filter (λ (e : Place × List Value). e.0.0 == n) es in
-    elim (e.0.0 == n) as (λ b. AllByRecursion (All Has64Bits) (map (λ (e : Place × List Value). e.1) (cond b (e ∷ among) among)))
-    [ true ↦ (all.0, rest) | false ↦ rest ]
-
-entries-Has64Bits : (db : Database) → RowsHave64Bits db → (es : List (Place × List Value)) → AllByRecursion (IsFoundIn (entries db.rows)) es
-    → AllByRecursion (λ e. All Has64Bits e.1) es
-entries-Has64Bits db rows [] found = tt
-entries-Has64Bits db rows (e ∷ es) found = (rows e.0 e.1 (get-entries db.rows e.0 ∙ found.0), entries-Has64Bits db rows es found.1)
-
-rows_of-Has64Bits : (n : ℕ) (db : Database) → RowsHave64Bits db → AllByRecursion (All Has64Bits) (rows_of n db)
-rows_of-Has64Bits n db rows =
-    among-Has64Bits n (entries db.rows) (entries-Has64Bits db rows (entries db.rows) (all_found (entries db.rows) (entries_sorted db.rows)))
-
 module _ (db : Database) (rows : RowsHave64Bits db) where
-  answer_to-Has64Bits : (stmt : Stmt) → Stores64Bits stmt → All64 (answer_to stmt db).changes
-  answer_to-Has64Bits (CreateTable table if_not_exists definitions) fits = created-Has64Bits db table definitions
-  answer_to-Has64Bits (Select selected table condition lock) fits = on_rows-Has64Bits db table (select_answer selected condition) (λ n schema. none-Has64Bits)
-  answer_to-Has64Bits (Insert table names tuples) fits =
-      on_rows-Has64Bits db table (insert_answer names tuples) (λ n schema. inserted-Has64Bits n schema names (rows_of n db) tuples fits)
-  answer_to-Has64Bits (Update table sets condition) fits =
-      on_rows-Has64Bits db table (update_answer sets condition)
-      (λ n schema. updated-Has64Bits n schema sets (matching schema.columns condition (rows_of n db)) fits
-      (matching-Has64Bits schema.columns condition (rows_of n db) (rows_of-Has64Bits n db rows)))
-  answer_to-Has64Bits (Delete table condition) fits =
-      on_rows-Has64Bits db table (delete_answer condition)
-      (λ n schema. deleted-Has64Bits n schema (matching schema.columns condition (rows_of n db))
-      (matching-Has64Bits schema.columns condition (rows_of n db) (rows_of-Has64Bits n db rows)))
-  answer_to-Has64Bits (Begin snapshot) fits = none-Has64Bits
-  answer_to-Has64Bits Commit fits = none-Has64Bits
-  answer_to-Has64Bits Rollback fits = none-Has64Bits
-  answer_to-Has64Bits (RollbackTo savepoint) fits = none-Has64Bits
-  answer_to-Has64Bits (Savepoint name) fits = none-Has64Bits
-  answer_to-Has64Bits (SetAutocommit on) fits = none-Has64Bits
-  answer_to-Has64Bits (SetLevel scope level) fits = none-Has64Bits
+  rows_of-Has64Bits : (n : ℕ) → All (All Has64Bits) (rows_of n db)
+  rows_of-Has64Bits n = rows_have db n (All Has64Bits) (λ place row there here. rows place row there)
+
+  makes-Has64Bits : (stmt : Stmt) → Stores64Bits stmt → Makes ChangeHas64Bits db stmt
+  makes-Has64Bits (CreateTable table if_not_exists definitions) fits = λ schema is. tt
+  makes-Has64Bits (Insert table names tuples) fits = λ n schema is.
+      All-weaker (All LiteralHas64Bits) (OfTuple ChangeHas64Bits n schema names)
+      (λ tuple all row made. values_from-Has64Bits names tuple 0 schema.columns row all made) tuples fits
+  makes-Has64Bits (Update table sets condition) fits = λ n schema is.
+      All-weaker (All Has64Bits) (OfUpdated ChangeHas64Bits n schema sets)
+      (λ row all after made. all_assigned-Has64Bits schema.columns row after sets all fits made) (rows_of n db) (rows_of-Has64Bits n)
+  makes-Has64Bits (Delete table condition) fits = λ n schema is.
+      All-weaker (All Has64Bits) (λ row. Has64Bits (key_of schema row))
+      (λ row all. at_or Has64Bits Null row schema.primary tt all) (rows_of n db) (rows_of-Has64Bits n)
+  makes-Has64Bits other fits = tt
 
   pub outcome-Has64Bits : (stmt : Stmt) → Stores64Bits stmt → All ChangeHas64Bits (outcome stmt db).changes
-  outcome-Has64Bits stmt fits = elim (refusal db.schemas stmt) as (λ o. All64 (unless_refused o (answer_to stmt db)).changes)
-      [ None ↦ answer_to-Has64Bits stmt fits | Some error ↦ none-Has64Bits ]
+  outcome-Has64Bits stmt fits = outcome-each ChangeHas64Bits db stmt (makes-Has64Bits stmt fits)
 
 -- ---- changes that are made
 
-put-Has64Bits : (here : Bool) (row found : List Value) (before : Option (List Value)) → All Has64Bits row
-    → (before ≡ Some found → All Has64Bits found) → cond here (Some row) before ≡ Some found → All Has64Bits found
-put-Has64Bits true row found before fits kept is = let same : row ≡ found = cc in subst (All Has64Bits) same fits
-put-Has64Bits false row found before fits kept is = kept is
-
-removed-Has64Bits : (here : Bool) (found : List Value) (before : Option (List Value)) → (before ≡ Some found → All Has64Bits found)
-    → cond here None before ≡ Some found → All Has64Bits found
-removed-Has64Bits true found before kept is = absurd (cc)
-removed-Has64Bits false found before kept is = kept is
-
 pub apply_one-Has64Bits : (db : Database) (change : Change) → RowsHave64Bits db → ChangeHas64Bits change → RowsHave64Bits (apply_one db change)
 apply_one-Has64Bits db (Create schema) rows fits = rows
-apply_one-Has64Bits db (Put table row) rows fits =
-    λ place found is. put-Has64Bits (eq_by_cmp place_cmp place (table, key_in db.schemas table row)) row found (get db.rows place) fits
-    (rows place found) (sym (get-insert place_cmp_total db.rows (table, key_in db.schemas table row) row place) ∙ is)
-apply_one-Has64Bits db (Remove table key) rows fits =
-    λ place found is. removed-Has64Bits (eq_by_cmp place_cmp place (table, key)) found (get db.rows place) (rows place found)
-    (sym (get-remove place_cmp_total db.rows (table, key) place) ∙ is)
+apply_one-Has64Bits db (Put table row) rows fits = rows_put (λ place row. All Has64Bits row) db rows table row fits
+apply_one-Has64Bits db (Remove table key) rows fits = rows_removed (λ place row. All Has64Bits row) db rows table key
 
 pub apply-Has64Bits : (db : Database) (changes : List Change) → RowsHave64Bits db → All ChangeHas64Bits changes → RowsHave64Bits (apply db changes)
 apply-Has64Bits db [] rows all = rows

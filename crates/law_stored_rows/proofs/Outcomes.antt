@@ -1,149 +1,149 @@
--- The changes of an outcome fit the tables of its database.
-use Rattle.std.proofs.Common.{◌≡◌, ℕ, ◌<◌, true, false, cond, List, [], ◌∷◌, ◌++◌, length, Option, Some, None, Ok, Err, is_some, inl, inr, refl, sym, subst}
-use Rattle.std.proofs.Common.{⊎_elim, arith}
+-- What holds of each change of an outcome; these changes fit the tables of its database.
+use Rattle.std.proofs.Common.{◌≡◌, ℕ, true, false, List, [], ◌∷◌, ◌++◌, Option, Some, None, Ok, Err, Result, is_some, refl, subst}
 use Rattle.std.specs.Prelude.{slice_get, IsSomeAnd, All, if◌then◌else◌}
 use Rattle.std.specs.List.{AllByRecursion}
-use Rattle.std.proofs.lemmas.List.Elements.{All-from_recursion, All-nil, All-cons}
-use Rattle.std.proofs.lemmas.Option.{slice_get_cases}
+use Rattle.std.proofs.lemmas.Bool.{cond_both}
+use Rattle.std.proofs.lemmas.List.Elements.{All-from_recursion, recursion_from_All, All-weaker, All-filter, All-map}
 use Rattle.inno_types.specs.{declared.value.Value.Value, declared.value.Schema.Schema, declared.stmt.Literal.Literal, declared.stmt.Set.Set}
-use Rattle.inno_types.specs.{declared.stmt.Filter.Filter, declared.stmt.Definition.Definition, declared.stmt.Stmt.Stmt, declared.reply.Reply.TheVariants.Done}
-use Rattle.inno_types.specs.declared.stmt.Stmt.TheVariants.{CreateTable, Select, Insert, Update, Delete, Begin, Commit, Rollback, RollbackTo, Savepoint}
-use Rattle.inno_types.specs.declared.stmt.Stmt.TheVariants.{SetAutocommit, SetLevel}
+use Rattle.inno_types.specs.{declared.stmt.Definition.Definition, declared.stmt.Stmt.Stmt, declared.reply.Reply.TheVariants.Done}
+use Rattle.inno_types.specs.{declared.reply.SqlError.SqlError, declared.reply.SqlError.TheVariants.Duplicate}
+use Rattle.inno_types.specs.declared.stmt.Stmt.TheVariants.{CreateTable, Select, Insert, Update, Delete}
 use Rattle.inno_db.specs.{declared.change.Change.Change, declared.change.Change.TheVariants.Create, declared.change.Change.TheVariants.Put}
-use Rattle.inno_db.specs.{declared.change.Change.TheVariants.Remove, declared.limits.TheConstants.MOST_TABLES, declared.outcome.Outcome.Outcome}
+use Rattle.inno_db.specs.{declared.change.Change.TheVariants.Remove, declared.outcome.Outcome.Outcome}
 use Rattle.inno_db.specs.{Database.Database, Database.rows_of, Database.key_of, Names.table_place, Conditions.matches, Expressions.and_then}
-use Rattle.inno_db.specs.{Storing.all_assigned, Declarations.schema_declared, Refusals.refusal}
-use Rattle.inno_db.specs.Outcome.{matching, is_same_row, row_for, put_then, inserted, change_to, change_then, updated, deleted, on_schema, on_number, on_rows}
-use Rattle.inno_db.specs.Outcome.{creation, created, answered, select_answer, insert_answer, update_answer, delete_answer, answer_to, unless_refused, outcome}
-use Rattle.law_db.specs.{Fitting.IsRowIn, Fitting.AllFit, RowChanges.AreOfTables}
-use Rattle.law_db.proofs.{Fits.outcome-AllFit, Applicable.outcome-AreApplicable}
+use Rattle.inno_db.specs.{Storing.all_assigned, Storing.row_of_tuple, Declarations.schema_declared, Refusals.refusal}
+use Rattle.inno_db.specs.Outcome.{has_key, matching, is_same_row, new_row, row_for, put_then, inserted, change_to, change_then, updated, deleted, on_schema}
+use Rattle.inno_db.specs.Outcome.{on_number, on_rows, creation, created, answered, select_answer, insert_answer, update_answer, delete_answer, answer_to}
+use Rattle.inno_db.specs.Outcome.{unless_refused, outcome}
+use Rattle.law_db.specs.{Fitting.AllFit}
+use Rattle.law_db.proofs.{Values.ok_same, Values.never, Values.and_then-ok, Fits.outcome-AllFit}
 use Rattle.law_stored_rows.specs.{Storable.IsStorable, Fitting.IsKeyFor, Fitting.FitsTable, Fitting.FitsTables, Fitting.AreFitting}
-use Rattle.law_stored_rows.proofs.{Declared.declared-IsStorable, Rows.rows_fit, Rows.rows_by_type, FittingValues.row_fits, FittingValues.FitsTable-from_row}
+use Rattle.law_stored_rows.proofs.{Declared.declared-IsStorable, Rows.rows_of-FitsTable, Rows.rows_by_type, FittingValues.row_fits}
+use Rattle.law_stored_rows.proofs.FittingValues.{FitsTable-from_row}
 
--- what the laws on rows that are put don't say
+-- ---- what holds of each change
+
+new_row-same : (schema : Schema) (rows : List (List Value)) (row made : List Value) → new_row schema rows row ≡ Ok made → row ≡ made
+new_row-same schema rows row made h =
+    cond_both (has_key schema (key_of schema row) rows) (Err (Duplicate (key_of schema row))) (Ok row)
+    (λ (r : Result (List Value) SqlError). r ≡ Ok made → row ≡ made) (λ is e. never e) (λ is e. ok_same e) h
+
+module _ (P : Change → Type 0) where
+  abbrev Each : List Change → Type 0
+  Each changes = AllByRecursion P changes
+
+  -- it holds of the rows that are put for a tuple, and for a row that is updated
+  abbrev pub OfTuple : ℕ → Schema → Option (List (List ℕ)) → List Literal → Type 0
+  OfTuple table schema names tuple = (row : List Value) → row_of_tuple schema.columns names tuple ≡ Ok row → P (Put table row)
+
+  abbrev pub OfUpdated : ℕ → Schema → List Set → List Value → Type 0
+  OfUpdated table schema sets row = (after : List Value) → all_assigned schema.columns row sets ≡ Ok after → P (Put table after)
+
+  -- it holds of each change that the statement may make there
+  abbrev pub Makes : Database → Stmt → Type 0
+  Makes db (CreateTable table if_not_exists definitions) = (schema : Schema) → schema_declared table definitions ≡ Some schema → P (Create schema)
+  Makes db (Insert table names tuples) = (n : ℕ) (schema : Schema) → slice_get db.schemas n ≡ Some schema → All (OfTuple n schema names) tuples
+  Makes db (Update table sets condition) = (n : ℕ) (schema : Schema) → slice_get db.schemas n ≡ Some schema → All (OfUpdated n schema sets) (rows_of n db)
+  Makes db (Delete table condition) =
+      (n : ℕ) (schema : Schema) → slice_get db.schemas n ≡ Some schema → All (λ row. P (Remove n (key_of schema row))) (rows_of n db)
+  Makes db other = Unit {0}
+
+  inserted-each : (table : ℕ) (schema : Schema) (names : Option (List (List ℕ))) (rows : List (List Value)) (tuples : List (List Literal))
+      → AllByRecursion (OfTuple table schema names) tuples → Each (inserted table schema names rows tuples).changes
+  inserted-each table schema names rows [] makes = tt
+  inserted-each table schema names rows (tuple ∷ tuples) makes =
+      elim (row_for schema names rows tuple) as (λ r. row_for schema names rows tuple ≡ r
+      → Each (put_then table r (λ row. inserted table schema names (rows ++ row ∷ []) tuples)).changes) [
+        | Ok row ↦ λ h.
+            let a = and_then-ok (row_of_tuple schema.columns names tuple) (new_row schema rows) row h in
+            let made = subst (λ (r : List Value). row_of_tuple schema.columns names tuple ≡ Ok r) (new_row-same schema rows a.0 row a.2) a.1 in
+            (makes.0 row made, inserted-each table schema names (rows ++ row ∷ []) tuples makes.1)
+        | Err error ↦ λ h. tt
+      ] refl
+
+  updated-each : (table : ℕ) (schema : Schema) (sets : List Set) (rows : List (List Value)) → AllByRecursion (OfUpdated table schema sets) rows
+      → Each (updated table schema sets rows).changes
+  updated-each table schema sets [] makes = tt
+  updated-each table schema sets (row ∷ rows) makes =
+      let later = updated table schema sets rows in
+      let rest = updated-each table schema sets rows makes.1 in
+      elim (all_assigned schema.columns row sets) as (λ r. all_assigned schema.columns row sets ≡ r
+      → Each (change_then (and_then r (λ after. Ok (change_to table row after))) later).changes) [
+        | Ok after ↦ λ h. elim (is_same_row row after) as (λ b. Each (change_then (Ok (if b then None else Some (Put table after))) later).changes)
+            [ true ↦ rest | false ↦ (makes.0 after h, rest) ]
+        | Err error ↦ λ h. tt
+      ] refl
+
+  on_rows-each : (db : Database) (name : List ℕ) (answer : ℕ → Schema → List (List Value) → Outcome)
+      → ((n : ℕ) (schema : Schema) → slice_get db.schemas n ≡ Some schema → Each (answer n schema (rows_of n db)).changes)
+      → Each (on_rows db name answer).changes
+  on_rows-each db name answer each =
+      elim (table_place db.schemas name) as (λ p. Each (on_number db p answer).changes) [
+        | None ↦ tt
+        | Some n ↦ elim (slice_get db.schemas n) as (λ o. slice_get db.schemas n ≡ o → Each (on_schema n o (rows_of n db) answer).changes)
+            [ None ↦ λ is. tt | Some schema ↦ λ is. each n schema is ] refl
+      ]
+
+  created-each : (db : Database) (table : List ℕ) (definitions : List Definition)
+      → ((schema : Schema) → schema_declared table definitions ≡ Some schema → P (Create schema)) → Each (created db table definitions).changes
+  created-each db table definitions each =
+      elim (is_some (table_place db.schemas table)) as (λ b. Each (if b then answered Done else creation (schema_declared table definitions)).changes) [
+        | true ↦ tt
+        | false ↦ elim (schema_declared table definitions) as (λ o. schema_declared table definitions ≡ o → Each (creation o).changes)
+            [ None ↦ λ is. tt | Some schema ↦ λ is. (each schema is, tt) ] refl
+      ]
+
+  answer_to-each : (db : Database) (stmt : Stmt) → Makes db stmt → Each (answer_to stmt db).changes
+  answer_to-each db (CreateTable table if_not_exists definitions) makes = created-each db table definitions makes
+  answer_to-each db (Select selected table condition lock) makes = on_rows-each db table (select_answer selected condition) (λ n schema is. tt)
+  answer_to-each db (Insert table names tuples) makes = on_rows-each db table (insert_answer names tuples) (λ n schema is.
+      inserted-each n schema names (rows_of n db) tuples (recursion_from_All (OfTuple n schema names) tuples (makes n schema is)))
+  answer_to-each db (Update table sets condition) makes = on_rows-each db table (update_answer sets condition) (λ n schema is.
+      let rows = matching schema.columns condition (rows_of n db) in
+      let each = All-filter (matches schema.columns condition) (OfUpdated n schema sets) (rows_of n db) (makes n schema is) in
+      updated-each n schema sets rows (recursion_from_All (OfUpdated n schema sets) rows each))
+  answer_to-each db (Delete table condition) makes = on_rows-each db table (delete_answer condition) (λ n schema is.
+      let rows = matching schema.columns condition (rows_of n db) in
+      let removed : List Value → Change = λ row. Remove n (key_of schema row) in
+      let each = All-filter (matches schema.columns condition) (λ row. P (removed row)) (rows_of n db) (makes n schema is) in
+      recursion_from_All P (deleted n schema rows) (All-map P removed rows each))
+  answer_to-each db other makes = tt
+
+  pub outcome-each : (db : Database) (stmt : Stmt) → Makes db stmt → All P (outcome stmt db).changes
+  outcome-each db stmt makes = All-from_recursion P (outcome stmt db).changes (elim (refusal db.schemas stmt) as
+      (λ o. Each (unless_refused o (answer_to stmt db)).changes) [ None ↦ answer_to-each db stmt makes | Some error ↦ tt ])
+
+-- ---- they fit their tables
+
+-- what the law on rows that are put doesn't say
 abbrev FitsElse : List Schema → Change → Type 0
 FitsElse schemas (Create schema) = IsStorable schema
-FitsElse schemas (Put table row) = Unit {0}
+FitsElse schemas (Put table row) = (schema : Schema) × (slice_get schemas table ≡ Some schema)
 FitsElse schemas (Remove table key) = IsSomeAnd (slice_get schemas table) (λ schema. IsKeyFor schema key)
 
-abbrev AllElse : List Schema → List Change → Type 0
-AllElse schemas changes = AllByRecursion (FitsElse schemas) changes
-
-inserted-else : (schemas : List Schema) (table : ℕ) (schema : Schema) (names : Option (List (List ℕ))) (rows : List (List Value))
-    (tuples : List (List Literal)) → AllElse schemas (inserted table schema names rows tuples).changes
-inserted-else schemas table schema names rows [] = tt
-inserted-else schemas table schema names rows (tuple ∷ tuples) =
-    elim (row_for schema names rows tuple) as (λ r. AllElse schemas (put_then table r (λ row. inserted table schema names (rows ++ row ∷ []) tuples)).changes) [
-      | Ok row ↦ (tt, inserted-else schemas table schema names (rows ++ row ∷ []) tuples)
-      | Err error ↦ tt
-    ]
-
-updated-else : (schemas : List Schema) (table : ℕ) (schema : Schema) (sets : List Set) (rows : List (List Value))
-    → AllElse schemas (updated table schema sets rows).changes
-updated-else schemas table schema sets [] = tt
-updated-else schemas table schema sets (row ∷ rows) =
-    let rest = updated-else schemas table schema sets rows in
-    elim (all_assigned schema.columns row sets) as
-    (λ r. AllElse schemas (change_then (and_then r (λ after. Ok (change_to table row after))) (updated table schema sets rows)).changes) [
-      | Ok after ↦ elim (is_same_row row after) as
-          (λ b. AllElse schemas (change_then (Ok (if b then None else Some (Put table after))) (updated table schema sets rows)).changes)
-          [ true ↦ rest | false ↦ (tt, rest) ]
-      | Err error ↦ tt
-    ]
-
-matching-fit : (schema : Schema) (condition : Option Filter) (rows : List (List Value)) → AllByRecursion (FitsTable schema) rows
-    → AllByRecursion (FitsTable schema) (matching schema.columns condition rows)
-matching-fit schema condition [] fit = tt
-matching-fit schema condition (row ∷ rows) fit =
-    let rest = matching-fit schema condition rows fit.1 in
-    elim (matches schema.columns condition row) as
-    (λ b. AllByRecursion (FitsTable schema) (cond b (row ∷ matching schema.columns condition rows) (matching schema.columns condition rows)))
-    [ true ↦ (fit.0, rest) | false ↦ rest ]
-
-deleted-else : (schemas : List Schema) (table : ℕ) (schema : Schema) (rows : List (List Value)) → slice_get schemas table ≡ Some schema
-    → AllByRecursion (FitsTable schema) rows → AllElse schemas (deleted table schema rows)
-deleted-else schemas table schema [] is fit = tt
-deleted-else schemas table schema (row ∷ rows) is fit =
-    let fits = fit.0 in
-    (subst (λ (o : Option Schema). IsSomeAnd o (λ s. IsKeyFor s (key_of schema row))) (sym is) fits.key, deleted-else schemas table schema rows is fit.1)
-
-on_rows-else : (db : Database) (name : List ℕ) (answer : ℕ → Schema → List (List Value) → Outcome)
-    → ((n : ℕ) (schema : Schema) → slice_get db.schemas n ≡ Some schema → AllElse db.schemas (answer n schema (rows_of n db)).changes)
-    → AllElse db.schemas (on_rows db name answer).changes
-on_rows-else db name answer each =
-    elim (table_place db.schemas name) as (λ p. AllElse db.schemas (on_number db p answer).changes) [
-      | None ↦ tt
-      | Some n ↦ elim (slice_get db.schemas n) as (λ o. slice_get db.schemas n ≡ o → AllElse db.schemas (on_schema n o (rows_of n db) answer).changes) [
-        | None ↦ λ is. tt
-        | Some schema ↦ λ is. each n schema is
-      ] refl
-    ]
-
-created-else : (db : Database) (table : List ℕ) (definitions : List Definition) → AllElse db.schemas (created db table definitions).changes
-created-else db table definitions =
-    elim (is_some (table_place db.schemas table)) as
-    (λ b. AllElse db.schemas (if b then answered Done else creation (schema_declared table definitions)).changes) [
-      | true ↦ tt
-      | false ↦ elim (schema_declared table definitions) as (λ o. schema_declared table definitions ≡ o → AllElse db.schemas (creation o).changes) [
-        | None ↦ λ is. tt
-        | Some schema ↦ λ is. (declared-IsStorable table definitions schema is, tt)
-      ] refl
-    ]
-
 module _ (db : Database) (fitting : AreFitting db) where
-  answer_to-else : (stmt : Stmt) → AllElse db.schemas (answer_to stmt db).changes
-  answer_to-else (CreateTable table if_not_exists definitions) = created-else db table definitions
-  answer_to-else (Select selected table condition lock) = on_rows-else db table (select_answer selected condition) (λ n schema is. tt)
-  answer_to-else (Insert table names tuples) =
-      on_rows-else db table (insert_answer names tuples) (λ n schema is. inserted-else db.schemas n schema names (rows_of n db) tuples)
-  answer_to-else (Update table sets condition) =
-      on_rows-else db table (update_answer sets condition)
-      (λ n schema is. updated-else db.schemas n schema sets (matching schema.columns condition (rows_of n db)))
-  answer_to-else (Delete table condition) =
-      on_rows-else db table (delete_answer condition)
-      (λ n schema is. deleted-else db.schemas n schema (matching schema.columns condition (rows_of n db)) is
-      (matching-fit schema condition (rows_of n db) (rows_fit db fitting n schema is)))
-  answer_to-else (Begin snapshot) = tt
-  answer_to-else Commit = tt
-  answer_to-else Rollback = tt
-  answer_to-else (RollbackTo savepoint) = tt
-  answer_to-else (Savepoint name) = tt
-  answer_to-else (SetAutocommit on) = tt
-  answer_to-else (SetLevel scope level) = tt
+  makes-else : (stmt : Stmt) → Makes (FitsElse db.schemas) db stmt
+  makes-else (CreateTable table if_not_exists definitions) = λ schema is. declared-IsStorable table definitions schema is
+  makes-else (Insert table names tuples) = λ n schema is k d below row made. (schema, is)
+  makes-else (Update table sets condition) = λ n schema is k d below row made. (schema, is)
+  makes-else (Delete table condition) = λ n schema is.
+      All-weaker (FitsTable schema) (λ row. IsSomeAnd (slice_get db.schemas n) (λ s. IsKeyFor s (key_of schema row)))
+      (λ row fits. rw is fits.key)
+      (rows_of n db) (rows_of-FitsTable db fitting n schema is)
+  makes-else other = tt
 
-  outcome-else : (stmt : Stmt) → AllElse db.schemas (outcome stmt db).changes
-  outcome-else stmt = elim (refusal db.schemas stmt) as (λ o. AllElse db.schemas (unless_refused o (answer_to stmt db)).changes)
-      [ None ↦ answer_to-else stmt | Some error ↦ tt ]
-
-  -- ---- all of it
-
-  put-fits : (table : ℕ) (row : List Value) → IsRowIn db.schemas table row → table < length db.schemas
-      → IsSomeAnd (slice_get db.schemas table) (λ schema. FitsTable schema row)
-  put-fits table row fits there = elim (slice_get_cases db.schemas table).1 [
-    | inl found ↦
-        let schema = found.0 in
-        subst (λ (o : Option Schema). IsSomeAnd o (λ s. FitsTable s row)) (sym found.2)
-        (FitsTable-from_row schema row (fitting.tables table schema found.2) (row_fits schema.columns row (fits schema found.2)))
-    | inr past ↦ absurd (omega (arith, past.0, there))
-  ]
-
-  together : (changes : List Change) → AllFit db.schemas changes → AreOfTables db.schemas changes → AllElse db.schemas changes
+  together : (changes : List Change) → AllFit db.schemas changes → AllByRecursion (FitsElse db.schemas) changes
       → AllByRecursion (FitsTables db.schemas) changes
-  together [] fit there other = tt
-  together (Create schema ∷ changes) fit there other = absurd there
-  together (Put table row ∷ changes) fit there other = (put-fits table row fit.0 there.0, together changes fit.1 there.1 other.1)
-  together (Remove table key ∷ changes) fit there other = (other.0, together changes fit there.1 other.1)
-
-  one_table : (changes : List Change) (schema : Schema) → changes ≡ Create schema ∷ [] → AllElse db.schemas changes → All (FitsTables db.schemas) changes
-  one_table changes schema is other =
-      let made : AllElse db.schemas (Create schema ∷ []) = subst (AllElse db.schemas) is other in
-      subst (All (FitsTables db.schemas)) (sym is) (All-cons (FitsTables db.schemas) (Create schema) [] made.0 (All-nil (FitsTables db.schemas)))
+  together [] fit other = tt
+  together (Create schema ∷ changes) fit other = (other.0, together changes fit other.1)
+  together (Put table row ∷ changes) fit other =
+      let there = other.0 in
+      let row_is = row_fits there.0.columns row (fit.0 there.0 there.1) in
+      (rw there.1 (FitsTable-from_row there.0 row (fitting.tables table there.0 there.1) row_is), together changes fit.1 other.1)
+  together (Remove table key ∷ changes) fit other = (other.0, together changes fit other.1)
 
   pub outcome-FitsTables : (stmt : Stmt) → All (FitsTables db.schemas) (outcome stmt db).changes
   outcome-FitsTables stmt =
       let changes = (outcome stmt db).changes in
-      ⊎_elim
-      (λ (of : AreOfTables db.schemas changes).
-      All-from_recursion (FitsTables db.schemas) changes (together changes (outcome-AllFit db (rows_by_type db fitting) stmt) of (outcome-else stmt)))
-      (λ (one : (schema : Schema) × (changes ≡ Create schema ∷ []) × (length db.schemas < MOST_TABLES)). one_table changes one.0 one.1 (outcome-else stmt))
-      (outcome-AreApplicable stmt db)
+      let other = recursion_from_All (FitsElse db.schemas) changes (outcome-each (FitsElse db.schemas) db stmt (makes-else stmt)) in
+      All-from_recursion (FitsTables db.schemas) changes (together changes (outcome-AllFit db (rows_by_type db fitting) stmt) other)

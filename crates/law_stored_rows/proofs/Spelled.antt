@@ -1,7 +1,8 @@
 -- The literals of a statement that a text spells have 64 bits.
-use Rattle.std.proofs.Common.{◌≡◌, ℕ, zero, suc, ◌^◌, pos, neg_ℤ, true, false, List, [], refl, arith}
-use Rattle.std.specs.Prelude.{All, FitsSigned, nat_lt, nat_le, if◌then◌else◌}
+use Rattle.std.proofs.Common.{◌≡◌, ℕ, zero, suc, ◌^◌, pos, neg_ℤ, true, List, [], arith}
+use Rattle.std.specs.Prelude.{All, FitsSigned, nat_lt, nat_le}
 use Rattle.std.specs.Int.{w64}
+use Rattle.std.proofs.lemmas.Bool.{cond_both}
 use Rattle.std.proofs.lemmas.Bool.Decides.{nat_tests}
 use Rattle.std.proofs.lemmas.List.Elements.{All-nil, All-cons}
 use Rattle.inno_types.specs.declared.stmt.Literal.{Literal}
@@ -21,8 +22,7 @@ plain-Has64Bits : (digits : List ℕ) → LiteralHas64Bits (plain_number digits)
 unfolding plain_number
 plain-Has64Bits digits =
     let n = number_of digits in
-    elim (nat_lt n (2 ^ 63)) as (λ b. nat_lt n (2 ^ 63) ≡ b → LiteralHas64Bits (if b then literal.Int (pos n) else literal.TooBig))
-    [ true ↦ λ h. below n h | false ↦ λ h. tt ] refl
+    cond_both (nat_lt n (2 ^ 63)) (literal.Int (pos n)) literal.TooBig LiteralHas64Bits (below n) (λ h. tt)
 
 at_most : (n : ℕ) → nat_le n (2 ^ 63) ≡ true → FitsSigned w64 (neg_ℤ (pos n))
 at_most zero h = record { sfits = omega arith }
@@ -32,14 +32,12 @@ negative-Has64Bits : (digits : List ℕ) → LiteralHas64Bits (negative_number d
 unfolding negative_number
 negative-Has64Bits digits =
     let n = number_of digits in
-    elim (nat_le n (2 ^ 63)) as (λ b. nat_le n (2 ^ 63) ≡ b → LiteralHas64Bits (if b then literal.Int (neg_ℤ (pos n)) else literal.TooBig))
-    [ true ↦ λ h. at_most n h | false ↦ λ h. tt ] refl
+    cond_both (nat_le n (2 ^ 63)) (literal.Int (neg_ℤ (pos n))) literal.TooBig LiteralHas64Bits (at_most n) (λ h. tt)
 
 literal-Has64Bits : {xs ys : List Token} {l : Literal} → Lit xs l ys → LiteralHas64Bits l
 literal-Has64Bits (grammar.number {digits = digits}) = plain-Has64Bits digits
 literal-Has64Bits (grammar.negative {digits = digits}) = negative-Has64Bits digits
-literal-Has64Bits grammar.text = tt
-literal-Has64Bits grammar.null = tt
+literal-Has64Bits other = tt
 
 -- ---- tuples and assignments
 
@@ -53,14 +51,10 @@ tuple-Has64Bits (grammar.tuple c) = commas-Has64Bits Lit LiteralHas64Bits (λ xs
 
 expression-Has64Bits : {s : Strength} {xs ys : List Token} {e : Expr} → Expression s xs e ys → ExprHas64Bits e
 expression-Has64Bits (grammar.term x) = expression-Has64Bits x
-expression-Has64Bits (grammar.plus x y) = tt
-expression-Has64Bits (grammar.minus x y) = tt
 expression-Has64Bits (grammar.factor x) = expression-Has64Bits x
-expression-Has64Bits (grammar.times x y) = tt
 expression-Has64Bits (grammar.of_literal l) = literal-Has64Bits l
-expression-Has64Bits (grammar.of_column n) = tt
-expression-Has64Bits (grammar.negate n x) = tt
 expression-Has64Bits (grammar.brackets x) = expression-Has64Bits x
+expression-Has64Bits other = tt
 
 assignment-Has64Bits : {xs ys : List Token} {set : Set} → Assignment xs set ys → ExprHas64Bits set.value
 assignment-Has64Bits (grammar.assign n x) = expression-Has64Bits x
@@ -68,20 +62,9 @@ assignment-Has64Bits (grammar.assign n x) = expression-Has64Bits x
 -- ---- statements
 
 statement-Has64Bits : {xs : List Token} {stmt : Stmt} → Statement xs stmt → Stores64Bits stmt
-statement-Has64Bits (grammar.create_table i n c e) = tt
-statement-Has64Bits (grammar.select c n w l) = tt
 statement-Has64Bits (grammar.insert i n l v c) = commas-Has64Bits Tuple (All LiteralHas64Bits) (λ xs ys t i. tuple-Has64Bits i) c
 statement-Has64Bits (grammar.update n c w) = commas-Has64Bits Assignment (λ (set : Set). ExprHas64Bits set.value) (λ xs ys set i. assignment-Has64Bits i) c
-statement-Has64Bits (grammar.delete n w) = tt
-statement-Has64Bits (grammar.begin w) = tt
-statement-Has64Bits grammar.start = tt
-statement-Has64Bits grammar.start_snapshot = tt
-statement-Has64Bits (grammar.commit w) = tt
-statement-Has64Bits (grammar.rollback w) = tt
-statement-Has64Bits (grammar.rollback_to w s n) = tt
-statement-Has64Bits (grammar.savepoint n) = tt
-statement-Has64Bits (grammar.set_autocommit s) = tt
-statement-Has64Bits (grammar.set_level s l) = tt
+statement-Has64Bits other = tt
 
 pub spelled-Has64Bits : (text : List ℕ) (stmt : Stmt) → Spells text stmt → Stores64Bits stmt
 spelled-Has64Bits text stmt spells = statement-Has64Bits spells.parsed

@@ -35,10 +35,6 @@ abbrev pub IsSomeEntry : Kind → Kind → List ℕ → Type 0
 IsSomeEntry primary kind entry =
     (key : Value) × (value : Value) × HasKey primary key × HasEntry kind value × (entry ≡ entry_code kind value (key_code primary key))
 
--- the entry of a row at this value of the primary key
-abbrev pub entry_at : Kind → Kind → ℕ → Value → List Value → List ℕ
-entry_at primary kind column key row = entry_code kind (value_in column row) (key_code primary key)
-
 -- The pairs of the index of a key on this column are the entries of these rows.
 pub record HasEntries (schema : Schema) (column : ℕ) (entries : List Pair) (versions_at : Value → List Version) : Type 0 where
   pub primary : Column
@@ -49,22 +45,6 @@ pub record HasEntries (schema : Schema) (column : ℕ) (entries : List Pair) (ve
   pub each : (entry : List ℕ) → is_some (value_of entry entries) ≡ true → IsSomeEntry primary.kind indexed.kind entry
   pub marks : (key value : Value) → HasKey primary.kind key → HasEntry indexed.kind value
       → value_of (entry_code indexed.kind value (key_code primary.kind key)) entries ≡ entry_of column value (versions_at key)
-
--- This is the entry of the newest row at some value of the primary key.
-pub record IsOfNewest (primary kind : Kind) (column : ℕ) (versions_at : Value → List Version) (entry : List ℕ) : Type 0 where
-  pub key : Value
-  pub row : List Value
-  pub has_key : HasKey primary key
-  pub newest_is : newest (versions_at key) ≡ Some row
-  pub entry_is : entry ≡ entry_at primary kind column key row
-
--- This is an entry with a value that some version has at some value of the primary key.
-pub record IsOfSome (primary kind : Kind) (column : ℕ) (versions_at : Value → List Version) (entry : List ℕ) : Type 0 where
-  pub key : Value
-  pub value : Value
-  pub has_key : HasKey primary key
-  pub has_value : list_any (λ version. has_value column value version.row) (versions_at key) ≡ true
-  pub entry_is : entry ≡ entry_code kind value (key_code primary key)
 
 -- for the entries of all values these versions and those are the same
 abbrev pub TellAlike : ℕ → List Version → List Version → Type 0

@@ -1,13 +1,9 @@
 -- What an index keeps of a row besides its clustered record.
-use Rattle.std.specs.Prelude.{◌≡◌, ℕ, List, Some, slice_get, slice_index_or}
-use Rattle.inno_types.specs.{declared.value.Value.Value, declared.value.Value.TheVariants.Null, declared.value.Column.Column, declared.value.Key.Key}
-use Rattle.inno_types.specs.{declared.value.Schema.Schema}
+use Rattle.std.specs.Prelude.{◌≡◌, ℕ, List, Some, slice_get}
+use Rattle.inno_types.specs.{declared.value.Value.Value, declared.value.Column.Column, declared.value.Key.Key, declared.value.Schema.Schema}
 use Rattle.key_codec.specs.Keys.{IsOfKindOrNull, entry_code}
 use Rattle.row_codec.specs.Rows.{IsKeyOf}
-
--- the value of a row at a place
-abbrev pub value_in : ℕ → List Value → Value
-value_in place row = slice_index_or row place Null
+pub use Rattle.law_stored_rows.specs.Entries.{value_in}
 
 -- These bytes are the row's entry in a secondary key: its value in the key's column is one of that column or NULL, and
 -- stands before the primary key.

@@ -8,12 +8,10 @@ mod entries_of_keys;
 mod fitting;
 mod reading;
 mod records;
-mod walks;
 
 pub use changes::{
-    a_change_is_over, a_new_table_has_no_rows, an_update_ends_in_coded_rows,
-    an_update_is_taken_back_to_coded_rows, keys_lag_at_the_place_alone, keys_say_what_tells_alike,
-    no_tables_have_no_rows,
+    a_change_is_over, a_new_table_has_no_rows, keys_lag_at_the_place_alone,
+    keys_say_what_tells_alike, no_tables_have_no_rows,
 };
 pub use entries_of_keys::{
     a_change_without_a_new_value_needs_no_entry, the_new_entry_is_put, the_new_entry_is_taken_back,
@@ -26,14 +24,9 @@ pub use fitting::{
     rows_of_storable_tables_have_keys, stored_numbers_have_64_bits, tables_without_rows_fit,
 };
 pub use reading::{
-    a_pointer_is_followed, a_record_is_the_newest_version, a_search_through_a_key_misses_no_row,
-    coded_rows_are_these_alone, entries_are_of_rows, rows_stand_at_their_places,
+    a_pointer_is_followed, a_record_is_the_newest_version, rows_stand_at_their_places,
 };
 pub use records::{
     a_new_record_is_a_first_version, a_record_that_replaces_one_is_a_newer_version,
     a_version_is_taken_back, more_may_be_kept,
-};
-pub use walks::{
-    a_walk_begins_at_the_first_place, a_walk_goes_on_at_the_next_place,
-    a_walk_may_begin_at_any_bytes,
 };

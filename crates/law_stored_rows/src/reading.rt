@@ -1,9 +1,7 @@
-//! What is read: a record and its older versions, the rows at their places, and the entries of rows.
+//! What is read: a record and its older versions, and the rows at their places.
 
 ghost use Rattle.std.specs.Prelude.{◌≡◌, ◌≢◌, ℕ, true, List, [], ◌∷◌, All, Option, None, Some, IfSome, slice_get, is_some};
-ghost use Rattle.std.specs.List.{list_any};
 ghost use Rattle.inno_types.specs.declared.value.Column.{Column};
-ghost use Rattle.inno_types.specs.declared.value.Key.{Key};
 ghost use Rattle.inno_types.specs.declared.value.Schema.{Schema};
 ghost use Rattle.inno_types.specs.declared.value.Value.{Value};
 ghost use Rattle.inno_db.specs.Database.{key_of};
@@ -11,13 +9,11 @@ ghost use Rattle.store_api.specs.declared.answers.Version.{Version as Coded};
 ghost use Rattle.key_codec.specs.Keys.{HasKey, key_code};
 ghost use Rattle.entries.specs.Pairs.{Pair, value_of};
 ghost use Rattle.row_versions.specs.declared.kept.Kept.{Kept};
-ghost use Rattle.row_versions.specs.declared.place.Place.{Place};
 ghost use Rattle.row_versions.specs.declared.version.Version.{Version};
-ghost use Rattle.row_versions.specs.Chains.{Chains, versions_at, newest, older};
-ghost use Rattle.law_stored_rows.specs.Edits.{clustered_index, key_index};
-ghost use Rattle.law_stored_rows.specs.Entries.{value_in, has_value, entry_at, IsOfNewest, IsOfSome};
+ghost use Rattle.row_versions.specs.Chains.{Chains, older};
+ghost use Rattle.law_stored_rows.specs.Edits.{clustered_index};
 ghost use Rattle.law_stored_rows.specs.Records.{shown, IsCodeOf, LeadTo, IsRecordWith, IsRowAt};
-ghost use Rattle.law_stored_rows.specs.Tables.{Said, in_table, AreClustered, AreCodedAs, AreCoded};
+ghost use Rattle.law_stored_rows.specs.Tables.{in_table, AreClustered};
 
 /// What is decoded from a record is the newest version of its row, and its pointer leads to the others. A value whose key
 /// has no record has no versions, and neither has a value without a key.
@@ -41,14 +37,6 @@ pub fn a_record_is_the_newest_version()
         → slice_get schema.columns schema.primary ≡ Some primary
         → (HasKey primary.kind value → value_of (key_code primary.kind value) (indexes (clustered_index table)) ≡ None)
         → in_table table chains value ≡ [] }
-{}
-
-/// The same indexes, with the same kept beside, are no other rows.
-pub fn coded_rows_are_these_alone()
-    ensures { (schemas : List Schema) (indexes : ℕ → List Pair) (kept : ℕ → Option Kept) (chains others : Chains) (place : Place)
-        → AreClustered schemas indexes kept chains
-        → AreClustered schemas indexes kept others
-        → versions_at place chains ≡ versions_at place others }
 {}
 
 /// What is kept for a pointer is the newest of the versions that it leads to.
@@ -80,65 +68,4 @@ pub fn rows_stand_at_their_places()
         → AreClustered schemas indexes kept chains
         → slice_get schemas table ≡ Some schema
         → All (λ version. IfSome version.row (IsRowAt schema value)) (in_table table chains value) }
-{}
-
-/// The entry of each version's row is in each key, so a search through a key misses no row; that of the newest row has no
-/// mark. Of a place where the key lags, the entries
-/// of what it says are there.
-pub fn a_search_through_a_key_misses_no_row()
-    ensures found { (schemas : List Schema) (indexes : ℕ → List Pair) (kept : ℕ → Option Kept) (chains : Chains) (table which : ℕ)
-        (schema : Schema) (key : Key) (primary indexed : Column) (value : Value)
-        → AreCoded schemas indexes kept chains
-        → slice_get schemas table ≡ Some schema
-        → slice_get schema.keys which ≡ Some key
-        → slice_get schema.columns schema.primary ≡ Some primary
-        → slice_get schema.columns key.column ≡ Some indexed
-        → HasKey primary.kind value
-        → All (λ version. IfSome version.row (λ row.
-        is_some (value_of (entry_at primary.kind indexed.kind key.column value row) (indexes (key_index table which))) ≡ true))
-        (in_table table chains value) }
-    ensures newest { (schemas : List Schema) (indexes : ℕ → List Pair) (kept : ℕ → Option Kept) (chains : Chains) (table which : ℕ)
-        (schema : Schema) (key : Key) (primary indexed : Column) (value : Value) (row : List Value)
-        → AreCoded schemas indexes kept chains
-        → slice_get schemas table ≡ Some schema
-        → slice_get schema.keys which ≡ Some key
-        → slice_get schema.columns schema.primary ≡ Some primary
-        → slice_get schema.columns key.column ≡ Some indexed
-        → HasKey primary.kind value
-        → newest (in_table table chains value) ≡ Some row
-        → value_of (entry_at primary.kind indexed.kind key.column value row) (indexes (key_index table which)) ≡ Some (0 ∷ []) }
-    ensures under_way { (schemas : List Schema) (indexes : ℕ → List Pair) (kept : ℕ → Option Kept) (chains : Chains)
-        (said : Said) (table which : ℕ) (schema : Schema) (key : Key) (primary indexed : Column) (value : Value)
-        → AreCodedAs schemas indexes kept chains said
-        → slice_get schemas table ≡ Some schema
-        → slice_get schema.keys which ≡ Some key
-        → slice_get schema.columns schema.primary ≡ Some primary
-        → slice_get schema.columns key.column ≡ Some indexed
-        → HasKey primary.kind value
-        → All (λ version. IfSome version.row (λ row.
-        list_any (λ told. has_value key.column (value_in key.column row) told.row) (said table which value) ≡ true
-        → is_some (value_of (entry_at primary.kind indexed.kind key.column value row) (indexes (key_index table which))) ≡ true))
-        (in_table table chains value) }
-{}
-
-/// Each entry has the value of some version, and an entry without a mark is that of the newest row of its place.
-pub fn entries_are_of_rows()
-    ensures each { (schemas : List Schema) (indexes : ℕ → List Pair) (kept : ℕ → Option Kept) (chains : Chains) (table which : ℕ)
-        (schema : Schema) (key : Key) (primary indexed : Column) (entry : List ℕ)
-        → AreCoded schemas indexes kept chains
-        → slice_get schemas table ≡ Some schema
-        → slice_get schema.keys which ≡ Some key
-        → slice_get schema.columns schema.primary ≡ Some primary
-        → slice_get schema.columns key.column ≡ Some indexed
-        → is_some (value_of entry (indexes (key_index table which))) ≡ true
-        → IsOfSome primary.kind indexed.kind key.column (in_table table chains) entry }
-    ensures unmarked { (schemas : List Schema) (indexes : ℕ → List Pair) (kept : ℕ → Option Kept) (chains : Chains) (table which : ℕ)
-        (schema : Schema) (key : Key) (primary indexed : Column) (entry : List ℕ)
-        → AreCoded schemas indexes kept chains
-        → slice_get schemas table ≡ Some schema
-        → slice_get schema.keys which ≡ Some key
-        → slice_get schema.columns schema.primary ≡ Some primary
-        → slice_get schema.columns key.column ≡ Some indexed
-        → value_of entry (indexes (key_index table which)) ≡ Some (0 ∷ [])
-        → IsOfNewest primary.kind indexed.kind key.column (in_table table chains) entry }
 {}
