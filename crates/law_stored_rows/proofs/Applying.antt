@@ -3,12 +3,12 @@ use Rattle.std.proofs.Common.{◌≡◌, ℕ, List, [], ◌∷◌, ◌++◌, Som
 use Rattle.std.specs.Prelude.{slice_get, IsSomeAnd, All}
 use Rattle.std.specs.Ordering.{eq_by_cmp}
 use Rattle.std.specs.FinMap.{get, from_entries, get-empty, get-insert, get-remove}
-use Rattle.std.proofs.lemmas.List.Elements.{All-head, All-tail, All-weaker}
+use Rattle.std.proofs.lemmas.List.Elements.{All-head, All-tail}
 use Rattle.std.proofs.lemmas.Option.{same_Some}
 use Rattle.std.proofs.lemmas.Bool.{cond_both}
 use Rattle.inno_types.specs.{declared.value.Value.Value, declared.value.Schema.Schema}
 use Rattle.inno_db.specs.{declared.change.Change.Change, declared.change.Change.TheVariants.Create, declared.change.Change.TheVariants.Put}
-use Rattle.inno_db.specs.{declared.change.Change.TheVariants.Remove, Changes.apply_one, Changes.apply, Order.place_cmp_total}
+use Rattle.inno_db.specs.{declared.change.Change.TheVariants.Remove, Changes.apply_one, Order.place_cmp_total}
 use Rattle.inno_db.specs.Database.{Database, Place, RowMap, place_cmp, key_of, key_in}
 use Rattle.inno_db.proofs.{Tables.place_cmp-IsAntisymmetric, Keys.key_in-at}
 use Rattle.inno_model.specs.Past.{changed}
@@ -85,14 +85,6 @@ schemas-apply_one db other = sym (append-nil db.schemas)
 -- what fits a database still does after a change
 FitsTables-after : (db : Database) (made change : Change) → FitsTables db.schemas change → FitsTables (apply_one db made).schemas change
 FitsTables-after db made change fits = rw (schemas-apply_one db made) (FitsTables-more db.schemas (tables_added made) change fits)
-
-pub AreFitting-apply : (db : Database) (changes : List Change) → AreFitting db → All (FitsTables db.schemas) changes → AreFitting (apply db changes)
-AreFitting-apply db [] fitting all = fitting
-AreFitting-apply db (change ∷ changes) fitting all =
-    let here = All-head (FitsTables db.schemas) change changes all in
-    let rest = All-weaker (FitsTables db.schemas) (FitsTables (apply_one db change).schemas) (FitsTables-after db change) changes
-    (All-tail (FitsTables db.schemas) change changes all) in
-    AreFitting-apply (apply_one db change) changes (AreFitting-apply_one db change fitting here) rest
 
 FitsTables-changed : (db : Database) (earlier : List Change) (change : Change) → FitsTables db.schemas change
     → FitsTables (changed db earlier).schemas change

@@ -9,7 +9,7 @@ use Rattle.key_codec.specs.Keys.{IsOfKind, IsOfKindOrNull, key_code, key_width, 
 use Rattle.key_codec.proofs.Lengths.{length-key_code, length-entry_code}
 use Rattle.row_codec.specs.Rows.{IsRowOf, IsKeyOf, IsRecordOf, version_code}
 use Rattle.row_codec.proofs.Stored.{length-version_code}
-use Rattle.law_stored_rows.specs.{Storable.IsStorable, Fitting.IsKeyFor, Fitting.FitsTable, FittingRecords.value_in, FittingRecords.IsEntryOf}
+use Rattle.law_stored_rows.specs.{Storable.IsStorable, Fitting.FitsTable, FittingRecords.value_in, FittingRecords.IsEntryOf}
 use Rattle.law_stored_rows.proofs.FittingValues.{value-fits, of_kind_or_null}
 
 pub value_in-kind : (columns : List Column) (row : List Value) (place : ℕ) (column : Column) → IsRowOf columns row
@@ -76,13 +76,6 @@ short_entries schema storable = λ k d below row bytes is.
 
 -- ---- what writers of keys ask
 
-pub IsKeyFor-kind : (schema : Schema) (key : Value) (column : Column) → IsKeyFor schema key → slice_get schema.columns schema.primary ≡ Some column
-    → IsOfKind column.kind key
-IsKeyFor-kind schema key column is there = let one : is.column ≡ column = cc (is.primary, there) in rw one at is.of_kind
-
 no_key : (kind : Kind) → IsOfKind kind Null → ⊥
 no_key BigInt is = is
 no_key (VarBinary size) is = is
-
-pub null_is_no_key : (schema : Schema) → IsKeyFor schema Null → ⊥
-null_is_no_key schema is = no_key is.column.kind is.of_kind

@@ -15,7 +15,7 @@ use Rattle.inno_types.specs.declared.stmt.Expr.TheVariants as expr
 use Rattle.inno_types.specs.{declared.stmt.Set.Set, declared.stmt.Stmt.Stmt, declared.reply.SqlError.TheVariants.OutOfRange}
 use Rattle.inno_types.specs.declared.stmt.Stmt.TheVariants.{CreateTable, Insert, Update, Delete}
 use Rattle.inno_db.specs.{declared.change.Change.Change, declared.change.Change.TheVariants.Create, declared.change.Change.TheVariants.Put}
-use Rattle.inno_db.specs.{declared.change.Change.TheVariants.Remove, Changes.apply_one, Changes.apply, Database.Database, Database.place_cmp, Database.rows_of}
+use Rattle.inno_db.specs.{declared.change.Change.TheVariants.Remove, Changes.apply_one, Database.Database, Database.place_cmp, Database.rows_of}
 use Rattle.inno_db.specs.{Database.key_of, Names.column_place, Names.value_at, Outcome.outcome}
 use Rattle.inno_db.specs.Expressions.{Valued, and_then, on_two, negated, in_range, is_bigint, both, literal_given, expr_value}
 use Rattle.inno_db.specs.Storing.{misfit, unless_refused, stored, place_in_tuple, literal_at, values_from, put_in, put_at, assigned, all_assigned}
@@ -145,12 +145,6 @@ pub apply_one-Has64Bits : (db : Database) (change : Change) → RowsHave64Bits d
 apply_one-Has64Bits db (Create schema) rows fits = rows
 apply_one-Has64Bits db (Put table row) rows fits = rows_put (λ place row. All Has64Bits row) db rows table row fits
 apply_one-Has64Bits db (Remove table key) rows fits = rows_removed (λ place row. All Has64Bits row) db rows table key
-
-pub apply-Has64Bits : (db : Database) (changes : List Change) → RowsHave64Bits db → All ChangeHas64Bits changes → RowsHave64Bits (apply db changes)
-apply-Has64Bits db [] rows all = rows
-apply-Has64Bits db (change ∷ changes) rows all =
-    apply-Has64Bits (apply_one db change) changes (apply_one-Has64Bits db change rows (All-head ChangeHas64Bits change changes all))
-    (All-tail ChangeHas64Bits change changes all)
 
 pub changed-Has64Bits : (db : Database) (changes : List Change) → RowsHave64Bits db → All ChangeHas64Bits changes → RowsHave64Bits (changed db changes)
 changed-Has64Bits db [] rows all = rows

@@ -1,5 +1,5 @@
 -- What a record says of its row, and what a change of it makes of the rows of its table.
-use Rattle.std.proofs.Common.{◌≡◌, ◌≢◌, ◌∙◌, sym, ap, subst, refl, ℕ, true, false, List, [], ◌∷◌, ◌++◌, Option, None, Some, ◌⊎◌, inl, inr, zero, suc}
+use Rattle.std.proofs.Common.{◌≡◌, ◌≢◌, ◌∙◌, sym, ap, subst, refl, ℕ, true, false, List, [], ◌∷◌, Option, None, Some, ◌⊎◌, inl, inr}
 use Rattle.std.specs.Prelude.{is_some}
 use Rattle.std.proofs.lemmas.Bool.{cases_Bool}
 use Rattle.inno_types.specs.{declared.value.Value.Value, declared.value.Schema.Schema}
@@ -7,10 +7,10 @@ use Rattle.store_api.specs.declared.answers.Version.{Version as Coded}
 use Rattle.key_codec.specs.Keys.{HasKey, key_code}
 use Rattle.row_codec.proofs.Once.{same_version}
 use Rattle.entries.specs.Pairs.{Pair, value_of}
-use Rattle.row_versions.specs.{declared.kept.Kept.Kept, Versions.kept_in, declared.version.Version.Version, Chains.older}
+use Rattle.row_versions.specs.{declared.kept.Kept.Kept, declared.version.Version.Version, Chains.older}
 use Rattle.law_stored_rows.specs.{Edits.with_value, Entries.is_same_value}
 use Rattle.law_stored_rows.specs.Records.{shown, IsCodeOf, LeadTo, IsRecordWith, IsClustered, KeepsMore}
-use Rattle.law_stored_rows.proofs.Pairs.{same_or_not, nothing_or_more, got_before, rising_now, value_now, others_now}
+use Rattle.law_stored_rows.proofs.Pairs.{same_or_not, nothing_or_more, rising_now, value_now, others_now}
 use Rattle.law_stored_rows.proofs.Values.{same_value, apart_by_keys, one_key}
 
 -- ---- more is kept
@@ -42,10 +42,6 @@ clustered_still schema old new pairs versions_at more is = record {
       record_still schema key old new (value_of key pairs) (versions_at value) more (is.records value has);
   nowhere_else = is.nowhere_else;
 }
-
-pub push_keeps : (all : List Kept) (last : Kept) → KeepsMore (kept_in all) (kept_in (all ++ last ∷ []))
-push_keeps all last zero found is = cc
-push_keeps all last (suc place) found is = got_before all (last ∷ []) place found is
 
 -- ---- what is read
 

@@ -1,6 +1,5 @@
 -- The steps of a change and of a taking back: what each makes of the rows, and of what its key says of the place.
-use Rattle.std.proofs.Common.{◌≡◌, ◌≢◌, ◌∙◌, sym, subst, ℕ, true, false, cond, List, [], ◌∷◌, Option, None, Some, slice_get, inl, inr}
-use Rattle.std.specs.List.{list_any}
+use Rattle.std.proofs.Common.{◌≡◌, ◌≢◌, ◌∙◌, sym, subst, ℕ, true, false, List, [], ◌∷◌, Option, None, Some, slice_get, inl, inr}
 use Rattle.std.proofs.lemmas.Bool.{cases_eq}
 use Rattle.inno_types.specs.{declared.value.Value.Value, declared.value.Schema.Schema}
 use Rattle.inno_db.specs.Database.{key_of}
@@ -14,7 +13,7 @@ use Rattle.law_stored_rows.specs.{Tables.SaysNow, Records.row_shown, Records.sho
 use Rattle.law_stored_rows.proofs.{Values.in_one_table, Values.in_other_table, Values.key_there, Values.value_itself, Keys.entry_changed}
 use Rattle.law_stored_rows.proofs.Pairs.{at_index, at_others, other_rows, no_key}
 use Rattle.law_stored_rows.proofs.RowRecords.{first_record, next_record, record_read, record_back, nothing_back, clustered_after}
-use Rattle.law_stored_rows.proofs.Entries.{marked, is_marked, put, is_put, taken, is_taken, unmarked, is_unmarked}
+use Rattle.law_stored_rows.proofs.Entries.{marked, is_marked, put, is_put, taken}
 use Rattle.law_stored_rows.proofs.Tables.{at, few_of, StaysElsewhere, pushed_here, pushed_elsewhere, popped_here, popped_elsewhere}
 
 -- ---- records
@@ -151,20 +150,3 @@ module _ (schemas : List Schema) (old new : ℕ → List Pair) (kept : ℕ → O
       let has : has_value column value (row_shown coded.marked coded.row) ≡ true = rw plain (value_itself value) in
       entry_step versions (shown coded ∷ versions) (Some (0 ∷ [])) told_is step (put column value (shown coded) versions has none)
       (is_put column value (shown coded) versions has) says
-
-  pub new_taken : (gone : Version) (versions : List Version) (left : Option (List ℕ)) → PutsEntry schemas old new table schema which column coded left
-      → coded.marked ≡ false → told ≡ shown coded ∷ versions → gone.row ≡ None
-      → cond (list_any (λ version. has_value column value version.row) versions) (Some (1 ∷ [])) None ≡ left
-      → SaysNow was now place which (gone ∷ versions) → AreCodedAs schemas new kept chains now
-  new_taken gone versions left step plain told_is none left_is says =
-      let has : has_value column value (row_shown coded.marked coded.row) ≡ true = rw plain (value_itself value) in
-      entry_step (shown coded ∷ versions) (gone ∷ versions) left told_is step (taken column value (shown coded) gone versions has none)
-      (is_taken column value gone versions none ∙ left_is) says
-
-  pub old_unmarked : (gone : Version) (versions : List Version) → PutsEntry schemas old new table schema which column coded (Some (0 ∷ []))
-      → told ≡ gone ∷ versions → gone.row ≡ None → newest versions ≡ Some coded.row
-      → SaysNow was now place which versions → AreCodedAs schemas new kept chains now
-  old_unmarked gone versions step told_is none first says =
-      let has : has_value column value (newest versions) ≡ true = rw first (value_itself value) in
-      entry_step (gone ∷ versions) versions (Some (0 ∷ [])) told_is step (unmarked column value gone versions has none)
-      (is_unmarked column value versions has) says

@@ -3,7 +3,6 @@ pub mod Entries
 pub mod Records
 pub mod Steps
 pub mod Tables
-pub mod Example
 pub mod Fitting
 pub mod Numbers
 pub mod FittingRecords
