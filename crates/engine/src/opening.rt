@@ -83,8 +83,9 @@ fn parts_over(
         block,
         next,
     } = mounted;
-    let lists = lists_on(alloc, &db)?;
+    // The log comes first: where the other finds no memory, this one is let go, and not the whole world.
     let log = CommitLog::new(alloc, run, block, next)?;
+    let lists = lists_on(alloc, &db)?;
     Ok((lists, log))
 }
 
