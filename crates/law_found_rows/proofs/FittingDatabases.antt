@@ -17,8 +17,7 @@ use Rattle.inno_types.specs.{declared.value.Value.Value, declared.value.Schema.S
 use Rattle.inno_db.specs.{declared.change.Change.Change, declared.change.Change.TheVariants.Create, declared.change.Change.TheVariants.Put}
 use Rattle.inno_db.specs.{declared.change.Change.TheVariants.Remove, Database.Database, Database.key_in, Outcome.outcome}
 use Rattle.law_past_agreement.specs.{Order.created, Order.IsOrdered, Rows.seen, DatabaseTables.with_all_tables}
-use Rattle.law_stored_rows.specs.{Storable.AreStorable, Fitting.FitsTables, Fitting.AreFitting, Numbers.ChangeHas64Bits}
-use Rattle.law_stored_rows.specs.{Numbers.Stores64Bits}
+use Rattle.law_stored_rows.specs.{Storable.AreStorable, Fitting.FitsTables, Fitting.AreFitting, Numbers.ChangeHas64Bits, Numbers.Stores64Bits}
 use Rattle.law_stored_rows.proofs.{Applying.AreFitting-apply_one, Applying.AreFitting-changed, Applying.AreFitting-no_rows, Applying.AreFitting-mixed}
 use Rattle.law_stored_rows.proofs.{Numbers.changed-Has64Bits, Numbers.empty-Has64Bits, Numbers.outcome-Has64Bits, Outcomes.outcome-FitsTables}
 

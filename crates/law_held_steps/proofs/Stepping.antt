@@ -32,8 +32,7 @@ use Rattle.law_found_rows.proofs.{Databases.found_newest}
 use Rattle.desks.specs.{declared.desk.Desk.Desk, declared.desk.Doing.TheVariants.Nothing, declared.desk.Doing.TheVariants.Searching}
 use Rattle.desks.specs.{declared.desk.TableSearch.TableSearch, Desks.doing_at, Desks.with_doing, Desks.is_quiet_doing, Searching.keys_left}
 use Rattle.desks.specs.{Searching.places_in, Shown.reading_of}
-use Rattle.law_held_steps.specs.{Begun.IsNewSearch, Begun.IsBegun, Begun.HasView, Moving.MovesPlaces, TakenUp.IsTakenUp, TakenUp.MayStep}
-use Rattle.law_held_steps.specs.{TakenUp.plan_of}
+use Rattle.law_held_steps.specs.{Begun.IsNewSearch, Begun.IsBegun, Begun.HasView, Moving.MovesPlaces, TakenUp.IsTakenUp, TakenUp.MayStep, TakenUp.plan_of}
 use Rattle.law_held_steps.proofs.{Shows.HasSome, Shows.some_rows_by, Shows.columns_of, Shows.shows_held, Keeping.open_work, AnyStep.some_same}
 use Rattle.law_held_steps.proofs.{Putting.alone_if}
 use Rattle.shared_lists.specs.{State.counted, Steps.AreRowsSeen, Steps.AreFoundBy, Steps.rows_in_range}

@@ -31,18 +31,16 @@ use Rattle.sql_lists.specs.Tables.{MayMake, begun, created_by, table_made, none_
 use Rattle.sql_lists.specs.Kept.{IsKept, MayReply, is_of_signal, OwesAck, SetsQuietly, AreStanding, IsInOrder, made as tables_made}
 use Rattle.sql_lists.proofs.Settings.{AllSet, set_other, sets_one, sets_none, sets_joined, set_at_begin, set_at_commit, set_at_rollback, set_at_end}
 use Rattle.sql_lists.proofs.Settings.{set_at_signal, set_at_done}
-use Rattle.sql_lists.proofs.Ordered.{same_seen, ordered_changed, ordered_undone, ordered_committed}
-use Rattle.sql_lists.proofs.Standing.{schemas_after, committed_is, stands_plain, stands_row, stands_begun, stands_rolled_back, stands_undone, stands_committed}
-use Rattle.sql_lists.proofs.Standing.{stands_made}
+use Rattle.sql_lists.proofs.{Ordered.same_seen, Ordered.ordered_changed, Ordered.ordered_undone, Ordered.ordered_committed, Moving.writer_gone}
+use Rattle.sql_lists.proofs.Standing.{schemas_after, committed_is, stands_plain, stands_row, stands_begun, stands_rolled_back, stands_undone}
+use Rattle.sql_lists.proofs.Standing.{stands_committed, stands_made}
 use Rattle.inno_types.specs.{declared.lock.Level.Level, declared.lock.Level.TheVariants.ReadUncommitted, declared.lock.Level.TheVariants.ReadCommitted}
 use Rattle.inno_types.specs.{declared.lock.Level.TheVariants.RepeatableRead, declared.lock.Level.TheVariants.Serializable, declared.value.Value.Value}
-use Rattle.inno_types.specs.{declared.value.Schema.Schema, declared.stmt.Stmt.Stmt}
-use Rattle.inno_types.specs.{declared.stmt.LevelScope.TheVariants.Session, declared.stmt.LevelScope.TheVariants.NextTransaction, declared.reply.Item.Item}
-use Rattle.inno_types.specs.{declared.reply.Reply.Reply}
+use Rattle.inno_types.specs.{declared.value.Schema.Schema, declared.stmt.Stmt.Stmt, declared.stmt.LevelScope.TheVariants.Session}
+use Rattle.inno_types.specs.{declared.stmt.LevelScope.TheVariants.NextTransaction, declared.reply.Item.Item, declared.reply.Reply.Reply}
 use Rattle.inno_db.specs.{declared.change.Change.Change, declared.change.Change.TheVariants.Create, declared.change.Change.TheVariants.Put}
 use Rattle.inno_db.specs.{declared.change.Change.TheVariants.Remove, declared.limits.TheConstants.MOST_TABLES}
 use Rattle.shared_lists.specs.{declared.answers.Reading.Reading, declared.answers.Searched.Searched}
-use Rattle.sql_lists.proofs.Moving.{writer_gone}
 use Rattle.sql_lists.proofs.{Moving.then_now, Staying.own_of}
 
 cons_is_some : (e : Event) (h : List Event) → e ∷ h ≡ [] → ⊥
@@ -134,7 +132,8 @@ module _ {names : List (List ℕ)} {h : List Event} {settings : List Setting} {r
       → IsKept names (events.Committed s ∷ h) (set settings s (at_end (get_or settings s at_first))) rows
   kept_commit s joined may =
       adds (events.Committed s) (set settings s (at_end (get_or settings s at_first))) (kept.opened, kept.runs, may, pays _) may.is_open
-      (sets_one (events.Committed s) h settings s (at_end (get_or settings s at_first)) (within s joined) (λ u. own_of (events.Committed s) s u (grind (arith, nat_tests)))
+      (sets_one (events.Committed s) h settings s (at_end (get_or settings s at_first)) (within s joined)
+      (λ u. own_of (events.Committed s) s u (grind (arith, nat_tests)))
       kept.set (set_at_commit h s (get_or settings s at_first) (kept.set s)))
       (length-set settings s _) refl kept.runs refl (stands_committed s h kept.stands) (ordered_committed s h (committed_is s h) kept.ordered)
 

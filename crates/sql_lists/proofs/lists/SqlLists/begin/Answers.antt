@@ -2,8 +2,7 @@ use Rattle.std.proofs.Common.{◌+◌}
 use Rattle.shared_lists.specs.State.{Lists}
 use Rattle.sql_lists.proofs.Keeping.{by_begin, kept_begin}
 use Rattle.sql_lists.proofs.lists.SqlLists.begin.Goals as goal
-use Rattle.inno_model.specs.Past.{begins}
-use Rattle.inno_model.specs.declared.event.Event.TheVariants.{Begin}
+use Rattle.inno_model.specs.{Past.begins, declared.event.Event.TheVariants.Begin}
 
 pub invariant_of-self : goal.invariant_of-self
 invariant_of-self g c =

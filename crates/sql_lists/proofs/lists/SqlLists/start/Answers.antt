@@ -2,8 +2,7 @@ use Rattle.std.proofs.Common.{◌+◌}
 use Rattle.shared_lists.specs.State.{Lists}
 use Rattle.sql_lists.proofs.Keeping.{by_result, kept_start}
 use Rattle.sql_lists.proofs.lists.SqlLists.start.Goals as goal
-use Rattle.inno_model.specs.Past.{started}
-use Rattle.inno_model.specs.declared.event.Event.TheVariants.{Started}
+use Rattle.inno_model.specs.{Past.started, declared.event.Event.TheVariants.Started}
 
 pub invariant_of-self : goal.invariant_of-self
 invariant_of-self g c =

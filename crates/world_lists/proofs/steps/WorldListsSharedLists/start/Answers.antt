@@ -1,6 +1,5 @@
 use Rattle.std.proofs.Common.{◌+◌, ap}
-use Rattle.world_lists.proofs.Calls.{desk_started, desks_started}
-use Rattle.world_lists.proofs.Made.{on_err, stays_same, started_kept, started_shown}
+use Rattle.world_lists.proofs.{Calls.desk_started, Calls.desks_started, Made.on_err, Made.stays_same, Made.started_kept, Made.started_shown}
 use Rattle.world_lists.proofs.steps.WorldListsSharedLists.start.Goals as goal
 
 pub returns-in_err-start-clause-err : goal.returns-in_err-start-clause-err

@@ -1,5 +1,4 @@
-use Rattle.world_lists.proofs.Calls.{its_work}
-use Rattle.world_lists.proofs.Made.{on_err, stays_same, viewed_kept, viewed_shown}
+use Rattle.world_lists.proofs.{Calls.its_work, Made.on_err, Made.stays_same, Made.viewed_kept, Made.viewed_shown}
 use Rattle.world_lists.proofs.steps.WorldListsSharedLists.take_view.Goals as goal
 
 pub add_view-requires : goal.add_view-requires
