@@ -138,6 +138,10 @@ module _ {chains : Chains} {place : Place} (actor : ℕ) {undo : Undo} {room : W
   abbrev Back : WorkRoom → WorldState → Move → Type 0
   Back next new answer = PutsBack chains place actor undo room next old new answer
 
+  -- what the room and the answer have become is a step
+  abbrev HandsOn : (WorkRoom → Move → Type 0) → WorldState → Type 0
+  HandsOn On new = (after : WorkRoom) (reached : Move) → On after reached → Back after new reached
+
   abbrev keys : ℕ
   keys = length is.schema.keys
 
@@ -284,15 +288,14 @@ module _ {chains : Chains} {place : Place} (actor : ℕ) {undo : Undo} {room : W
 
   -- the call was done, and the stage is another; or the room is as it was
   went_on : (next : Stage) (mid : WorkRoom) (new : WorldState) (Call : Move → Type 0) → (Call Done → Back (at_stage next mid) new Step)
-      → ((answer : Move) → answer ≢ Done → Call answer → Back mid new answer) → (answer : Move) → Call answer → (after : WorkRoom) (reached : Move)
-      → WentOn next answer mid after reached → Back after new reached
+      → ((answer : Move) → answer ≢ Done → Call answer → Back mid new answer) → (answer : Move) → Call answer → HandsOn (WentOn next answer mid) new
   went_on next mid new Call done other Done call after reached on = rw (on.0, on.1) (done call)
   went_on next mid new Call done other answer call after reached on = rw (on.0, on.1) (other answer (λ e. cc) call)
 
   -- the same where nothing to be done is as good
   went_or_ended : (next : Stage) (mid : WorkRoom) (new : WorldState) (Call : Move → Type 0) → (Call Done → Back (at_stage next mid) new Step)
       → (Call End → Back (at_stage next mid) new Step) → ((answer : Move) → answer ≢ Done → answer ≢ End → Call answer → Back mid new answer)
-      → (answer : Move) → Call answer → (after : WorkRoom) (reached : Move) → WentOnOrEnded next answer mid after reached → Back after new reached
+      → (answer : Move) → Call answer → HandsOn (WentOnOrEnded next answer mid) new
   went_or_ended next mid new Call done ended other Done call after reached on = rw (on.0, on.1) (done call)
   went_or_ended next mid new Call done ended other End call after reached on = rw (on.0, on.1) (ended call)
   went_or_ended next mid new Call done ended other answer call after reached on = rw (on.0, on.1) (other answer (λ e. cc) (λ e. cc) call)
@@ -302,7 +305,7 @@ module _ {chains : Chains} {place : Place} (actor : ℕ) {undo : Undo} {room : W
       → steps_left keys next < steps_left keys stage
       → ((new : WorldState) (answer : Move) → Stops actor index old new answer → StopsAt actor undo stage old new answer) → (mid : WorkRoom) → Leaves mid
       → (key read : List ℕ) (new : WorldState) (answer : Move) → Calls index (λ b a. NextKeys actor key read b a answer) old new
-      → (after : WorkRoom) (reached : Move) → WentOnOrEnded next answer mid after reached → Back after new reached
+      → HandsOn (WentOnOrEnded next answer mid) new
   await_keys stage next index is_at fits holds nearer stops mid leaves key read new =
       went_or_ended next mid new (λ answer. Calls index (λ b a. NextKeys actor key read b a answer) old new) (gone Done) (gone End)
       (λ answer other not_end calls. stopped_by stage is_at mid leaves new answer other (kept answer calls)
@@ -386,7 +389,7 @@ module _ {chains : Chains} {place : Place} (actor : ℕ) {undo : Undo} {room : W
   -- others are kept from changing records
   pub await_records_step : room.stage ≡ AwaitRecords → (mid : WorkRoom) → Leaves mid → (read : List ℕ) (new : WorldState) (answer : Move)
       → Calls records (λ b a. NextKeys actor undo.key read b a answer) old new
-      → (after : WorkRoom) (reached : Move) → WentOnOrEnded Record answer mid after reached → Back after new reached
+      → HandsOn (WentOnOrEnded Record answer mid) new
   await_records_step is_at mid leaves = await_keys AwaitRecords Record records is_at tt (λ rows h. h) (omega arith) (λ new answer h. h) mid leaves undo.key
 
   -- ---- the record is put back
@@ -409,13 +412,13 @@ module _ {chains : Chains} {place : Place} (actor : ℕ) {undo : Undo} {room : W
     -- the call was done, and all is; or the room is as it was
     last_step : (Call : Move → Type 0) → (Call Done → PutsPair records undo.key (was_before undo) old new)
         → ((answer : Move) → answer ≢ Done → Call answer → RowsStay old new × Stops actor records old new answer) → (answer : Move) → Call answer
-        → (after : WorkRoom) (reached : Move) → Ended answer room after reached → Back after new reached
+        → HandsOn (Ended answer room) new
     last_step Call done other Done call after reached on = rw (on.0, on.1) (ended (done call))
     last_step Call done other answer call after reached on =
         let why = other answer (λ e. cc) call in rw (on.0, on.1) (stopped_by Record is_at room room_leaves new answer (λ e. cc) why.0 why.1)
 
     pub remove_record : undo.kind ≡ 1 → (answer : Move) → Calls records (λ b a. Removes actor undo.key b a answer) old new
-        → (after : WorkRoom) (reached : Move) → Ended answer room after reached → Back after new reached
+        → HandsOn (Ended answer room) new
     remove_record kind =
         last_step (λ answer. Calls records (λ b a. Removes actor undo.key b a answer) old new)
         (λ calls. rw (before_new undo kind) (removed_if undo.key calls calls.index_is.here.2)) (λ answer other calls. (
@@ -430,8 +433,7 @@ module _ {chains : Chains} {place : Place} (actor : ℕ) {undo : Undo} {room : W
         hinders answer other h = remove_stops actor old new records undo.key answer h other (λ e. cc)
 
     pub replace_record : undo.kind ≢ 1 → (answer : Move)
-        → Changes records actor None (λ b a ans. ReplacesWith None actor undo.key undo.value b a ans) old new answer → (after : WorkRoom) (reached : Move)
-        → Ended answer room after reached → Back after new reached
+        → Changes records actor None (λ b a ans. ReplacesWith None actor undo.key undo.value b a ans) old new answer → HandsOn (Ended answer room) new
     replace_record kind =
         last_step (Changes records actor None (λ b a ans. ReplacesWith None actor undo.key undo.value b a ans) old new)
         (λ changes. rw (not_new undo kind) (puts_if undo.key (Some undo.value) changes changes.index_is.here.1)) (λ answer other changes. (
@@ -518,7 +520,7 @@ module _ {chains : Chains} {place : Place} (actor : ℕ) {undo : Undo} {room : W
         → ((new : WorldState) (answer : Move) → Stops actor number old new answer → StopsAt actor undo stage old new answer)
         → (value mark : List ℕ) (byte : ℕ) → mark ≡ byte ∷ [] → (IsTold old → At (rows_of old) stage → Marks value (Some (byte ∷ [])) next)
         → (entry : List ℕ) (result : Bool) → Writes old undo which value entry result → (new : WorldState) (answer : Move) → Changing entry mark new answer
-        → (after : WorkRoom) (reached : Move) → WentOn next answer (written entry) after reached → Back after new reached
+        → HandsOn (WentOn next answer (written entry)) new
     replace_step stage next is_at within fits nearer stops value mark byte mark_is marks entry result writes new =
         went_on next (written entry) new (Changing entry mark new) (λ changes.
         entry_done stage next is_at entry (Some mark) (Some (byte ∷ [])) new within
@@ -539,8 +541,7 @@ module _ {chains : Chains} {place : Place} (actor : ℕ) {undo : Undo} {room : W
             (one.0 ∷ [], rw (written_is value entry result it.version writes within it.code).1 (says ∙ one.1), sym (ap length mark_is))
 
     pub mark_step : room.stage ≡ Mark which → (entry : List ℕ) (result : Bool) → Writes old undo which room.newest.items entry result
-        → (new : WorldState) (answer : Move) → Changing entry room.marked new answer → (after : WorkRoom) (reached : Move)
-        → WentOn following answer (written entry) after reached → Back after new reached
+        → (new : WorldState) (answer : Move) → Changing entry room.marked new answer → HandsOn (WentOn following answer (written entry)) new
     mark_step is_at =
         let within = fitting (Mark which) is_at in
         replace_step (Mark which) following is_at within (next_fits which within (had_row undo) refl) (follows (Mark which) within (omega arith))
@@ -561,8 +562,7 @@ module _ {chains : Chains} {place : Place} (actor : ℕ) {undo : Undo} {room : W
     -- ---- others are kept from changing keys
 
     pub await_step : room.stage ≡ Await which → (mid : WorkRoom) → Leaves mid → (entry read : List ℕ) (new : WorldState) (answer : Move)
-        → Calls number (λ b a. NextKeys actor entry read b a answer) old new → (after : WorkRoom) (reached : Move)
-        → WentOnOrEnded (Remove which) answer mid after reached → Back after new reached
+        → Calls number (λ b a. NextKeys actor entry read b a answer) old new → HandsOn (WentOnOrEnded (Remove which) answer mid) new
     await_step is_at mid leaves =
         await_keys (Await which) (Remove which) number is_at (fitting (Await which) is_at) (λ rows h. h) (omega arith) (λ new answer h. h) mid leaves
 
@@ -601,8 +601,7 @@ module _ {chains : Chains} {place : Place} (actor : ℕ) {undo : Undo} {room : W
           } in
           subst (λ (r : Rows). At r following) same h.2) (follows (Remove which) within (omega arith))
 
-      pub remove_step : (answer : Move) → Removing answer → (after : WorkRoom) (reached : Move)
-          → WentOnOrEnded following answer (written entry) after reached → Back after new reached
+      pub remove_step : (answer : Move) → Removing answer → HandsOn (WentOnOrEnded following answer (written entry)) new
       remove_step =
           went_or_ended following (written entry) new Removing
           (λ calls. entry_done (Remove which) following is_at entry None None new within (removed_if entry calls calls.index_is.here.2) refl
@@ -618,8 +617,7 @@ module _ {chains : Chains} {place : Place} (actor : ℕ) {undo : Undo} {room : W
     -- ---- the entry of the row before is unmarked
 
     pub unmark_step : room.stage ≡ Unmark which → (entry : List ℕ) (result : Bool) → Writes old undo which undo.value entry result
-        → (new : WorldState) (answer : Move) → Changing entry room.unmarked new answer → (after : WorkRoom) (reached : Move)
-        → WentOn (Key (which + 1)) answer (written entry) after reached → Back after new reached
+        → (new : WorldState) (answer : Move) → Changing entry room.unmarked new answer → HandsOn (WentOn (Key (which + 1)) answer (written entry)) new
     unmark_step is_at =
         let fits = fitting (Unmark which) is_at in
         replace_step (Unmark which) (Key (which + 1)) is_at fits.0 (omega (arith, fits.0)) (omega (arith, fits.0)) (λ new answer h. h) undo.value

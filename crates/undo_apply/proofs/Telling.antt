@@ -1,5 +1,5 @@
 -- What a step of the world leaves of the rows that it tells, and why a call of an index has not done what it was asked.
-use Rattle.std.proofs.Common.{◌≡◌, ℕ, cond, List, Option, ap, ◌≢◌, inr, false, Some, None, refl, sym, ◌∙◌, length}
+use Rattle.std.proofs.Common.{◌≡◌, ℕ, cond, List, Option, ap, ◌≢◌, false, Some, None, sym, ◌∙◌, length, rules}
 use Rattle.std.specs.Prelude.{◌==◌}
 use Rattle.entries.specs.{Index.Told, Pairs.Pair, Pairs.value_of}
 use Rattle.entries.specs.Calls.{Delays, NextKeys, Replaces, Removes, IsResized, is_as_long}
@@ -10,7 +10,7 @@ use Rattle.row_changes.proofs.Telling.{told_if, went, put_pairs, tells}
 use Rattle.undo_apply.specs.{Told.rows_of, Stages.Stops}
 use Rattle.std.proofs.lemmas.Bool.{true≢false, eq-eqb}
 use Rattle.store_api.specs.{declared.moves.Move.Move}
-use Rattle.store_api.specs.declared.moves.Move.TheVariants.{End, Done, Step, Latch, Again, Full, TooDeep, Failed, Bad, NoMemory}
+use Rattle.store_api.specs.declared.moves.Move.TheVariants.{End, Done}
 
 -- ---- no pair has changed
 
@@ -60,12 +60,7 @@ module _ (actor : ℕ) (old new : WorldState) (index : ℕ) where
   Stopped answer = Stops actor index old new answer
 
   pub delay_stops : (answer : Move) → Delays actor (old.indexes index) (new.indexes index) answer → Stopped answer
-  delay_stops (Latch by) h = inr h
-  delay_stops Step h = h
-  delay_stops Again h = h
-  delay_stops Failed h = h
-  delay_stops (Bad page rule) h = h
-  delay_stops other h = absurd h
+  delay_stops other h = search rules
 
   module _ (key : List ℕ) where
     pub replace_stops : (value : List ℕ) (answer : Move) → (IsTold old → IsThereAs key value old index)
@@ -78,22 +73,12 @@ module _ (actor : ℕ) (old new : WorldState) (index : ℕ) where
           true≢false (sym as_long ∙ told_of (λ pairs. is_as_long value (value_of key pairs) ≡ false) old index told h)
 
       go : (answer : Move) → Replaces actor key value (old.indexes index) (new.indexes index) answer → answer ≢ Done → Stopped answer
-      go Done h not_done = absurd (not_done refl)
       go End h not_done = λ told. let found = sym (there told).1 ∙ told_of (λ pairs. value_of key pairs ≡ None) old index told h.0 in cc
-      go NoMemory h not_done = resized h.0
-      go (Full need free) h not_done = resized h.0
-      go TooDeep h not_done = resized h.0
-      go other h not_done = delay_stops other h
+      go other h not_done = search (rules, resized)
 
     pub remove_stops : (answer : Move) → Removes actor key (old.indexes index) (new.indexes index) answer → answer ≢ Done → answer ≢ End → Stopped answer
-    remove_stops Done h not_done not_end = absurd (not_done refl)
-    remove_stops End h not_done not_end = absurd (not_end refl)
-    remove_stops (Latch by) h not_done not_end = h
-    remove_stops other h not_done not_end = delay_stops other h
+    remove_stops other h not_done not_end = search rules
 
     pub next_key_stops : (read : List ℕ) (answer : Move) → NextKeys actor key read (old.indexes index) (new.indexes index) answer → answer ≢ Done
         → answer ≢ End → Stopped answer
-    next_key_stops read Done h not_done not_end = absurd (not_done refl)
-    next_key_stops read End h not_done not_end = absurd (not_end refl)
-    next_key_stops read (Latch by) h not_done not_end = h
-    next_key_stops read other h not_done not_end = delay_stops other h
+    next_key_stops read other h not_done not_end = search rules
