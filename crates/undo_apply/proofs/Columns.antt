@@ -1,6 +1,6 @@
 -- The place that an undo record tells of, its versions, and the keys of its table: their columns, entries, and what they say.
 use Rattle.std.proofs.Common.{◌≡◌, ◌≢◌, ◌⊎◌, inl, inr, ℕ, Bool, true, false, List, [], ◌∷◌, Option, Some, None, refl, sym, ap, subst, ◌∙◌, arith, zero}
-use Rattle.std.proofs.Common.{suc, ◌+◌, ◌-◌, ◌*◌, ◌<◌, ◌≤◌, slice_get, length}
+use Rattle.std.proofs.Common.{suc, ◌+◌, ◌-◌, ◌<◌, ◌≤◌, slice_get, length}
 use Rattle.std.specs.Prelude.{◌==◌, not, All, cond}
 use Rattle.std.proofs.Math.Bool.{or-true}
 use Rattle.std.proofs.lemmas.{Option.slice_get_within, Bool.cond-true, Bool.cond-false, Bool.ne_eqb}
@@ -24,20 +24,16 @@ use Rattle.undo_apply.specs.{Standing.column_of, Standing.said_but, Standing.Are
 use Rattle.key_codec.specs.Keys.{entry_code}
 use Rattle.key_codec.proofs.Lengths.{length-key_code, length-entry_code}
 use Rattle.secondary.specs.Entries.{place_if, entry_of}
-use Rattle.world.specs.State.{WorldState, IsIndex}
+use Rattle.world.specs.State.{WorldState}
 use Rattle.std.specs.List.{list_any}
 use Rattle.std.specs.BTreeMap.{is_at}
 
 module _ (undo : Undo) (schema : Schema) (place : Place) (schemas : List Schema) (tells : TellsOf undo schema place schemas) where
   -- a record at the key is of the place
-  pub key_is_at : (bytes : List ℕ) (coded : Coded) → IsCodeOf schema undo.key bytes coded → key_of schema coded.row ≡ place.key
-  key_is_at bytes coded code =
-      let there = key_there schema undo.key bytes coded tells.primary tells.primary_is code in
-      one_key tells.primary.kind (key_of schema coded.row) place.key there.0 tells.has_key (sym there.1 ∙ tells.key_is)
-
   pub place_is : (bytes : List ℕ) (coded : Coded) → IsCodeOf schema undo.key bytes coded → place_in undo.table schema coded.row ≡ place
   place_is bytes coded code =
-      let key = key_is_at bytes coded code in
+      let there = key_there schema undo.key bytes coded tells.primary tells.primary_is code in
+      let key = one_key tells.primary.kind (key_of schema coded.row) place.key there.0 tells.has_key (sym there.1 ∙ tells.key_is) in
       let table : undo.table ≡ place.table = sym tells.table_is in
       λ i. record { table = table i; key = key i }
 
@@ -150,17 +146,12 @@ has_key_at schemas state undo schema place which same tells within =
       few = omega (arith, within, few_keys schema tells.storable);
     }
 
-pub index_of_rows : (schemas : List Schema) (undo : Undo) (schema : Schema) (place : Place) → TellsOf undo schema place schemas
-    → IsIndex schemas (8 * undo.table)
-index_of_rows schemas undo schema place tells =
-    record { table = undo.table; which = 0; number = omega arith; schema = schema; there = tells.there; key = omega arith; few = omega arith }
-
 -- ---- entries
 
-pub entry_short : (schemas : List Schema) (undo : Undo) (schema : Schema) (place : Place) (which : ℕ) (version : Coded) (bytes : List ℕ)
+pub entry_short : {schemas : List Schema} {undo : Undo} {schema : Schema} {place : Place} (which : ℕ) {version : Coded} {bytes : List ℕ}
     → TellsOf undo schema place schemas → which < length schema.keys → IsCodeOf schema undo.key bytes version
     → length (entry_of schema (which + 1) version.row undo.key) ≤ 67
-entry_short schemas undo schema place which version bytes tells within code =
+entry_short {schemas} {undo} {schema} {place} which {version} {bytes} tells within code =
     let storable = tells.storable in
     let it = key_at schema storable which within in
     let has = entry_there schema undo.key bytes version it.key.column it.on.column code it.on.there in

@@ -64,8 +64,8 @@ version_read schema key read kept pointer (version ∷ rest) is leads_on bytes =
 
 -- ---- the value
 
-module _ (schema : Schema) (key : List ℕ) (which : ℕ) (storable : IsStorable schema) (within : which < length schema.keys) (bytes read : List ℕ)
-    (coded version : Coded) (code : IsCodeOf schema key bytes coded) (also : IsCodeOf schema key read version) where
+module _ {schema : Schema} {key : List ℕ} (which : ℕ) (storable : IsStorable schema) (within : which < length schema.keys) {bytes read : List ℕ}
+    {coded version : Coded} (code : IsCodeOf schema key bytes coded) (also : IsCodeOf schema key read version) where
   abbrev entry : Coded → List ℕ
   entry v = entry_of schema (which + 1) v.row key
 
@@ -189,17 +189,16 @@ module _ {chains : Chains} {place : Place} (actor : ℕ) {undo : Undo} {room : W
 
   -- ---- the versions before
 
-  -- the older versions, and whether there was a row
-  what_stood : {rows : Rows} {bytes : List ℕ} {coded : Coded} {done : ℕ} {Says : List Version → Type 0} → TellsOf undo is.schema place rows.schemas
-      → IsUnderWay chains place undo is.schema rows bytes coded done Says
-      → LeadTo is.schema undo.key rows.kept coded.pointer before × (WasThere undo is.schema before ⊎ WasNot undo before)
-  what_stood {rows} {bytes} {coded} tells way =
-      let read = newest_read undo is.schema place rows.schemas tells rows.pairs rows.kept chains bytes coded way.coded_but.clustered way.newest in
-      (read.1, what_was undo is.schema rows.kept coded.pointer before way.newest.before read.1)
+  module _ {rows : Rows} {bytes : List ℕ} {coded : Coded} {done : ℕ} {Says : List Version → Type 0} (tells : TellsOf undo is.schema place rows.schemas)
+      (way : IsUnderWay chains place undo is.schema rows bytes coded done Says) where
+    -- the older versions, and whether there was a row
+    what_stood : LeadTo is.schema undo.key rows.kept coded.pointer before × (WasThere undo is.schema before ⊎ WasNot undo before)
+    what_stood =
+        let read = newest_read undo is.schema place rows.schemas tells rows.pairs rows.kept chains bytes coded way.coded_but.clustered way.newest in
+        (read.1, what_was undo is.schema rows.kept coded.pointer before way.newest.before read.1)
 
-  was_there : {rows : Rows} {bytes : List ℕ} {coded : Coded} {done : ℕ} {Says : List Version → Type 0} → TellsOf undo is.schema place rows.schemas
-      → IsUnderWay chains place undo is.schema rows bytes coded done Says → had_row undo ≡ true → WasThere undo is.schema before
-  was_there tells way had = ⊎_elim (λ was. was) (λ (was : WasNot undo before). absurd (true≢false (sym had ∙ was.had))) (what_stood tells way).1
+    was_there : had_row undo ≡ true → WasThere undo is.schema before
+    was_there had = ⊎_elim (λ was. was) (λ (was : WasNot undo before). absurd (true≢false (sym had ∙ was.had))) what_stood.1
 
   -- what comes once a key is clear
   next_holds : (rows : Rows) (bytes : List ℕ) (coded : Coded) (which : ℕ) → TellsOf undo is.schema place rows.schemas
@@ -209,7 +208,7 @@ module _ {chains : Chains} {place : Place} (actor : ℕ) {undo : Undo} {room : W
   next_holds rows bytes coded which tells way false had = (
     coded,
     ⊎_elim (λ (was : WasThere undo is.schema before). absurd (true≢false (sym was.had ∙ had)))
-        (λ (was : WasNot undo before). passed chains place undo is.schema rows tells bytes coded which was way) (what_stood tells way).1,
+        (λ (was : WasNot undo before). passed chains rows tells was way) (what_stood tells way).1,
   )
 
   next_fits : (which : ℕ) → which < keys → (b : Bool) → had_row undo ≡ b → FitsKeys keys undo (cond b (Unmark which) (Key (which + 1)))
@@ -403,7 +402,7 @@ module _ {chains : Chains} {place : Place} (actor : ℕ) {undo : Undo} {room : W
       anew = refl;
       popped = λ told differs after pops.
           let h = held Record is_at (put_told records undo.key (was_before undo) old new puts told) in
-          rw (rows_after puts told) (ends chains place undo is.schema (rows_of old) is.tells room.newest.items h.0 h.1 after pops);
+          rw (rows_after puts told) (ends chains (rows_of old) is.tells h.1 after pops);
       again = λ told gone.
           let h = held Record is_at (put_told records undo.key (was_before undo) old new puts told) in
           absurd (stands chains place undo is.schema (rows_of old) room.newest.items h.0 keys (IsLagging (shown h.0) before) is.tells h.1 gone);
@@ -461,8 +460,7 @@ module _ {chains : Chains} {place : Place} (actor : ℕ) {undo : Undo} {room : W
     written_is : (value entry : List ℕ) (result : Bool) (version : Coded) → Writes old undo which value entry result → which < keys
         → IsCodeOf is.schema undo.key value version → IsTrue result × (entry ≡ entry_of is.schema (which + 1) version.row undo.key)
     written_is value entry result version writes within code =
-        writes is.schema version is.tells.there code.numbers code.record_is
-        (entry_short old.schemas undo is.schema place which version value is.tells within code)
+        writes is.schema version is.tells.there code.numbers code.record_is (entry_short which is.tells within code)
 
     abbrev Unwritten : List ℕ → Type 0
     Unwritten value = (entry : List ℕ) (result : Bool) → Writes old undo which value entry result → result ≡ false → Back (written entry) old NoMemory
@@ -478,7 +476,7 @@ module _ {chains : Chains} {place : Place} (actor : ℕ) {undo : Undo} {room : W
 
     -- the rows once the entry of a record has this value
     abbrev Put : Coded → Option (List ℕ) → Rows
-    Put version value = with_entry chains place undo is.schema (rows_of old) is.tells which version value
+    Put version value = with_entry chains (rows_of old) is.tells which version value
 
     entry_done : (stage next : Stage) → room.stage ≡ stage → (entry : List ℕ) (value now : Option (List ℕ)) (new : WorldState) → which < keys
         → PutsPair number entry value old new → value ≡ now → FitsKeys keys undo next → steps_left keys next < steps_left keys stage
@@ -551,8 +549,7 @@ module _ {chains : Chains} {place : Place} (actor : ℕ) {undo : Undo} {room : W
           said = h.1.said;
           coded_but = h.1.coded_but;
           some = lagging_any (column_of is.schema which) _ (shown h.0) before (h.1.said which) h.2.found_is h.1.says.here;
-          holds = cleared (Put h.0 (Some (1 ∷ []))) h.0 is.tells
-              (dropped chains place undo is.schema (rows_of old) is.tells room.newest.items h.0 which true within h.1 h.2.plain h.2.found_is);
+          holds = cleared (Put h.0 (Some (1 ∷ []))) h.0 is.tells (dropped chains (rows_of old) is.tells which true within h.1 h.2.plain h.2.found_is);
         })
 
     pub mark_unwritten : room.stage ≡ Mark which → Unwritten room.newest.items
@@ -586,8 +583,7 @@ module _ {chains : Chains} {place : Place} (actor : ℕ) {undo : Undo} {room : W
           let h = held (Remove which) is_at told in (
             h.0,
             (written_is room.newest.items entry result h.0 writes within h.1.newest.code_is).1,
-            cleared (Put h.0 None) h.0 is.tells
-                (dropped chains place undo is.schema (rows_of old) is.tells room.newest.items h.0 which false within h.1 h.2.plain h.2.found_is),
+            cleared (Put h.0 None) h.0 is.tells (dropped chains (rows_of old) is.tells which false within h.1 h.2.plain h.2.found_is),
           )
 
       remove_ended : Removing End → Back (at_stage following (written entry)) new Step
@@ -627,7 +623,7 @@ module _ {chains : Chains} {place : Place} (actor : ℕ) {undo : Undo} {room : W
           said = h.1.said;
           coded_but = h.1.coded_but;
           some = cleared_any column _ before (h.1.said which) (newest_any column was.former.row before was.first) h.1.says.here;
-          holds = (h.0, unmarked_now chains place undo is.schema (rows_of old) is.tells room.newest.items h.0 which was fits.0 h.1);
+          holds = (h.0, unmarked_now chains (rows_of old) is.tells which was fits.0 h.1);
         })
 
     pub unmark_unwritten : room.stage ≡ Unmark which → Unwritten undo.value
@@ -670,8 +666,7 @@ module _ {chains : Chains} {place : Place} (actor : ℕ) {undo : Undo} {room : W
         look_gone is_marked =
             moved room room_leaves (Key which) following is_at old (same_rows old) (next_fits which within (had_row undo) refl) (λ told h.
             let gone = mark_of h.0 h.1.newest.code_is ∙ is_marked in
-            cleared (rows_of old) h.0 is.tells (clear_unless_row chains place undo is.schema (rows_of old) is.tells room.newest.items h.0 which gone h.1))
-            (follows (Key which) within (omega arith))
+            cleared (rows_of old) h.0 is.tells (clear_unless_row chains (rows_of old) is.tells gone h.1)) (follows (Key which) within (omega arith))
 
         abbrev OneEntry : Bool → Type 0
         OneEntry result =
@@ -688,15 +683,11 @@ module _ {chains : Chains} {place : Place} (actor : ℕ) {undo : Undo} {room : W
             moved (written entry) (written_leaves entry) (Key which) (Unmark which) is_at old (same_rows old) (within, had) (λ told h.
             let code = h.1.newest.code_is in
             let was = was_there is.tells h.1 had in
-            let short = entry_short old.schemas undo is.schema place which h.0 room.newest.items is.tells within code in
-            let short_too = entry_short old.schemas undo is.schema place which was.former undo.value is.tells within was.code_is in
             let entries =
-            (one is.schema h.0 was.former is.tells.there code.numbers was.code_is.numbers code.record_is was.code_is.record_is short short_too).0 is_same in
-            let values =
-            values_same is.schema undo.key which is.tells.storable within room.newest.items undo.value h.0 was.former code was.code_is entries in (
-              h.0,
-              clear_of_same chains place undo is.schema (rows_of old) is.tells room.newest.items h.0 which was (mark_of h.0 code ∙ not_marked) (sym values) h.1,
-            )) (omega arith)
+            (one is.schema h.0 was.former is.tells.there code.numbers was.code_is.numbers code.record_is was.code_is.record_is
+            (entry_short which is.tells within code) (entry_short which is.tells within was.code_is)).0 is_same in
+            let values = values_same which is.tells.storable within code was.code_is entries in
+            (h.0, clear_of_same chains (rows_of old) is.tells was (mark_of h.0 code ∙ not_marked) (sym values) h.1)) (omega arith)
 
         -- a walk begins
         pub look_on : marked ≡ false → (pointer : ℕ) → ((marks : Bool) (writer leads : ℕ) (fields : List ℕ) → leads < 2 ^ 64
@@ -757,20 +748,15 @@ module _ {chains : Chains} {place : Place} (actor : ℕ) {undo : Undo} {room : W
             looked =
                 let code = known.1.newest.code_is in
                 looks.stage is.schema known.0 seen.version (rw (schemas_stay stays) is.tells.there) code.numbers seen.code_is.numbers code.record_is
-                seen.code_is.record_is (entry_short old.schemas undo is.schema place which known.0 room.newest.items is.tells inside code)
-                (entry_short old.schemas undo is.schema place which seen.version read.items is.tells inside seen.code_is)
+                seen.code_is.record_is (entry_short which is.tells inside code) (entry_short which is.tells inside seen.code_is)
 
             holds_by : (stage : Stage) → Looks stage → At (rows_of old) stage
             holds_by stage (inl found) =
-                let here =
-                found_here is.schema undo.key which is.tells.storable inside room.newest.items read.items known.0 seen.version known.1.newest.code_is
-                seen.code_is found.1 found.2 seen.rest in
+                let here = found_here which is.tells.storable inside known.1.newest.code_is seen.code_is found.1 found.2 seen.rest in
                 let some = known.3.passed ∙ (ap (some_has is.schema which known.0) seen.left_is ∙ here) in
                 rw found.0 (known.0, known.1, record { plain = known.2; found_is = some })
             holds_by stage (inr on) =
-                let past =
-                passed_here is.schema undo.key which is.tells.storable inside room.newest.items read.items known.0 seen.version known.1.newest.code_is
-                seen.code_is on.1 seen.rest in
+                let past = passed_here which is.tells.storable inside known.1.newest.code_is seen.code_is on.1 seen.rest in
                 rw on.0 (known.0, known.1, known.2, record {
                   left = seen.rest;
                   leads = seen.leads;

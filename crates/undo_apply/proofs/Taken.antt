@@ -1,11 +1,13 @@
 -- What keys say of a place, what the change of one entry makes of a change that is being taken back, and how that ends.
 use Rattle.std.proofs.Common.{◌≡◌, ◌≢◌, ⊎_elim, ℕ, ◌+◌, Bool, true, false, cond, List, Option, Some, refl, sym, ap, subst, ◌∙◌, arith, slice_get, inl, inr}
 use Rattle.std.proofs.Common.{◌<◌, [], ◌∷◌, None, length}
+use Rattle.std.proofs.lemmas.Bool.Decides.{nat_tests}
+use Rattle.law_stored_rows.specs.Tables.{place_in}
 use Rattle.std.specs.Prelude.{◌==◌, ◌&&◌}
 use Rattle.std.proofs.lemmas.{Bool.cases_eq, Bool.cond-true, Bool.cond-false, Bool.eq-eqb, Bool.ne_eqb, Option.slice_get_within}
 use Rattle.inno_types.specs.{declared.value.Value.Value, declared.value.Key.Key, declared.value.Schema.Schema}
 use Rattle.key_codec.specs.Keys.{entry_code}
-use Rattle.entries.specs.Pairs.{Pair, value_of}
+use Rattle.entries.specs.Pairs.{value_of}
 use Rattle.row_versions.specs.{declared.kept.Kept.Kept, declared.place.Place.Place, declared.version.Version.Version}
 use Rattle.row_versions.specs.Chains.{Chains, is_same_place, Pops, newest, older}
 use Rattle.law_stored_rows.specs.{Tables.in_table, Tables.AreCodedAs, Tables.LagAt, Tables.SaysNow, Edits.clustered_index, Edits.key_index, Edits.Puts}
@@ -68,24 +70,14 @@ pub sets_there : (chains : Chains) (place : Place) (said : ℕ → List Version)
 sets_there chains place said which versions table key value = go (key == which) (is_same_place place (at table value)) where
   go : (b t : Bool)
       → cond t (cond b versions (said key)) (in_table table chains value) ≡ cond (b && t) versions (cond t (said key) (in_table table chains value))
-  go true true = refl
-  go true false = refl
-  go false true = refl
-  go false false = refl
+  go true t = grind (arith, nat_tests)
+  go false t = refl
 
 -- what holds of both ends of a choice holds of the choice
 by_test : (R : List Version → List Version → Type 0) (t : Bool) (a b c d : List Version) → (t ≡ true → R a b) → (t ≡ false → R c d)
     → R (cond t a c) (cond t b d)
 by_test R true a b c d first second = first refl
 by_test R false a b c d first second = second refl
-
--- Without its newest version the keys say of the place what they said.
-pub but_after : (schemas : List Schema) (indexes : ℕ → List Pair) (kept : ℕ → Option Kept) (before after : Chains) (place : Place) (said : ℕ → List Version)
-    → Pops before after place → AreCodedAs schemas indexes kept after (said_but before place said) → AreCodedBut schemas indexes kept after place said
-but_after schemas indexes kept before after place said pops is =
-    said_alike schemas indexes kept after (said_but before place said) (said_but after place said) is (λ table which schema key there also value.
-    by_test (TellAlike key.column) (is_same_place place (at table value)) _ _ _ _ (λ same other. refl)
-    (λ apart other. ap (entry_said key.column other) (sym (popped_elsewhere before after place pops (at table value) apart))))
 
 -- ---- what the change of one entry makes of a change that is being taken back
 
@@ -129,7 +121,7 @@ module _ (column : ℕ) (value : Value) (first : Version) (before : List Version
 
 -- ---- all keys
 
-module _ (chains : Chains) (place : Place) (undo : Undo) (schema : Schema) (rows : Rows) (tells : TellsOf undo schema place rows.schemas) where
+module _ (chains : Chains) {place : Place} {undo : Undo} {schema : Schema} (rows : Rows) (tells : TellsOf undo schema place rows.schemas) where
   abbrev before : List Version
   before = versions_before chains place
 
@@ -173,10 +165,10 @@ module _ (chains : Chains) (place : Place) (undo : Undo) (schema : Schema) (rows
   UnderWay now bytes coded done Holds = IsUnderWay chains place undo schema now bytes coded done Holds
 
   -- The newest row's entry is marked, or removed.
-  pub dropped : (bytes : List ℕ) (coded : Coded) (which : ℕ) (found : Bool) → which < length schema.keys
+  pub dropped : {bytes : List ℕ} {coded : Coded} (which : ℕ) (found : Bool) → which < length schema.keys
       → UnderWay rows bytes coded which (IsLagging (shown coded) before) → coded.marked ≡ false → some_has schema which coded before ≡ found
       → UnderWay (with_entry which coded (cond found (Some (1 ∷ [])) None)) bytes coded which (IsCleared before)
-  dropped bytes coded which found within way plain found_is =
+  dropped {bytes} {coded} which found within way plain found_is =
       let it = key_at schema tells.storable which within in
       let value = value_in it.key.column coded.row in
       let drop = drop_to it.key.column value (shown coded) before (rw (plain, value_itself value)) (way.said which) way.says.here in
@@ -189,10 +181,10 @@ module _ (chains : Chains) (place : Place) (undo : Undo) (schema : Schema) (rows
       }
 
   -- The entry of the row before is unmarked.
-  pub unmarked_now : (bytes : List ℕ) (coded : Coded) (which : ℕ) (was : WasThere undo schema before) → which < length schema.keys
+  pub unmarked_now : {bytes : List ℕ} {coded : Coded} (which : ℕ) (was : WasThere undo schema before) → which < length schema.keys
       → UnderWay rows bytes coded which (IsCleared before)
       → UnderWay (with_entry which was.former (Some (0 ∷ []))) bytes coded (which + 1) (IsLagging (shown coded) before)
-  unmarked_now bytes coded which was within way =
+  unmarked_now {bytes} {coded} which was within way =
       let it = key_at schema tells.storable which within in
       let column = it.key.column in
       let value = value_in column was.former.row in
@@ -224,9 +216,9 @@ module _ (chains : Chains) (place : Place) (undo : Undo) (schema : Schema) (rows
   }
 
   -- Where there was no row before, a cleared key is done.
-  pub passed : (bytes : List ℕ) (coded : Coded) (which : ℕ) → WasNot undo before → UnderWay rows bytes coded which (IsCleared before)
+  pub passed : {bytes : List ℕ} {coded : Coded} {which : ℕ} → WasNot undo before → UnderWay rows bytes coded which (IsCleared before)
       → UnderWay rows bytes coded (which + 1) (IsLagging (shown coded) before)
-  passed bytes coded which was way =
+  passed {bytes} {coded} {which} was way =
       said_now before way
       (λ key key_is. alike key (way.said which) way.says.here) (one_done (shown coded) before way.said which (IsCleared before) way.says) where
         alike : (key : Key) (said : List Version) → IsCleared before said → TellAlike key.column said before
@@ -243,16 +235,16 @@ module _ (chains : Chains) (place : Place) (undo : Undo) (schema : Schema) (rows
   }
 
   -- Where the newest version has no row, the key is clear.
-  pub clear_unless_row : (bytes : List ℕ) (coded : Coded) (which : ℕ) → coded.marked ≡ true
+  pub clear_unless_row : {bytes : List ℕ} {coded : Coded} {which : ℕ} → coded.marked ≡ true
       → UnderWay rows bytes coded which (IsLagging (shown coded) before) → UnderWay rows bytes coded which (IsCleared before)
-  clear_unless_row bytes coded which is_marked way =
+  clear_unless_row {bytes} {coded} {which} is_marked way =
       here_too way (⊎_elim (λ cleared. cleared) (λ same. inr (shown coded, rw is_marked, same)) way.says.here)
 
   -- Where the newest row has the value of the row before, the key is clear.
-  pub clear_of_same : (bytes : List ℕ) (coded : Coded) (which : ℕ) (was : WasThere undo schema before) → coded.marked ≡ false
+  pub clear_of_same : {bytes : List ℕ} {coded : Coded} {which : ℕ} (was : WasThere undo schema before) → coded.marked ≡ false
       → value_in (column_of schema which) was.former.row ≡ value_in (column_of schema which) coded.row
       → UnderWay rows bytes coded which (IsLagging (shown coded) before) → UnderWay rows bytes coded which (IsCleared before)
-  clear_of_same bytes coded which was plain same way =
+  clear_of_same {bytes} {coded} {which} was plain same way =
       ⊎_elim (λ (cleared : IsCleared before (way.said which)). here_too way cleared)
       (λ (with_newest : way.said which ≡ shown coded ∷ before). said_now before way (λ key key_is. rw with_newest (alike key key_is))
       (here_now (shown coded) before way.said which (IsLagging (shown coded) before) (IsCleared before) before (inl refl) way.says)) way.says.here where
@@ -262,41 +254,41 @@ module _ (chains : Chains) (place : Place) (undo : Undo) (schema : Schema) (rows
 
 -- ---- the record is put back last
 
-module _ (chains : Chains) (place : Place) (undo : Undo) (schema : Schema) (rows : Rows) (tells : TellsOf undo schema place rows.schemas) where
+module _ (chains : Chains) {place : Place} {undo : Undo} {schema : Schema} (rows : Rows) (tells : TellsOf undo schema place rows.schemas) where
   -- the rows once the record is what it was before
   abbrev pub put_back : Rows
   put_back = record rows { pairs = pairs_after (clustered_index undo.table) undo.key (was_before undo) rows.pairs }
 
-  step : (bytes : List ℕ) (coded : Coded) (value : Option (List ℕ)) → IsCodeOf schema undo.key bytes coded → was_before undo ≡ value
-      → PutsRecord rows.schemas rows.pairs put_back.pairs undo.table schema undo.key bytes coded value
-  step bytes coded value code now =
-      let Put : Option (List ℕ) → Type 0 = λ o. Puts rows.pairs put_back.pairs (clustered_index undo.table) undo.key o in
-      let puts : Put (was_before undo) = λ other. refl in
-      record { there = tells.there; code_is = code; puts = subst Put now puts }
-
-  -- the record is taken back where its pointer leads to what was before
+  -- the record is taken back where its pointer leads to what was before, and the keys say of the place what they said
   taken_back : (after : Chains) (bytes : List ℕ) (coded : Coded) (said : ℕ → List Version) → IsNewest undo schema rows.pairs rows.kept bytes coded
       → AreCodedBut rows.schemas rows.pairs rows.kept chains place said → Pops chains after place
-      → LeadsBack undo rows.kept coded.pointer → AreCodedBut rows.schemas put_back.pairs rows.kept after place said
-  taken_back after bytes coded said is are pops (inl new) =
-      but_after rows.schemas put_back.pairs rows.kept chains after place said pops
-      (record_removed rows.schemas rows.pairs put_back.pairs rows.kept chains after (said_but chains place said) undo.table schema undo.key bytes coded are
-      (step bytes coded None is.code_is (before_new undo new.0)) is.there new.1
-      (subst (λ (p : Place). Pops chains after p) (sym (place_is undo schema place rows.schemas tells bytes coded is.code_is)) pops))
-  taken_back after bytes coded said is are pops (inr (kind, leads, former, keeps, same)) =
-      but_after rows.schemas put_back.pairs rows.kept chains after place said pops
-      (record_taken_back rows.schemas rows.pairs put_back.pairs rows.kept chains after (said_but chains place said) undo.table schema undo.key bytes coded are
-      former (step bytes coded (Some former.bytes) is.code_is (before_kept undo kind ∙ ap Some (sym same))) is.there leads keeps
-      (subst (λ (p : Place). Pops chains after p) (sym (place_is undo schema place rows.schemas tells bytes coded is.code_is)) pops))
+      → AreCodedBut rows.schemas put_back.pairs rows.kept after place said
+  taken_back after bytes coded said is are pops =
+      said_alike rows.schemas put_back.pairs rows.kept after (said_but chains place said) (said_but after place said) (go is.before)
+      (λ table which schema key there also value. by_test (TellAlike key.column) (is_same_place place (at table value)) _ _ _ _ (λ same other. refl)
+      (λ apart other. ap (entry_said key.column other) (sym (popped_elsewhere chains after place pops (at table value) apart)))) where
+        step : (value : Option (List ℕ)) → was_before undo ≡ value → PutsRecord rows.schemas rows.pairs put_back.pairs undo.table schema undo.key bytes coded value
+        step value now = record { there = tells.there; code_is = is.code_is; puts = rw (← now) (λ other. refl) }
+
+        there : Pops chains after (place_in undo.table schema coded.row)
+        there = subst (λ (p : Place). Pops chains after p) (sym (place_is undo schema place rows.schemas tells bytes coded is.code_is)) pops
+
+        go : LeadsBack undo rows.kept coded.pointer → AreCodedAs rows.schemas put_back.pairs rows.kept after (said_but chains place said)
+        go (inl new) =
+            record_removed rows.schemas rows.pairs put_back.pairs rows.kept chains after (said_but chains place said) undo.table schema undo.key bytes coded
+            are (step None (before_new undo new.0)) is.there new.1 there
+        go (inr (kind, leads, former, keeps, same)) =
+            record_taken_back rows.schemas rows.pairs put_back.pairs rows.kept chains after (said_but chains place said) undo.table schema undo.key bytes
+            coded are former (step (Some former.bytes) (before_kept undo kind ∙ ap Some (sym same))) is.there leads keeps there
 
   -- Once all keys say the versions before, all is what it was without the newest version.
-  pub ends : (bytes : List ℕ) (coded : Coded)
+  pub ends : {bytes : List ℕ} {coded : Coded}
       → IsUnderWay chains place undo schema rows bytes coded (length schema.keys) (IsLagging (shown coded) (versions_before chains place))
       → (after : Chains) → Pops chains after place → IsTakenBack after undo put_back
-  ends bytes coded way after pops = record {
+  ends {bytes} {coded} way after pops = record {
     all =
         change_over rows.schemas put_back.pairs rows.kept after place (said_but after place way.said)
-        (taken_back after bytes coded way.said way.newest way.coded_but pops way.newest.before) (lags_there after place way.said)
+        (taken_back after bytes coded way.said way.newest way.coded_but pops) (lags_there after place way.said)
         (λ which other key there key_is value.
         let there_too = rw tells.table_is at there in
         let one : other ≡ schema = cc (there_too, tells.there) in
@@ -309,9 +301,6 @@ module _ (chains : Chains) (place : Place) (undo : Undo) (schema : Schema) (rows
 
 -- ---- a record that stands is not what it was before
 
-longer : (first : Version) (rest : List Version) → rest ≡ first ∷ rest → ⊥
-longer first rest is = absurd (omega (arith, ap length is))
-
 stands_yet : (undo : Undo) (schema : Schema) (kept : ℕ → Option Kept) (bytes : List ℕ) (coded : Coded) (before : List Version)
     → IsCodeOf schema undo.key bytes coded → LeadTo schema undo.key kept coded.pointer before → LeadsBack undo kept coded.pointer
     → Some bytes ≡ was_before undo → ⊥
@@ -323,7 +312,7 @@ stands_yet undo schema kept bytes coded before code leads_on (inr (kind, leads, 
     let too = rw one_value at read.0 in
     let one : former.version ≡ coded = same_version schema former.version coded undo.key bytes too.numbers code.numbers too.record_is code.record_is in
     let twice = one_lead schema undo.key kept coded.pointer (older before) before (rw one at read.2) leads_on in
-    longer (shown former.version) (older before) (twice ∙ read.1)
+    absurd (omega (arith, ap length (twice ∙ read.1)))
 
 pub stands : (chains : Chains) (place : Place) (undo : Undo) (schema : Schema) (rows : Rows) (bytes : List ℕ) (coded : Coded) (done : ℕ)
     (Holds : List Version → Type 0) → TellsOf undo schema place rows.schemas → IsUnderWay chains place undo schema rows bytes coded done Holds

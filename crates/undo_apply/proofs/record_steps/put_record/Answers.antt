@@ -1,11 +1,13 @@
-use Rattle.undo_apply.proofs.{Columns.index_of_rows, Goes.remove_record, Goes.replace_record}
+use Rattle.std.proofs.Common.{arith}
+use Rattle.undo_apply.proofs.Goes.{remove_record, replace_record}
 use Rattle.undo_apply.proofs.record_steps.put_record.Goals as goal
 
 pub replace-answer-requires-clause-index : goal.replace-answer-requires-clause-index
 replace-answer-requires-clause-index g c =
-    let old = g.W.World.state c.args.world.now in
     let is = c.requires.under_way.2 in
-    rw c.records_of-2.ensures (index_of_rows old.schemas c.args.undo.now is.schema c.requires.under_way.1 is.tells)
+    let table = c.args.undo.now.table in
+    rw c.records_of-2.ensures
+    (record { table = table; which = 0; number = omega arith; schema = is.schema; there = is.tells.there; key = omega arith; few = omega arith })
 
 pub returns-then-undo-eq-NEW_ROW-clause-puts : goal.returns-then-undo-eq-NEW_ROW-clause-puts
 returns-then-undo-eq-NEW_ROW-clause-puts g c = λ chains place is.
