@@ -1,5 +1,5 @@
 -- The steps of a taking back: how each leaves what is known, those that deal with the record, and with the entries of a key.
-use Rattle.std.proofs.Common.{◌≡◌, ◌≢◌, ◌⊎◌, inl, inr, ℕ, ◌+◌, ◌<◌, Bool, true, false, List, [], ◌∷◌, Option, Some, refl, sym, ap, subst, ◌∙◌, arith, length}
+use Rattle.std.proofs.Common.{◌≡◌, ◌≢◌, ◌⊎◌, inl, inr, ℕ, ◌+◌, ◌<◌, Bool, true, false, List, [], ◌∷◌, Option, Some, refl, sym, ap, subst, ◌∙◌, arith, length, rules}
 use Rattle.std.proofs.Common.{◌≤◌, slice_get, ⊎_elim, ◌-◌, ◌*◌, cond, None, ◌^◌, ◌++◌}
 use Rattle.std.specs.Prelude.{option_map, IsTrue, ◌==◌, ◌||◌, is_some, vec_capacity, Vec}
 use Rattle.std.proofs.Math.Bool.{or-true}
@@ -130,8 +130,7 @@ as_long undo schema kept bytes coded before code leads_on (inr (kind, leads, for
     ∙ sym (ap length read.0.record_is.value_is ∙ length-version_code schema former.version read.0.record_is.fits) ∙ ap length same
 
 pub not_done_test : (answer : Move) → answer ≢ Done → is_done answer ≡ false
-not_done_test Done differs = absurd (differs refl)
-not_done_test other differs = refl
+not_done_test other differs = search rules
 
 module _ {chains : Chains} {place : Place} (actor : ℕ) {undo : Undo} {room : WorkRoom} {old : WorldState}
     (is : IsPuttingBack chains place undo room old) where
@@ -172,9 +171,7 @@ module _ {chains : Chains} {place : Place} (actor : ℕ) {undo : Undo} {room : W
 
   hindrance_is : (next : WorkRoom) (new : WorldState) (answer : Move) → answer ≢ Done → IsHindered chains place actor undo room next old new answer
       → Back next new answer
-  hindrance_is next new Done not_done is = absurd (not_done refl)
-  hindrance_is next new Step not_done is = inr is
-  hindrance_is next new other not_done is = is
+  hindrance_is next new other not_done is = search rules
 
   -- It was not.
   hindered : (next : WorkRoom) (new : WorldState) (answer : Move) → answer ≢ Done → RowsStay old new → next.stage ≡ room.stage
@@ -199,25 +196,6 @@ module _ {chains : Chains} {place : Place} (actor : ℕ) {undo : Undo} {room : W
 
     was_there : had_row undo ≡ true → WasThere undo is.schema before
     was_there had = ⊎_elim (λ was. was) (λ (was : WasNot undo before). absurd (true≢false (sym had ∙ was.had))) what_stood.1
-
-  -- what comes once a key is clear
-  next_holds : (rows : Rows) (bytes : List ℕ) (coded : Coded) (which : ℕ) → TellsOf undo is.schema place rows.schemas
-      → IsUnderWay chains place undo is.schema rows bytes coded which (IsCleared before) → (b : Bool) → had_row undo ≡ b
-      → StageHolds chains place undo is.schema rows bytes (cond b (Unmark which) (Key (which + 1)))
-  next_holds rows bytes coded which tells way true had = (coded, way)
-  next_holds rows bytes coded which tells way false had = (
-    coded,
-    ⊎_elim (λ (was : WasThere undo is.schema before). absurd (true≢false (sym was.had ∙ had)))
-        (λ (was : WasNot undo before). passed chains rows tells was way) (what_stood tells way).1,
-  )
-
-  next_fits : (which : ℕ) → which < keys → (b : Bool) → had_row undo ≡ b → FitsKeys keys undo (cond b (Unmark which) (Key (which + 1)))
-  next_fits which within true had = (within, had)
-  next_fits which within false had = omega (arith, within)
-
-  next_nears : (which : ℕ) → which < keys → (b : Bool) → steps_left keys (cond b (Unmark which) (Key (which + 1))) < 5 * (keys - which) + 3
-  next_nears which within true = omega arith
-  next_nears which within false = omega (arith, within)
 
   -- ---- the stage that the room is at, and the next one
 
@@ -496,13 +474,26 @@ module _ {chains : Chains} {place : Place} (actor : ℕ) {undo : Undo} {room : W
     abbrev following : Stage
     following = cond (had_row undo) (Unmark which) (Key (which + 1))
 
-    -- the newest row's entry was dealt with, so the key is clear
-    cleared : (rows : Rows) (coded : Coded) → TellsOf undo is.schema place rows.schemas
-        → IsUnderWay chains place undo is.schema rows room.newest.items coded which (IsCleared before) → At rows following
-    cleared rows coded tells way = next_holds rows room.newest.items coded which tells way (had_row undo) refl
+    -- what comes once a key is clear
+    record Comes (next : Stage) : Type 0 where
+      pub fits : FitsKeys keys undo next
+      pub nearer : steps_left keys next < 5 * (keys - which) + 3
+      pub holds : (rows : Rows) (coded : Coded) → TellsOf undo is.schema place rows.schemas
+          → IsUnderWay chains place undo is.schema rows room.newest.items coded which (IsCleared before) → At rows next
+
+    comes : which < keys → Comes following
+    comes within = go (had_row undo) refl where
+      go : (b : Bool) → had_row undo ≡ b → Comes (cond b (Unmark which) (Key (which + 1)))
+      go true had = record { fits = (within, had); nearer = omega arith; holds = λ rows coded tells way. (coded, way) }
+      go false had = record {
+        fits = omega (arith, within);
+        nearer = omega (arith, within);
+        holds = λ rows coded tells way. (coded, ⊎_elim (λ (was : WasThere undo is.schema before). absurd (true≢false (sym was.had ∙ had)))
+            (λ (was : WasNot undo before). passed chains rows tells was way) (what_stood tells way).1);
+      }
 
     follows : (stage : Stage) → which < keys → 5 * (keys - which) + 3 ≤ steps_left keys stage → steps_left keys following < steps_left keys stage
-    follows stage within far = let less = next_nears which within (had_row undo) in omega (arith, less, far)
+    follows stage within far = let less = (comes within).nearer in omega (arith, less, far)
 
     -- The entry of a record is changed in place: the key says that one of the versions has its value.
     record Marks (value : List ℕ) (now : Option (List ℕ)) (next : Stage) : Type 0 where
@@ -542,14 +533,14 @@ module _ {chains : Chains} {place : Place} (actor : ℕ) {undo : Undo} {room : W
         → (new : WorldState) (answer : Move) → Changing entry room.marked new answer → HandsOn (WentOn following answer (written entry)) new
     mark_step is_at =
         let within = fitting (Mark which) is_at in
-        replace_step (Mark which) following is_at within (next_fits which within (had_row undo) refl) (follows (Mark which) within (omega arith))
+        replace_step (Mark which) following is_at within (comes within).fits (follows (Mark which) within (omega arith))
         (λ new answer h. h) room.newest.items room.marked 1 is.whole.marked (λ told h. record {
           version = h.0;
           code = h.1.newest.code_is;
           said = h.1.said;
           coded_but = h.1.coded_but;
           some = lagging_any (column_of is.schema which) _ (shown h.0) before (h.1.said which) h.2.found_is h.1.says.here;
-          holds = cleared (Put h.0 (Some (1 ∷ []))) h.0 is.tells (dropped chains (rows_of old) is.tells which true within h.1 h.2.plain h.2.found_is);
+          holds = (comes within).holds (Put h.0 (Some (1 ∷ []))) h.0 is.tells (dropped chains (rows_of old) is.tells which true within h.1 h.2.plain h.2.found_is);
         })
 
     pub mark_unwritten : room.stage ≡ Mark which → Unwritten room.newest.items
@@ -583,13 +574,13 @@ module _ {chains : Chains} {place : Place} (actor : ℕ) {undo : Undo} {room : W
           let h = held (Remove which) is_at told in (
             h.0,
             (written_is room.newest.items entry result h.0 writes within h.1.newest.code_is).1,
-            cleared (Put h.0 None) h.0 is.tells (dropped chains (rows_of old) is.tells which false within h.1 h.2.plain h.2.found_is),
+            (comes within).holds (Put h.0 None) h.0 is.tells (dropped chains (rows_of old) is.tells which false within h.1 h.2.plain h.2.found_is),
           )
 
       remove_ended : Removing End → Back (at_stage following (written entry)) new Step
       remove_ended calls =
           moved (written entry) (written_leaves entry) (Remove which) following is_at new
-          (stays_if calls (calls.index_is.here.2.pairs, calls.index_is.here.2.place)) (next_fits which within (had_row undo) refl) (λ told known.
+          (stays_if calls (calls.index_is.here.2.pairs, calls.index_is.here.2.place)) (comes within).fits (λ told known.
           let h = remove_holds told in
           let none = told_of (λ pairs. value_of entry pairs ≡ None) old number told calls.index_is.here.1 in
           let same : Put h.0 None ≡ rows_of old = λ i. record (rows_of old) {
@@ -601,7 +592,7 @@ module _ {chains : Chains} {place : Place} (actor : ℕ) {undo : Undo} {room : W
       remove_step =
           went_or_ended following (written entry) new Removing
           (λ calls. entry_done (Remove which) following is_at entry None None new within (removed_if entry calls calls.index_is.here.2) refl
-          (next_fits which within (had_row undo) refl) (follows (Remove which) within (omega arith)) remove_holds) remove_ended
+          (comes within).fits (follows (Remove which) within (omega arith)) remove_holds) remove_ended
           (λ answer other not_end calls. stopped_by (Remove which) is_at (written entry) (written_leaves entry) new answer other
           (stays_if calls (remove_keeps actor entry (old.indexes number) (new.indexes number) answer calls.index_is.here other))
           (remove_stops actor old new number entry answer calls.index_is.here other not_end))
@@ -664,9 +655,9 @@ module _ {chains : Chains} {place : Place} (actor : ℕ) {undo : Undo} {room : W
         -- the newest version has no row
         pub look_gone : marked ≡ true → Back (at_stage following room) old Step
         look_gone is_marked =
-            moved room room_leaves (Key which) following is_at old (same_rows old) (next_fits which within (had_row undo) refl) (λ told h.
+            moved room room_leaves (Key which) following is_at old (same_rows old) (comes within).fits (λ told h.
             let gone = mark_of h.0 h.1.newest.code_is ∙ is_marked in
-            cleared (rows_of old) h.0 is.tells (clear_unless_row chains (rows_of old) is.tells gone h.1)) (follows (Key which) within (omega arith))
+            (comes within).holds (rows_of old) h.0 is.tells (clear_unless_row chains (rows_of old) is.tells gone h.1)) (follows (Key which) within (omega arith))
 
         abbrev OneEntry : Bool → Type 0
         OneEntry result =

@@ -14,19 +14,18 @@ use Rattle.undo_apply.specs.Stages.{FitsKeys, IsPuttingBack, PutsBack, Stops, St
 use Rattle.row_versions.specs.Calls as chain
 use Rattle.row_versions.specs.Versions as versions
 
-pub rows_await : (chains : Chains) (place : Place) (actor : ℕ) (undo : Undo) (room : WorkRoom) (old new : WorldState)
-    → IsPuttingBack chains place undo room old → AwaitsAt actor (clustered_index undo.table) old new → AwaitsIn actor undo.table old new
-rows_await chains place actor undo room old new is awaits =
-    awaits_in actor (clustered_index undo.table) undo.table old new (clustered_of_table undo.table old.schemas is.schema is.tells.there) awaits
+module _ {chains : Chains} {place : Place} {actor : ℕ} {undo : Undo} {room : WorkRoom} {old new : WorldState}
+    (is : IsPuttingBack chains place undo room old) where
+  pub rows_await : AwaitsAt actor (clustered_index undo.table) old new → AwaitsIn actor undo.table old new
+  rows_await =
+      awaits_in actor (clustered_index undo.table) undo.table old new (clustered_of_table undo.table old.schemas is.schema is.tells.there)
 
-pub key_awaits : (chains : Chains) (place : Place) (actor : ℕ) (undo : Undo) (room : WorkRoom) (old new : WorldState) (which : ℕ)
-    → (is : IsPuttingBack chains place undo room old) (stage : Stage) → room.stage ≡ stage
-    → (FitsKeys (length is.schema.keys) undo stage → which < length is.schema.keys) → AwaitsAt actor (key_index undo.table which) old new
-    → AwaitsIn actor undo.table old new
-key_awaits chains place actor undo room old new which is stage at fits awaits =
-    let within = fits (subst (λ (s : Stage). FitsKeys (length is.schema.keys) undo s) at is.fits) in
-    awaits_in actor (key_index undo.table which) undo.table old new
-    (key_of_table undo.table which old.schemas is.schema is.tells.there (omega (arith, within))) awaits
+  pub key_awaits : (which : ℕ) {stage : Stage} → room.stage ≡ stage → (FitsKeys (length is.schema.keys) undo stage → which < length is.schema.keys)
+      → AwaitsAt actor (key_index undo.table which) old new → AwaitsIn actor undo.table old new
+  key_awaits which is_at fits =
+      let within = fits (rw is_at at is.fits) in
+      awaits_in actor (key_index undo.table which) undo.table old new
+      (key_of_table undo.table which old.schemas is.schema is.tells.there (omega (arith, within)))
 
 -- ---- in memory
 

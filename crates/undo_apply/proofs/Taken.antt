@@ -50,9 +50,7 @@ module _ (newest : Version) (before : List Version) (said : ℕ → List Version
   pub one_done : (Was : List Version → Type 0) → SayBefore which Was newest before said
       → SayBefore (which + 1) (IsLagging newest before) newest before (set_said said which before)
   one_done Was says = record {
-    first = λ other less. ⊎_elim
-        (λ e. ap (λ (k : ℕ). set_said said which before k) e ∙ set_here said which before)
-        (λ differs. set_others said which before other differs ∙ says.first other (omega (arith, less, differs))) (cases_eq other which);
+    first = λ other less. let was = says.first other in grind (arith, nat_tests);
     here = rw (set_others said which before (which + 1) (omega arith)) (says.others (which + 1) (omega arith));
     others = λ other more. rw (set_others said which before other (omega (arith, more))) (says.others other (omega (arith, more)));
   }
