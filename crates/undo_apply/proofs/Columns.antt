@@ -112,14 +112,8 @@ pub record IsKeyAt (schema : Schema) (storable : IsStorable schema) (which : ℕ
   pub entry_is : (row : List Value) (primary : List ℕ)
       → entry_of schema (which + 1) row primary ≡ entry_code on.column.kind (value_in key.column row) primary
 
-one_less : (which : ℕ) → (which + 1) - 1 ≡ which
+pub one_less : (which : ℕ) → (which + 1) - 1 ≡ which
 one_less which = omega arith
-
--- one entry is one value
-pub same_column : (schema : Schema) (which : ℕ) (row other : List Value) (primary : List ℕ)
-    → value_in (column_of schema which) row ≡ value_in (column_of schema which) other
-    → entry_of schema (which + 1) row primary ≡ entry_of schema (which + 1) other primary
-same_column schema which row other primary same = rw (one_less which, same)
 
 key_in : (P : Key → Type 0) (keys : List Key) (which : ℕ) → which < length keys → All P keys → (key : Key) × (slice_get keys which ≡ Some key) × P key
 key_in P [] which within all = absurd (omega (arith, within))
@@ -192,11 +186,7 @@ module _ (chains : Chains) (place : Place) (undo : Undo) (schema : Schema) (rows
 -- an entry of versions of which one has the value is one byte
 pub one_byte : (column : ℕ) (value : Value) (versions : List Version) → list_any (λ version. has_value column value version.row) versions ≡ true
     → (mark : ℕ) × (entry_said column value versions ≡ Some (mark ∷ []))
-one_byte column value versions some = (
-  mark_code (not (has_value column value (newest versions))),
-  cond-true (list_any (λ version. has_value column value version.row) versions)
-      (Some (mark_code (not (has_value column value (newest versions))) ∷ [])) None some,
-)
+one_byte column value versions some = (mark_code (not (has_value column value (newest versions))), rw some refl)
 
 pub cleared_any : (column : ℕ) (value : Value) (before said : List Version) → list_any (λ version. has_value column value version.row) before ≡ true
     → IsCleared before said → list_any (λ version. has_value column value version.row) said ≡ true

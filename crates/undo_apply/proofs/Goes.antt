@@ -22,7 +22,7 @@ use Rattle.undo_apply.specs.Standing.{LeadsBack, was_before, IsTakenBack}
 use Rattle.undo_apply.specs.Stages.{FitsKeys, StageHolds, IsPuttingBack, ChangesOneEntry, Nears, StopsAt, IsHindered, PutsBack, Stops, LagsAt, StopsWalk}
 use Rattle.undo_apply.specs.Moves.{WentOn, WentOnOrEnded, at_stage, LooksAt, LooksOn, Ended}
 use Rattle.undo_apply.specs.declared.work_room.Stage.TheVariants.{Key, Mark, Await, Remove, Unmark, Walk, AwaitRecords, Record, Find}
-use Rattle.undo_apply.proofs.Columns.{key_at, same_column, entry_short, entry_says, one_byte, cleared_any, lagging_any, newest_any, absent_stays}
+use Rattle.undo_apply.proofs.Columns.{key_at, one_less, entry_short, entry_says, one_byte, cleared_any, lagging_any, newest_any, absent_stays}
 use Rattle.undo_apply.proofs.Columns.{newest_read, what_was, WasThere, WasNot, not_new, before_new}
 use Rattle.undo_apply.proofs.Taken.{ends, stands, with_entry, dropped, unmarked_now, passed, clear_unless_row, clear_of_same}
 use Rattle.undo_apply.proofs.Telling.{schemas_stay, rows_stay, leaves_told, leaves_rows, rows_after, pairs_after}
@@ -89,8 +89,7 @@ module _ {schema : Schema} {key : List ℕ} (which : ℕ) (storable : IsStorable
   passed_here (inl is) rest = rw is
   passed_here (inr differ) rest = go version.marked where
     apart : is_same_value (value coded) (value version) ≡ false
-    apart = false_from_ne_true (is_same_value (value coded) (value version))
-        (λ is. differ (same_column schema which coded.row version.row key (same_value (value coded) (value version) is)))
+    apart = false_from_ne_true _ (λ is. differ (rw (one_less which, same_value (value coded) (value version) is)))
 
     go : (m : Bool) → has_value (column_of schema which) (value coded) (row_shown m version.row) || some_has schema which coded rest
         ≡ some_has schema which coded rest
@@ -109,8 +108,7 @@ Writes state undo which value entry result =
 pub removed_if : {index : ℕ} {call : Index → Index → Type 0} {old new : WorldState} {holder : Option ℕ} (key : List ℕ) → Calls index call old new
     → HasGone (λ before after. after ≡ with_value key None before) holder (old.indexes index) (new.indexes index) → PutsPair index key None old new
 removed_if {index} {call} {old} {new} key c here =
-    let change : Changes index 0 None (λ before after answer. call before after) old new Done = record { index_is = c.index_is; beside = c.beside } in
-    puts_if key None change here
+    puts_if {actor = 0} {call = λ before after answer. call before after} {answer = Done} key None (record { index_is = c.index_is; beside = c.beside }) here
 
 -- a key that isn't there is removed from the pairs of an index in vain
 pub unchanged_at : (index : ℕ) (key : List ℕ) (pairs : ℕ → List Pair) (other : ℕ) → value_of key (pairs index) ≡ None
@@ -629,22 +627,22 @@ module _ {chains : Chains} {place : Place} (actor : ℕ) {undo : Undo} {room : W
       abbrev Counts : ℕ → Type 0
       Counts count = (schema : Schema) → slice_get old.schemas undo.table ≡ Some schema → count ≡ length schema.keys
 
-      pub within_key : (count : ℕ) → Counts count → which < count → which < keys
-      within_key count counted less = omega (arith, less, counted is.schema is.tells.there)
+      pub within_key : {count : ℕ} → Counts count → which < count → which < keys
+      within_key {count} counted less = omega (arith, less, counted is.schema is.tells.there)
 
       -- the keys are done
-      look_last : (count : ℕ) → Counts count → count ≤ which → (next : Stage) → FitsKeys keys undo next
+      look_last : {count : ℕ} → Counts count → count ≤ which → (next : Stage) → FitsKeys keys undo next
           → ((coded : Coded) → LagsAt chains place undo is.schema (rows_of old) room.newest.items keys coded → At (rows_of old) next)
           → steps_left keys next < 6 → Back (at_stage next room) old Step
-      look_last count counted more next fits holds near =
+      look_last {count} counted more next fits holds near =
           let all : which ≡ keys = (let fits = fitting (Key which) is_at in omega (arith, more, fits, counted is.schema is.tells.there)) in
           moved room room_leaves (Key which) next is_at old (same_rows old) fits (λ told h. holds h.0 (rw all at h.1)) (omega (arith, near))
 
-      pub look_new : (count : ℕ) → Counts count → count ≤ which → undo.kind ≡ 1 → Back (at_stage AwaitRecords room) old Step
-      look_new count counted more new = look_last count counted more AwaitRecords new (λ coded lags. (coded, lags)) (omega arith)
+      pub look_new : {count : ℕ} → Counts count → count ≤ which → undo.kind ≡ 1 → Back (at_stage AwaitRecords room) old Step
+      look_new counted more new = look_last counted more AwaitRecords new (λ coded lags. (coded, lags)) (omega arith)
 
-      pub look_kept : (count : ℕ) → Counts count → count ≤ which → Back (at_stage Record room) old Step
-      look_kept count counted more = look_last count counted more Record tt (λ coded lags. (coded, lags)) (omega arith)
+      pub look_kept : {count : ℕ} → Counts count → count ≤ which → Back (at_stage Record room) old Step
+      look_kept counted more = look_last counted more Record tt (λ coded lags. (coded, lags)) (omega arith)
 
       module _ (within : which < keys) (marked : Bool)
           (mark : (marks : Bool) (writer pointer : ℕ) (fields : List ℕ) → room.newest.items ≡ head_code marks writer pointer ++ fields → marked ≡ marks) where

@@ -16,8 +16,7 @@ pointer_stands value marked writer pointer fields is =
     let front = mark_code marked ∷ u64_bytes writer in
     let rest = u64_bytes pointer ++ fields in
     let len : length front ≡ 9 = omega (arith, length-u64_bytes writer) in
-    let all : value ≡ front ++ rest = is ∙ head_parts marked writer pointer fields in
-    ap (λ (l : List ℕ). take 8 (drop 9 l)) all ∙ (ap (take 8) (drop_at front rest 9 len) ∙ take_at (u64_bytes pointer) fields 8 (length-u64_bytes pointer))
+    rw (is, head_parts marked writer pointer fields, drop_at front rest 9 len) (take_at (u64_bytes pointer) fields 8 (length-u64_bytes pointer))
 
 pub returns-then-value-lt17 : goal.returns-then-value-lt17
 returns-then-value-lt17 c = λ marked writer pointer fields small is. absurd (omega (arith, head_long c.args.value.now marked writer pointer fields is))
