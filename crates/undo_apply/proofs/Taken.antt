@@ -1,14 +1,17 @@
 -- What keys say of a place, what the change of one entry makes of a change that is being taken back, and how that ends.
 use Rattle.std.proofs.Common.{◌≡◌, ◌≢◌, ⊎_elim, ℕ, ◌+◌, Bool, true, false, cond, List, Option, Some, refl, sym, ap, subst, ◌∙◌, arith, slice_get, inl, inr}
 use Rattle.std.proofs.Common.{◌<◌, [], ◌∷◌, None, length}
+use Rattle.std.proofs.lemmas.Bool.Decides.{nat_tests}
+use Rattle.law_stored_rows.specs.Tables.{place_in}
 use Rattle.std.specs.Prelude.{◌==◌, ◌&&◌}
 use Rattle.std.proofs.lemmas.{Bool.cases_eq, Bool.cond-true, Bool.cond-false, Bool.eq-eqb, Bool.ne_eqb, Option.slice_get_within}
-use Rattle.inno_types.specs.{declared.value.Value.Value, declared.value.Key.Key, declared.value.Schema.Schema, declared.value.Column.Column}
-use Rattle.entries.specs.Pairs.{Pair, value_of}
+use Rattle.inno_types.specs.{declared.value.Value.Value, declared.value.Key.Key, declared.value.Schema.Schema}
+use Rattle.key_codec.specs.Keys.{entry_code}
+use Rattle.entries.specs.Pairs.{value_of}
 use Rattle.row_versions.specs.{declared.kept.Kept.Kept, declared.place.Place.Place, declared.version.Version.Version}
 use Rattle.row_versions.specs.Chains.{Chains, is_same_place, Pops, newest, older}
 use Rattle.law_stored_rows.specs.{Tables.in_table, Tables.AreCodedAs, Tables.LagAt, Tables.SaysNow, Edits.clustered_index, Edits.key_index, Edits.Puts}
-use Rattle.law_stored_rows.specs.{Records.shown, Records.row_shown, Records.IsCodeOf, Records.LeadTo, Steps.PutsRecord}
+use Rattle.law_stored_rows.specs.{Records.shown, Records.IsCodeOf, Records.LeadTo, Steps.PutsRecord}
 use Rattle.law_stored_rows.specs.Entries.{TellAlike, value_in, has_value, entry_of as entry_said, TellAlikeBut}
 use Rattle.secondary.specs.Entries.{entry_of}
 use Rattle.law_stored_rows.proofs.{Tables.at, Tables.popped_here, Pairs.no_key, Pairs.value_now, Values.place_itself, Values.same_place, Values.value_itself}
@@ -22,7 +25,7 @@ use Rattle.std.specs.List.{list_any}
 use Rattle.store_api.specs.{declared.answers.Undo.Undo}
 use Rattle.store_api.specs.declared.answers.Version.{Version as Coded}
 use Rattle.undo_apply.proofs.{Telling.pairs_after}
-use Rattle.undo_apply.proofs.Columns.{IsKeyAt, key_at, column_is, entry_is, few_keys, place_is, WasThere, WasNot, newest_read, before_new, before_kept}
+use Rattle.undo_apply.proofs.Columns.{IsKeyAt, key_at, few_keys, place_is, WasThere, WasNot, newest_read, before_new, before_kept}
 use Rattle.row_codec.proofs.Once.{same_version}
 
 -- one key says something else now
@@ -40,24 +43,16 @@ module _ (newest : Version) (before : List Version) (said : ℕ → List Version
       → SayBefore which Now newest before (set_said said which versions)
   here_now Was Now versions now says = record {
     first = λ other less. set_others said which versions other (omega arith) ∙ says.first other less;
-    here = subst Now (sym (set_here said which versions)) now;
-    others =
-        λ other more. subst (λ (v : List Version). IsLagging newest before v) (sym (set_others said which versions other (omega arith)))
-        (says.others other more);
+    here = rw (set_here said which versions) now;
+    others = λ other more. rw (set_others said which versions other (omega arith)) (says.others other more);
   }
 
   pub one_done : (Was : List Version → Type 0) → SayBefore which Was newest before said
       → SayBefore (which + 1) (IsLagging newest before) newest before (set_said said which before)
   one_done Was says = record {
-    first = λ other less. ⊎_elim
-        (λ e. ap (λ (k : ℕ). set_said said which before k) e ∙ set_here said which before)
-        (λ differs. set_others said which before other differs ∙ says.first other (omega (arith, less, differs))) (cases_eq other which);
-    here =
-        subst (λ (v : List Version). IsLagging newest before v) (sym (set_others said which before (which + 1) (omega arith)))
-        (says.others (which + 1) (omega arith));
-    others =
-        λ other more. subst (λ (v : List Version). IsLagging newest before v) (sym (set_others said which before other (omega (arith, more))))
-        (says.others other (omega (arith, more)));
+    first = λ other less. let was = says.first other in grind (arith, nat_tests);
+    here = rw (set_others said which before (which + 1) (omega arith)) (says.others (which + 1) (omega arith));
+    others = λ other more. rw (set_others said which before other (omega (arith, more))) (says.others other (omega (arith, more)));
   }
 
 -- ---- what keys say of all places
@@ -73,37 +68,14 @@ pub sets_there : (chains : Chains) (place : Place) (said : ℕ → List Version)
 sets_there chains place said which versions table key value = go (key == which) (is_same_place place (at table value)) where
   go : (b t : Bool)
       → cond t (cond b versions (said key)) (in_table table chains value) ≡ cond (b && t) versions (cond t (said key) (in_table table chains value))
-  go true true = refl
-  go true false = refl
-  go false true = refl
-  go false false = refl
+  go true t = grind (arith, nat_tests)
+  go false t = refl
 
--- Without its newest version the keys say of the place what they said.
-pub but_after : (schemas : List Schema) (indexes : ℕ → List Pair) (kept : ℕ → Option Kept) (before after : Chains) (place : Place) (said : ℕ → List Version)
-    → Pops before after place → AreCodedAs schemas indexes kept after (said_but before place said) → AreCodedBut schemas indexes kept after place said
-but_after schemas indexes kept before after place said pops is =
-    said_alike schemas indexes kept after (said_but before place said) (said_but after place said) is
-    (λ table which schema key there also value. tells table which key value (is_same_place place (at table value)) refl) where
-      tells : (table which : ℕ) (key : Key) (v : Value) (t : Bool) → is_same_place place (at table v) ≡ t
-          → TellAlike key.column (cond t (said which) (in_table table before v)) (cond t (said which) (in_table table after v))
-      tells table which key v true same = λ other. refl
-      tells table which key v false apart = λ other. ap (entry_said key.column other) (sym (popped_elsewhere before after place pops (at table v) apart))
-
--- Each key may be said to say of the place what tells alike.
-pub but_alike : (schemas : List Schema) (indexes : ℕ → List Pair) (kept : ℕ → Option Kept) (chains : Chains) (place : Place) (was now : ℕ → List Version)
-    → AreCodedBut schemas indexes kept chains place was
-    → ((schema : Schema) (which : ℕ) (key : Key) → slice_get schemas place.table ≡ Some schema → slice_get schema.keys which ≡ Some key → TellAlike key.column
-    (was which) (now which)) → AreCodedBut schemas indexes kept chains place now
-but_alike schemas indexes kept chains place was now is alike =
-    said_alike schemas indexes kept chains (said_but chains place was) (said_but chains place now) is
-    (λ table which schema key there also value. tells table which schema key there also value (is_same_place place (at table value)) refl) where
-      tells : (table which : ℕ) (schema : Schema) (key : Key) → slice_get schemas table ≡ Some schema → slice_get schema.keys which ≡ Some key
-          → (v : Value) (t : Bool) → is_same_place place (at table v) ≡ t
-          → TellAlike key.column (cond t (was which) (in_table table chains v)) (cond t (now which) (in_table table chains v))
-      tells table which schema key there also v true same =
-          let one : place.table ≡ table = ap (λ (p : Place). p.table) (same_place place (at table v) same) in
-          alike schema which key (subst (λ (t : ℕ). slice_get schemas t ≡ Some schema) (sym one) there) also
-      tells table which schema key there also v false apart = λ other. refl
+-- what holds of both ends of a choice holds of the choice
+by_test : (R : List Version → List Version → Type 0) (t : Bool) (a b c d : List Version) → (t ≡ true → R a b) → (t ≡ false → R c d)
+    → R (cond t a c) (cond t b d)
+by_test R true a b c d first second = first refl
+by_test R false a b c d first second = second refl
 
 -- ---- what the change of one entry makes of a change that is being taken back
 
@@ -145,16 +117,9 @@ module _ (column : ℕ) (value : Value) (first : Version) (before : List Version
   unmark_to has said (inl same) = λ other apart. ap (entry_said column other) same
   unmark_to has said (inr (away, none, same)) = λ other apart. ap (entry_said column other) same ∙ unmarked column value away before has none other apart
 
-shown_has : (column : ℕ) (coded : Coded) → coded.marked ≡ false → has_value column (value_in column coded.row) (row_shown coded.marked coded.row) ≡ true
-shown_has column coded plain =
-    ap (λ (m : Bool). has_value column (value_in column coded.row) (row_shown m coded.row)) plain ∙ value_itself (value_in column coded.row)
-
-first_has : (column : ℕ) (row : List Value) (found : Option (List Value)) → found ≡ Some row → has_value column (value_in column row) found ≡ true
-first_has column row found is = ap (has_value column (value_in column row)) is ∙ value_itself (value_in column row)
-
 -- ---- all keys
 
-module _ (chains : Chains) (place : Place) (undo : Undo) (schema : Schema) (rows : Rows) (tells : TellsOf undo schema place rows.schemas) where
+module _ (chains : Chains) {place : Place} {undo : Undo} {schema : Schema} (rows : Rows) (tells : TellsOf undo schema place rows.schemas) where
   abbrev before : List Version
   before = versions_before chains place
 
@@ -165,221 +130,174 @@ module _ (chains : Chains) (place : Place) (undo : Undo) (schema : Schema) (rows
   abbrev pub with_entry : ℕ → Coded → Option (List ℕ) → Rows
   with_entry which version value = record rows { pairs = pairs_after (key_index undo.table which) (entry_at which version) value rows.pairs }
 
-  records_same : (which : ℕ) (version : Coded) (value : Option (List ℕ)) → which < length schema.keys
-      → (with_entry which version value).pairs (clustered_index undo.table) ≡ rows.pairs (clustered_index undo.table)
-  records_same which version value within =
-      let few = few_keys schema tells.storable in
-      let differs : clustered_index undo.table ≢ key_index undo.table which =
-      λ same. no_key undo.table undo.table which (omega (arith, within, few)) (sym same) in
-      cond-false (clustered_index undo.table == key_index undo.table which) _ (rows.pairs (clustered_index undo.table))
-      (ne_eqb (clustered_index undo.table) (key_index undo.table which) differs)
-
   newest_same : (which : ℕ) (version : Coded) (value : Option (List ℕ)) (bytes : List ℕ) (coded : Coded) → which < length schema.keys
       → IsNewest undo schema rows.pairs rows.kept bytes coded → IsNewest undo schema (with_entry which version value).pairs rows.kept bytes coded
   newest_same which version value bytes coded within is = record {
-    there = ap (value_of undo.key) (records_same which version value within) ∙ is.there;
+    there = rw (ne_eqb (clustered_index undo.table) (key_index undo.table which)
+        (λ same. no_key undo.table undo.table which (omega (arith, within, few_keys schema tells.storable)) (sym same))) is.there;
     code_is = is.code_is;
     before = is.before;
   }
 
   -- the entry of a record of the place is changed
-  entry_put : (said : ℕ → List Version) (which : ℕ) (it : IsKeyAt schema which) (indexed : Column) (version : Coded) (bytes : List ℕ)
-      (versions : List Version) (value : Option (List ℕ)) → slice_get schema.columns it.key.column ≡ Some indexed
-      → AreCodedBut rows.schemas rows.pairs rows.kept chains place said → IsCodeOf schema undo.key bytes version
-      → TellAlikeBut (value_in it.key.column version.row) it.key.column (said which) versions → entry_said it.key.column (value_in it.key.column version.row)
-      versions ≡ value
+  entry_put : (said : ℕ → List Version) (which : ℕ) (it : IsKeyAt schema tells.storable which) (version : Coded) (bytes : List ℕ) (versions : List Version)
+      (value : Option (List ℕ)) → AreCodedBut rows.schemas rows.pairs rows.kept chains place said → IsCodeOf schema undo.key bytes version
+      → TellAlikeBut (value_in it.key.column version.row) it.key.column (said which) versions
+      → entry_said it.key.column (value_in it.key.column version.row) versions ≡ value
       → AreCodedBut rows.schemas (with_entry which version value).pairs rows.kept chains place (set_said said which versions)
-  entry_put said which it indexed version bytes versions value indexed_is are code alike told =
+  entry_put said which it version bytes versions value are code alike told =
       let here = place_is undo schema place rows.schemas tells bytes version code in
-      let entry = entry_is schema which it.key indexed version undo.key it.key_is indexed_is in
-      let changed : Puts rows.pairs (with_entry which version value).pairs (key_index undo.table which) (entry_at which version) value = λ other. refl in
-      let Change : List ℕ → Option (List ℕ) → Type 0 = λ e v. Puts rows.pairs (with_entry which version value).pairs (key_index undo.table which) e v in
-      let puts =
-      subst (λ (e : List ℕ). Change e (entry_said it.key.column (value_in it.key.column version.row) versions)) entry
-      (subst (λ (v : Option (List ℕ)). Change (entry_at which version) v) (sym told) changed) in
+      let column = it.key.column in
+      let puts : Puts rows.pairs (with_entry which version value).pairs (key_index undo.table which)
+          (entry_code it.on.column.kind (value_in column version.row) undo.key) (entry_said column (value_in column version.row) versions)
+      = rw (← it.entry_is version.row undo.key, told) (λ other. refl) in
       let was = said_but chains place said in
       let now = said_but chains place (set_said said which versions) in
       let Alike : List Version → Type 0 = λ v. TellAlikeBut (value_in it.key.column version.row) it.key.column v versions in
       let alike_there = subst (λ (p : Place). Alike (was p.table which p.key)) (sym here) (subst Alike (sym (says_place chains place said which)) alike) in
-      entry_changed rows.schemas rows.pairs (with_entry which version value).pairs rows.kept chains undo.table schema which it.key indexed undo.key bytes
-      version was now versions
-      are tells.there it.key_is indexed_is code alike_there puts
+      entry_changed rows.schemas rows.pairs (with_entry which version value).pairs rows.kept chains undo.table schema which it.key it.on.column undo.key bytes
+      version was now versions are tells.there it.key_is it.on.there code alike_there puts
       (subst (λ (p : Place). SaysNow was now p which versions) (sym here) (sets_there chains place said which versions))
 
   abbrev UnderWay : Rows → List ℕ → Coded → ℕ → (List Version → Type 0) → Type 0
   UnderWay now bytes coded done Holds = IsUnderWay chains place undo schema now bytes coded done Holds
 
   -- The newest row's entry is marked, or removed.
-  pub dropped : (bytes : List ℕ) (coded : Coded) (which : ℕ) (found : Bool) → which < length schema.keys
+  pub dropped : {bytes : List ℕ} {coded : Coded} (which : ℕ) (found : Bool) → which < length schema.keys
       → UnderWay rows bytes coded which (IsLagging (shown coded) before) → coded.marked ≡ false → some_has schema which coded before ≡ found
       → UnderWay (with_entry which coded (cond found (Some (1 ∷ [])) None)) bytes coded which (IsCleared before)
-  dropped bytes coded which found within way plain found_is =
-      let it = key_at schema which within in
-      let on = it.on tells.storable.column.kind tells.storable.keys in
-      let column = it.key.column in
-      let value = value_in column coded.row in
-      let drop = drop_to column value (shown coded) before (shown_has column coded plain) (way.said which) way.says.here in
-      let same : some_has schema which coded before ≡ list_any (λ version. has_value column value version.row) before
-      = ap (λ (c : ℕ). list_any (λ version. has_value c (value_in c coded.row) version.row) before) (column_is schema which it.key it.key_is) in
-      let told : entry_said column value drop.versions ≡ cond found (Some (1 ∷ [])) None
-      = drop.told ∙ ap (λ (b : Bool). cond b (Some (1 ∷ [])) None) (sym same ∙ found_is) in
+  dropped {bytes} {coded} which found within way plain found_is =
+      let it = key_at schema tells.storable which within in
+      let value = value_in it.key.column coded.row in
+      let drop = drop_to it.key.column value (shown coded) before (rw (plain, value_itself value)) (way.said which) way.says.here in
+      let told = drop.told ∙ ap (λ (b : Bool). cond b (Some (1 ∷ [])) None) (rw it.column_is at found_is) in
       record {
         newest = newest_same which coded (cond found (Some (1 ∷ [])) None) bytes coded within way.newest;
         said = set_said way.said which drop.versions;
-        coded_but =
-            entry_put way.said which it on.column coded bytes drop.versions (cond found (Some (1 ∷ [])) None) on.there way.coded_but way.newest.code_is
-            drop.alike told;
+        coded_but = entry_put way.said which it coded bytes drop.versions _ way.coded_but way.newest.code_is drop.alike told;
         says = here_now (shown coded) before way.said which (IsLagging (shown coded) before) (IsCleared before) drop.versions drop.cleared way.says;
       }
 
   -- The entry of the row before is unmarked.
-  pub unmarked_now : (bytes : List ℕ) (coded : Coded) (which : ℕ) (was : WasThere undo schema before) → which < length schema.keys
+  pub unmarked_now : {bytes : List ℕ} {coded : Coded} (which : ℕ) (was : WasThere undo schema before) → which < length schema.keys
       → UnderWay rows bytes coded which (IsCleared before)
       → UnderWay (with_entry which was.former (Some (0 ∷ []))) bytes coded (which + 1) (IsLagging (shown coded) before)
-  unmarked_now bytes coded which was within way =
-      let it = key_at schema which within in
-      let on = it.on tells.storable.column.kind tells.storable.keys in
+  unmarked_now {bytes} {coded} which was within way =
+      let it = key_at schema tells.storable which within in
       let column = it.key.column in
       let value = value_in column was.former.row in
-      let has = first_has column was.former.row (newest before) was.first in
+      let has : has_value column value (newest before) ≡ true = rw (was.first, value_itself value) in
       record {
         newest = newest_same which was.former (Some (0 ∷ [])) bytes coded within way.newest;
         said = set_said way.said which before;
-        coded_but = entry_put way.said which it on.column was.former undo.value before (Some (0 ∷ [])) on.there way.coded_but was.code_is
+        coded_but = entry_put way.said which it was.former undo.value before (Some (0 ∷ [])) way.coded_but was.code_is
             (unmark_to column value (shown coded) before has (way.said which) way.says.here) (is_unmarked column value before has);
         says = one_done (shown coded) before way.said which (IsCleared before) way.says;
       }
 
   -- what a key says may be said otherwise
-  said_now : (bytes : List ℕ) (coded : Coded) (which done : ℕ) (Was Now : List Version → Type 0) (versions : List Version)
+  said_now : {bytes : List ℕ} {coded : Coded} {which done : ℕ} {Was Now : List Version → Type 0} (versions : List Version)
       (way : UnderWay rows bytes coded which Was) → ((key : Key) → slice_get schema.keys which ≡ Some key → TellAlike key.column (way.said which) versions)
       → SayBefore done Now (shown coded) before (set_said way.said which versions) → UnderWay rows bytes coded done Now
-  said_now bytes coded which done Was Now versions way alike says = record {
+  said_now {bytes} {coded} {which} {done} {Was} {Now} versions way alike says = record {
     newest = way.newest;
     said = set_said way.said which versions;
-    coded_but = but_alike rows.schemas rows.pairs rows.kept chains place way.said (set_said way.said which versions) way.coded_but
-        (λ other at_key key there key_is. ⊎_elim (λ same.
-        let table : place.table ≡ undo.table = tells.table_is in
-        let there_too : slice_get rows.schemas undo.table ≡ Some other = subst (λ (t : ℕ). slice_get rows.schemas t ≡ Some other) table there in
-        let one : schema ≡ other = cc (there_too, tells.there) in
-        let key_too : slice_get schema.keys which ≡ Some key =
-        subst (λ (w : ℕ). slice_get schema.keys w ≡ Some key) same (subst (λ (s : Schema). slice_get s.keys at_key ≡ Some key) (sym one) key_is) in
-        subst (λ (w : ℕ). TellAlike key.column (way.said w) (set_said way.said which versions w)) (sym same)
-        (subst (λ (v : List Version). TellAlike key.column (way.said which) v) (sym (set_here way.said which versions)) (alike key key_too)))
-        (λ differs. subst (λ (v : List Version). TellAlike key.column (way.said at_key) v) (sym (set_others way.said which versions at_key differs))
-        (λ value. refl)) (cases_eq at_key which));
+    coded_but =
+        said_alike rows.schemas rows.pairs rows.kept chains (said_but chains place way.said) (said_but chains place (set_said way.said which versions))
+        way.coded_but (λ table number other key there key_is value. by_test (TellAlike key.column) (is_same_place place (at table value)) _ _ _ _ (λ same.
+        let table_is : table ≡ undo.table = sym (ap (λ (p : Place). p.table) (same_place place (at table value) same)) ∙ tells.table_is in
+        let there_too = rw table_is at there in
+        let one : other ≡ schema = cc (there_too, tells.there) in
+        ⊎_elim (λ e. rw e (rw (set_here way.said which versions) (alike key (rw (one, e) at key_is))))
+        (λ differs. rw (set_others way.said which versions number differs) (λ v. refl)) (cases_eq number which)) (λ apart v. refl));
     says = says;
   }
 
   -- Where there was no row before, a cleared key is done.
-  pub passed : (bytes : List ℕ) (coded : Coded) (which : ℕ) → WasNot undo before → UnderWay rows bytes coded which (IsCleared before)
+  pub passed : {bytes : List ℕ} {coded : Coded} {which : ℕ} → WasNot undo before → UnderWay rows bytes coded which (IsCleared before)
       → UnderWay rows bytes coded (which + 1) (IsLagging (shown coded) before)
-  passed bytes coded which was way =
-      said_now bytes coded which (which + 1) (IsCleared before) (IsLagging (shown coded) before) before way
+  passed {bytes} {coded} {which} was way =
+      said_now before way
       (λ key key_is. alike key (way.said which) way.says.here) (one_done (shown coded) before way.said which (IsCleared before) way.says) where
         alike : (key : Key) (said : List Version) → IsCleared before said → TellAlike key.column said before
         alike key said (inl same) = λ value. ap (entry_said key.column value) same
         alike key said (inr (away, none, same)) = λ value. ap (entry_said key.column value) same ∙ sym (without_row key.column away before none was.first value)
 
-  here_too : (bytes : List ℕ) (coded : Coded) (which : ℕ) (Was Now : List Version → Type 0) (way : UnderWay rows bytes coded which Was)
-      → (Was (way.said which) → Now (way.said which)) → UnderWay rows bytes coded which Now
-  here_too bytes coded which Was Now way step =
-      let says = way.says in
-      record {
-        newest = way.newest;
-        said = way.said;
-        coded_but = way.coded_but;
-        says = record { first = says.first; here = step says.here; others = says.others };
-      }
+  here_too : {bytes : List ℕ} {coded : Coded} {which : ℕ} {Was Now : List Version → Type 0} (way : UnderWay rows bytes coded which Was)
+      → Now (way.said which) → UnderWay rows bytes coded which Now
+  here_too way here = record {
+    newest = way.newest;
+    said = way.said;
+    coded_but = way.coded_but;
+    says = record { first = way.says.first; here = here; others = way.says.others };
+  }
 
   -- Where the newest version has no row, the key is clear.
-  pub clear_unless_row : (bytes : List ℕ) (coded : Coded) (which : ℕ) → coded.marked ≡ true
+  pub clear_unless_row : {bytes : List ℕ} {coded : Coded} {which : ℕ} → coded.marked ≡ true
       → UnderWay rows bytes coded which (IsLagging (shown coded) before) → UnderWay rows bytes coded which (IsCleared before)
-  clear_unless_row bytes coded which is_marked way =
-      here_too bytes coded which (IsLagging (shown coded) before) (IsCleared before) way (clear (way.said which)) where
-        none : row_shown coded.marked coded.row ≡ None
-        none = ap (λ (m : Bool). row_shown m coded.row) is_marked
-
-        clear : (said : List Version) → IsLagging (shown coded) before said → IsCleared before said
-        clear said (inl cleared) = cleared
-        clear said (inr same) = inr (shown coded, none, same)
+  clear_unless_row {bytes} {coded} {which} is_marked way =
+      here_too way (⊎_elim (λ cleared. cleared) (λ same. inr (shown coded, rw is_marked, same)) way.says.here)
 
   -- Where the newest row has the value of the row before, the key is clear.
-  pub clear_of_same : (bytes : List ℕ) (coded : Coded) (which : ℕ) (was : WasThere undo schema before) → which < length schema.keys → coded.marked ≡ false
+  pub clear_of_same : {bytes : List ℕ} {coded : Coded} {which : ℕ} (was : WasThere undo schema before) → coded.marked ≡ false
       → value_in (column_of schema which) was.former.row ≡ value_in (column_of schema which) coded.row
       → UnderWay rows bytes coded which (IsLagging (shown coded) before) → UnderWay rows bytes coded which (IsCleared before)
-  clear_of_same bytes coded which was within plain same way = by_said (way.said which) refl way.says.here where
-    shown_row : row_shown coded.marked coded.row ≡ Some coded.row
-    shown_row = ap (λ (m : Bool). row_shown m coded.row) plain
-
-    alike : (key : Key) → slice_get schema.keys which ≡ Some key → TellAlike key.column (shown coded ∷ before) before
-    alike key key_is =
-        let column = column_is schema which key key_is in
-        let one : value_in key.column was.former.row ≡ value_in key.column coded.row =
-        subst (λ (c : ℕ). value_in c was.former.row ≡ value_in c coded.row) column same in
-        λ value. sym (value_again key.column was.former.row (shown coded) before coded.row was.first shown_row one value)
-
-    by_said : (said : List Version) → way.said which ≡ said → IsLagging (shown coded) before said → UnderWay rows bytes coded which (IsCleared before)
-    by_said said is (inl cleared) =
-        here_too bytes coded which (IsLagging (shown coded) before) (IsCleared before) way (λ lags. subst (IsCleared before) (sym is) cleared)
-    by_said said is (inr with_newest) =
-        said_now bytes coded which which (IsLagging (shown coded) before) (IsCleared before) before way
-        (λ key key_is. subst (λ (v : List Version). TellAlike key.column v before) (sym (is ∙ with_newest)) (alike key key_is))
-        (here_now (shown coded) before way.said which (IsLagging (shown coded) before) (IsCleared before) before (inl refl) way.says)
+  clear_of_same {bytes} {coded} {which} was plain same way =
+      ⊎_elim (λ (cleared : IsCleared before (way.said which)). here_too way cleared)
+      (λ (with_newest : way.said which ≡ shown coded ∷ before). said_now before way (λ key key_is. rw with_newest (alike key key_is))
+      (here_now (shown coded) before way.said which (IsLagging (shown coded) before) (IsCleared before) before (inl refl) way.says)) way.says.here where
+        alike : (key : Key) → slice_get schema.keys which ≡ Some key → TellAlike key.column (shown coded ∷ before) before
+        alike key key_is value =
+            sym (value_again key.column was.former.row (shown coded) before coded.row was.first (rw plain) (rw key_is at same) value)
 
 -- ---- the record is put back last
 
-module _ (chains : Chains) (place : Place) (undo : Undo) (schema : Schema) (rows : Rows) (tells : TellsOf undo schema place rows.schemas) where
+module _ (chains : Chains) {place : Place} {undo : Undo} {schema : Schema} (rows : Rows) (tells : TellsOf undo schema place rows.schemas) where
   -- the rows once the record is what it was before
   abbrev pub put_back : Rows
   put_back = record rows { pairs = pairs_after (clustered_index undo.table) undo.key (was_before undo) rows.pairs }
 
-  step : (bytes : List ℕ) (coded : Coded) (value : Option (List ℕ)) → IsCodeOf schema undo.key bytes coded → was_before undo ≡ value
-      → PutsRecord rows.schemas rows.pairs put_back.pairs undo.table schema undo.key bytes coded value
-  step bytes coded value code now =
-      let Put : Option (List ℕ) → Type 0 = λ o. Puts rows.pairs put_back.pairs (clustered_index undo.table) undo.key o in
-      let puts : Put (was_before undo) = λ other. refl in
-      record { there = tells.there; code_is = code; puts = subst Put now puts }
-
-  -- the record is taken back where its pointer leads to what was before
+  -- the record is taken back where its pointer leads to what was before, and the keys say of the place what they said
   taken_back : (after : Chains) (bytes : List ℕ) (coded : Coded) (said : ℕ → List Version) → IsNewest undo schema rows.pairs rows.kept bytes coded
       → AreCodedBut rows.schemas rows.pairs rows.kept chains place said → Pops chains after place
-      → LeadsBack undo rows.kept coded.pointer → AreCodedBut rows.schemas put_back.pairs rows.kept after place said
-  taken_back after bytes coded said is are pops (inl new) =
-      but_after rows.schemas put_back.pairs rows.kept chains after place said pops
-      (record_removed rows.schemas rows.pairs put_back.pairs rows.kept chains after (said_but chains place said) undo.table schema undo.key bytes coded are
-      (step bytes coded None is.code_is (before_new undo new.0)) is.there new.1
-      (subst (λ (p : Place). Pops chains after p) (sym (place_is undo schema place rows.schemas tells bytes coded is.code_is)) pops))
-  taken_back after bytes coded said is are pops (inr (kind, leads, former, keeps, same)) =
-      but_after rows.schemas put_back.pairs rows.kept chains after place said pops
-      (record_taken_back rows.schemas rows.pairs put_back.pairs rows.kept chains after (said_but chains place said) undo.table schema undo.key bytes coded are
-      former (step bytes coded (Some former.bytes) is.code_is (before_kept undo kind ∙ ap Some (sym same))) is.there leads keeps
-      (subst (λ (p : Place). Pops chains after p) (sym (place_is undo schema place rows.schemas tells bytes coded is.code_is)) pops))
+      → AreCodedBut rows.schemas put_back.pairs rows.kept after place said
+  taken_back after bytes coded said is are pops =
+      said_alike rows.schemas put_back.pairs rows.kept after (said_but chains place said) (said_but after place said) (go is.before)
+      (λ table which schema key there also value. by_test (TellAlike key.column) (is_same_place place (at table value)) _ _ _ _ (λ same other. refl)
+      (λ apart other. ap (entry_said key.column other) (sym (popped_elsewhere chains after place pops (at table value) apart)))) where
+        step : (value : Option (List ℕ)) → was_before undo ≡ value → PutsRecord rows.schemas rows.pairs put_back.pairs undo.table schema undo.key bytes coded value
+        step value now = record { there = tells.there; code_is = is.code_is; puts = rw (← now) (λ other. refl) }
+
+        there : Pops chains after (place_in undo.table schema coded.row)
+        there = subst (λ (p : Place). Pops chains after p) (sym (place_is undo schema place rows.schemas tells bytes coded is.code_is)) pops
+
+        go : LeadsBack undo rows.kept coded.pointer → AreCodedAs rows.schemas put_back.pairs rows.kept after (said_but chains place said)
+        go (inl new) =
+            record_removed rows.schemas rows.pairs put_back.pairs rows.kept chains after (said_but chains place said) undo.table schema undo.key bytes coded
+            are (step None (before_new undo new.0)) is.there new.1 there
+        go (inr (kind, leads, former, keeps, same)) =
+            record_taken_back rows.schemas rows.pairs put_back.pairs rows.kept chains after (said_but chains place said) undo.table schema undo.key bytes
+            coded are former (step (Some former.bytes) (before_kept undo kind ∙ ap Some (sym same))) is.there leads keeps there
 
   -- Once all keys say the versions before, all is what it was without the newest version.
-  pub ends : (bytes : List ℕ) (coded : Coded)
+  pub ends : {bytes : List ℕ} {coded : Coded}
       → IsUnderWay chains place undo schema rows bytes coded (length schema.keys) (IsLagging (shown coded) (versions_before chains place))
       → (after : Chains) → Pops chains after place → IsTakenBack after undo put_back
-  ends bytes coded way after pops = record {
+  ends {bytes} {coded} way after pops = record {
     all =
         change_over rows.schemas put_back.pairs rows.kept after place (said_but after place way.said)
-        (taken_back after bytes coded way.said way.newest way.coded_but pops way.newest.before) (lags_there after place way.said)
+        (taken_back after bytes coded way.said way.newest way.coded_but pops) (lags_there after place way.said)
         (λ which other key there key_is value.
-        let there_too : slice_get rows.schemas undo.table ≡ Some other = subst (λ (t : ℕ). slice_get rows.schemas t ≡ Some other) tells.table_is there in
+        let there_too = rw tells.table_is at there in
         let one : other ≡ schema = cc (there_too, tells.there) in
-        let key_too : slice_get schema.keys which ≡ Some key = subst (λ (s : Schema). slice_get s.keys which ≡ Some key) one key_is in
-        let within : which < length schema.keys = slice_get_within schema.keys which key key_too in
+        let within : which < length schema.keys = slice_get_within schema.keys which key (rw one at key_is) in
         ap (entry_said key.column value) (says_place after place way.said which ∙ way.says.first which within ∙ sym (popped_here chains after place pops)));
     there =
-        ap (value_of undo.key) (cond-true (clustered_index undo.table == clustered_index undo.table) _ (rows.pairs (clustered_index undo.table))
-        (eq-eqb (clustered_index undo.table) (clustered_index undo.table) refl))
-        ∙ value_now undo.key (was_before undo) (rows.pairs (clustered_index undo.table)) (way.coded_but.clustered.tables undo.table schema tells.there).rising;
+        rw (eq-eqb (clustered_index undo.table) (clustered_index undo.table) refl)
+        (value_now undo.key (was_before undo) (rows.pairs (clustered_index undo.table)) (way.coded_but.clustered.tables undo.table schema tells.there).rising);
   }
 
 -- ---- a record that stands is not what it was before
-
-longer : (first : Version) (rest : List Version) → rest ≡ first ∷ rest → ⊥
-longer first rest is = absurd (omega (arith, ap length is))
 
 stands_yet : (undo : Undo) (schema : Schema) (kept : ℕ → Option Kept) (bytes : List ℕ) (coded : Coded) (before : List Version)
     → IsCodeOf schema undo.key bytes coded → LeadTo schema undo.key kept coded.pointer before → LeadsBack undo kept coded.pointer
@@ -387,15 +305,12 @@ stands_yet : (undo : Undo) (schema : Schema) (kept : ℕ → Option Kept) (bytes
 stands_yet undo schema kept bytes coded before code leads_on (inl new) same = let none : Some bytes ≡ None = same ∙ before_new undo new.0 in cc
 stands_yet undo schema kept bytes coded before code leads_on (inr (kind, leads, former, keeps, kept_is)) same =
     let some : Some bytes ≡ Some undo.value = same ∙ before_kept undo kind in
-    let one_value : bytes ≡ former.bytes = cc (some, kept_is) in
+    let one_value : former.bytes ≡ bytes = cc (some, kept_is) in
     let read = pointer_followed schema undo.key kept coded.pointer before former leads_on leads keeps in
-    let code_too = subst (λ (b : List ℕ). IsCodeOf schema undo.key b former.version) (sym one_value) read.0 in
-    let one : former.version ≡ coded =
-    same_version schema former.version coded undo.key bytes code_too.numbers code.numbers code_too.record_is code.record_is in
-    let behind : LeadTo schema undo.key kept coded.pointer (older before) =
-    subst (λ (c : Coded). LeadTo schema undo.key kept c.pointer (older before)) one read.2 in
-    let twice : older before ≡ before = one_lead schema undo.key kept coded.pointer (older before) before behind leads_on in
-    longer (shown former.version) (older before) (twice ∙ read.1)
+    let too = rw one_value at read.0 in
+    let one : former.version ≡ coded = same_version schema former.version coded undo.key bytes too.numbers code.numbers too.record_is code.record_is in
+    let twice = one_lead schema undo.key kept coded.pointer (older before) before (rw one at read.2) leads_on in
+    absurd (omega (arith, ap length (twice ∙ read.1)))
 
 pub stands : (chains : Chains) (place : Place) (undo : Undo) (schema : Schema) (rows : Rows) (bytes : List ℕ) (coded : Coded) (done : ℕ)
     (Holds : List Version → Type 0) → TellsOf undo schema place rows.schemas → IsUnderWay chains place undo schema rows bytes coded done Holds

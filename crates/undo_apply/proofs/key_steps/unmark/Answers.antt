@@ -1,5 +1,4 @@
-use Rattle.std.proofs.Common.{ℕ, None, subst}
-use Rattle.row_changes.specs.Awaited.{AwaitsAt}
+use Rattle.std.proofs.Common.{None}
 use Rattle.row_changes.proofs.Awaited.{awaits_at, replace_with_here}
 use Rattle.undo_apply.proofs.Goes.{unmark_step, unmark_unwritten}
 use Rattle.undo_apply.proofs.key_steps.unmark.Goals as goal
@@ -20,6 +19,6 @@ returns-clause-awaits g c =
     let old = g.W.World.state c.args.world.now in
     let new = g.W.World.state c.replace-answer.new.self in
     let index = c.entries_of.result in
-    subst (λ (i : ℕ). AwaitsAt c.args.actor i old new) c.entries_of.ensures (awaits_at c.args.actor index _ old new c.replace-answer.ensures.index_is
+    rw (← c.entries_of.ensures) (awaits_at c.args.actor index _ old new c.replace-answer.ensures.index_is
     (replace_with_here None c.args.actor c.entry.result.now c.args.room.now.unmarked (old.indexes index) (new.indexes index) c.replace-answer.result
     c.replace-answer.ensures.index_is.here))

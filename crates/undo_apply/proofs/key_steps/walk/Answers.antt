@@ -1,8 +1,8 @@
-use Rattle.store_api.specs.declared.moves.Move.TheVariants.{Step, Again, Failed, Bad}
+use Rattle.store_api.specs.declared.moves.Move.TheVariants.{Again, Failed, Bad}
 use Rattle.row_changes.proofs.Changing.{unchanged_stays}
-use Rattle.undo_apply.specs.{declared.work_room.Stage.TheVariants.Walk, declared.work_room.Stage.TheVariants.Await, Moves.at_stage}
+use Rattle.undo_apply.specs.declared.work_room.Stage.TheVariants.{Walk}
 use Rattle.undo_apply.proofs.{Telling.schemas_stay, Columns.has_key_at}
-use Rattle.undo_apply.proofs.Goes.{fitting, put_as, walk_pointer, walk_over, walk_stopped, walk_looks}
+use Rattle.undo_apply.proofs.Goes.{fitting, walk_pointer, walk_over, walk_stopped, walk_looks}
 use Rattle.undo_apply.proofs.key_steps.walk.Goals as goal
 
 pub value-requires-clause-pointer : goal.value-requires-clause-pointer
@@ -13,9 +13,7 @@ look_at_version-requires g c =
     let old = g.W.World.state c.args.world.now in
     let new = g.W.World.state c.value.new.self in
     let is = c.requires.under_way.2 in
-    let within =
-    fitting 0 is (Walk c.args.which c.args.pointer)
-    c.requires.stage in
+    let within = fitting 0 is (Walk c.args.which c.args.pointer) c.requires.stage in
     has_key_at old.schemas new c.args.undo.now is.schema c.requires.under_way.1 c.args.which (schemas_stay (unchanged_stays old new c.value.ensures.rest))
     is.tells within
 
@@ -28,10 +26,8 @@ returns-in-Ok-true-clause-puts g c = λ chains place actor is.
 pub returns-in-Ok-false-clause-puts : goal.returns-in-Ok-false-clause-puts
 returns-in-Ok-false-clause-puts g c = λ chains place actor is.
     let shows = rw c.in-Ok-false.field-0-test at c.in-Ok-false.ensures.answer in
-    put_as actor is
-    (at_stage (Await c.args.which) (record c.args.room.now { older = c.value.new.into })) c.go_to.new.room (g.W.World.state c.value.new.self) Step
-    c.go_to.result c.go_to.ensures.step c.go_to.ensures.room (walk_over actor is c.args.which c.args.pointer c.requires.stage
-    c.value.new.into c.value.ensures.room (g.W.World.state c.value.new.self) c.value.ensures.rest shows.0)
+    rw (c.go_to.ensures.step, c.go_to.ensures.room) (walk_over actor is c.args.which c.args.pointer c.requires.stage c.value.new.into c.value.ensures.room
+    (g.W.World.state c.value.new.self) c.value.ensures.rest shows.0)
 
 pub returns-in-Err-Failed-clause-puts : goal.returns-in-Err-Failed-clause-puts
 returns-in-Err-Failed-clause-puts g c = λ chains place actor is.

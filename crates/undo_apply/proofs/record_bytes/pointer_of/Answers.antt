@@ -1,4 +1,4 @@
-use Rattle.std.proofs.Common.{arith, ◌≡◌, ℕ, ◌^◌, ◌<◌, ◌≤◌, Bool, List, ◌∷◌, ◌++◌, length, length-append, take, drop, sym, ap, ◌∙◌}
+use Rattle.std.proofs.Common.{arith, ◌≡◌, ℕ, ◌≤◌, Bool, List, ◌∷◌, ◌++◌, length, length-append, take, drop, sym, ap, ◌∙◌}
 use Rattle.std.proofs.lemmas.List.{take_at, drop_at}
 use Rattle.key_codec.specs.Numbers.{u64_bytes}
 use Rattle.key_codec.proofs.{Lengths.length-u64_bytes, Once.same_u64}
@@ -16,25 +16,16 @@ pointer_stands value marked writer pointer fields is =
     let front = mark_code marked ∷ u64_bytes writer in
     let rest = u64_bytes pointer ++ fields in
     let len : length front ≡ 9 = omega (arith, length-u64_bytes writer) in
-    let all : value ≡ front ++ rest = is ∙ head_parts marked writer pointer fields in
-    ap (λ (l : List ℕ). take 8 (drop 9 l)) all ∙ (ap (take 8) (drop_at front rest 9 len) ∙ take_at (u64_bytes pointer) fields 8 (length-u64_bytes pointer))
-
-pointer_there : (value : List ℕ) (marked : Bool) (writer pointer : ℕ) (fields : List ℕ) (read : ℕ) → read < 2 ^ 64
-    → take 8 (drop 9 value) ≡ u64_bytes read → pointer < 2 ^ 64 → value ≡ head_code marked writer pointer ++ fields → read ≡ pointer
-pointer_there value marked writer pointer fields read small_too read_is small is =
-    same_u64 read pointer small_too small (sym read_is ∙ pointer_stands value marked writer pointer fields is)
-
-no_pointer : (value : List ℕ) (marked : Bool) (writer pointer : ℕ) (fields : List ℕ) → ((n : ℕ) → take 8 (drop 9 value) ≡ u64_bytes n → ⊥)
-    → value ≡ head_code marked writer pointer ++ fields → ⊥
-no_pointer value marked writer pointer fields none is = none pointer (pointer_stands value marked writer pointer fields is)
+    rw (is, head_parts marked writer pointer fields, drop_at front rest 9 len) (take_at (u64_bytes pointer) fields 8 (length-u64_bytes pointer))
 
 pub returns-then-value-lt17 : goal.returns-then-value-lt17
 returns-then-value-lt17 c = λ marked writer pointer fields small is. absurd (omega (arith, head_long c.args.value.now marked writer pointer fields is))
 
 pub returns-in-Some : goal.returns-in-Some
-returns-in-Some c =
-    λ marked writer pointer fields small is. pointer_there c.args.value.now marked writer pointer fields c.in-Some.pointer (omega arith)
-    c.in-Some.ensures.found small is
+returns-in-Some c = λ marked writer pointer fields small is.
+    same_u64 c.in-Some.pointer pointer (omega arith) small
+    (sym c.in-Some.ensures.found ∙ pointer_stands c.args.value.now marked writer pointer fields is)
 
 pub returns-in-None : goal.returns-in-None
-returns-in-None c = λ marked writer pointer fields small is. absurd (no_pointer c.args.value.now marked writer pointer fields c.in-None.ensures.none is)
+returns-in-None c = λ marked writer pointer fields small is.
+    absurd (c.in-None.ensures.none pointer (pointer_stands c.args.value.now marked writer pointer fields is))

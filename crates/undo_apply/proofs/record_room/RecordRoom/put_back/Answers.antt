@@ -1,5 +1,5 @@
-use Rattle.std.proofs.Common.{◌<◌, ℕ, List, length, arith, subst, sym, ◌≡◌, ⊎_elim, [], ap, ◌∙◌}
-use Rattle.std.specs.Prelude.{slice_index_or, slice_set}
+use Rattle.std.proofs.Common.{◌<◌, ℕ, List, length, arith, ◌≡◌, ⊎_elim, [], ap, ◌∙◌}
+use Rattle.std.specs.Prelude.{slice_set}
 use Rattle.std.proofs.lemmas.{List.get_or-set_other, List.get_or-set_same, List.length-set, Bool.cases_eq}
 use Rattle.undo_apply.specs.Lengths.{AreOfEachLength}
 use Rattle.undo_apply.proofs.record_room.RecordRoom.put_back.Goals as goal
@@ -9,12 +9,11 @@ given_again : (size : ℕ) (lists : List (List ℕ)) (list : List ℕ) → lengt
     → AreOfEachLength size (slice_set (slice_set lists (length list) []) (length list) list)
 given_again size lists list within are =
     let without = slice_set lists (length list) [] in
-    let now = slice_set without (length list) list in
     let long = length-set lists (length list) [] in
     let inside : length list < length without = omega (arith, within, are.count, long) in record {
       count = length-set without (length list) list ∙ (long ∙ are.count);
       each = λ n below. ⊎_elim
-          (λ same. ap (λ (k : ℕ). length (slice_index_or now k [])) same ∙ ap length (get_or-set_same without (length list) list [] inside) ∙ sym same)
+          (λ same. rw same (rw (get_or-set_same without (length list) list [] inside)))
           (λ differs. ap length (get_or-set_other without (length list) n list [] differs ∙ get_or-set_other lists (length list) n [] [] differs)
           ∙ are.each n below) (cases_eq n (length list));
     }
@@ -22,23 +21,19 @@ given_again size lists list within are =
 lent_and_given : (size : ℕ) (lists lent given : List (List ℕ)) (list bytes : List ℕ) → length bytes < size → AreOfEachLength size lists → list ≡ bytes
     → lent ≡ slice_set lists (length bytes) [] → given ≡ slice_set lent (length list) list → AreOfEachLength size given
 lent_and_given size lists lent given list bytes within are same lends gives =
-    let out : lent ≡ slice_set lists (length list) [] = lends ∙ ap (λ (b : List ℕ). slice_set lists (length b) []) (sym same) in
-    subst (λ (all : List (List ℕ)). AreOfEachLength size all) (sym (gives ∙ ap (λ (all : List (List ℕ)). slice_set all (length list) list) out))
-    (given_again size lists list (subst (λ (b : List ℕ). length b < size) (sym same) within) are)
+    rw (gives, lends, ← same) (given_again size lists list (rw same within) are)
 
 pub invariant_of-self : goal.invariant_of-self
 invariant_of-self g c =
     let room = c.self.inside in
     let fits = c.requires.under_way.2.tells.undo_is in
-    let key_fits = fits.key in
-    let value_fits = fits.value in
-    let short_key : length c.args.read.now.key.items < 68 = omega (arith, key_fits) in
-    let short_value : length c.args.read.now.value.items < 1025 = omega (arith, value_fits) in
+    let short_key : length c.args.read.now.key.items < 68 = (let short = fits.key in omega (arith, short)) in
+    let short_value : length c.args.read.now.value.items < 1025 = (let short = fits.value in omega (arith, short)) in
     record {
       keys = lent_and_given 68 room.keys.items c.take_written.new.lists.items c.give_back.new.lists.items c.take_written.result c.deref.result.now
-          (subst (λ (b : List ℕ). length b < 68) (sym c.deref.ensures.value) short_key) c.self.invariant.keys c.take_written.ensures.written
+          (rw c.deref.ensures.value short_key) c.self.invariant.keys c.take_written.ensures.written
           c.take_written.ensures.lists c.give_back.ensures;
       values = lent_and_given 1025 room.values.items c.take_written-2.new.lists.items c.give_back-2.new.lists.items c.take_written-2.result
-          c.deref-2.result.now (subst (λ (b : List ℕ). length b < 1025) (sym c.deref-2.ensures.value) short_value) c.self.invariant.values
+          c.deref-2.result.now (rw c.deref-2.ensures.value short_value) c.self.invariant.values
           c.take_written-2.ensures.written c.take_written-2.ensures.lists c.give_back-2.ensures;
     }
