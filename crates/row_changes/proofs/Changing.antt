@@ -1,17 +1,16 @@
 -- What stays known of a record that is being changed, what its steps do, and what is there once it stands.
-use Rattle.std.proofs.Common.{◌≡◌, ◌≢◌, ◌⊎◌, inl, inr, ⊎_elim, ℕ, ◌<◌, true, false, List, Option, Some, None, refl, sym, ap, subst, ◌∙◌, arith, cond, Bool}
+use Rattle.std.proofs.Common.{◌≡◌, ◌≢◌, ◌⊎◌, inl, inr, ⊎_elim, ℕ, ◌<◌, true, false, List, Option, Some, None, refl, sym, ap, ◌∙◌, arith, cond, Bool}
 use Rattle.std.proofs.Common.{◌+◌, ◌≤◌, ◌∷◌, [], ◌^◌}
 use Rattle.std.specs.Prelude.{slice_get, IfSome, is_some, Ok, Err, length}
 use Rattle.std.proofs.lemmas.{Bool.cases_eq, List.length-set}
 use Rattle.inno_types.specs.{declared.value.Value.Value, declared.value.Schema.Schema, declared.value.Column.Column}
-use Rattle.entries.specs.{Index.Index, Index.Told, Index.Goes, Index.AreKept, Index.HasGone, Calls.Fetches, Calls.is_done, Calls.Inserts}
+use Rattle.entries.specs.{Index.Index, Index.Told, Index.AreKept, Index.HasGone, Calls.Fetches, Calls.is_done, Calls.Inserts}
 use Rattle.entries.specs.Pairs.{Pair, value_of}
 use Rattle.law_stored_rows.specs.{Edits.clustered_index, Edits.with_value, Records.IsCodeOf, Records.row_shown, Storable.IsStorable}
 use Rattle.world.specs.{Stores.StoreGoes, Undoing.IsReady, Undoing.IsUnchanged, Undoing.MakesRoom, Sessions.with_room}
-use Rattle.world.specs.State.{WorldState, Session, Work, IsSession, with_session, IsIndex, HasWork}
+use Rattle.world.specs.State.{WorldState, Session, Work, with_session, IsIndex, HasWork}
 use Rattle.world.specs.Indexes.{InIndex, KeepsAsSaid, Calls, MayLog, IsLogged, Changes, Brings, StaysBeside, InsertsWith, ReplacesWith}
 use Rattle.world.proofs.Stores.{store_stays}
-use Rattle.txn_table.specs.Txns.{Txns, is_there, id_at}
 use Rattle.row_changes.specs.{declared.record_change.RecordChange.RecordChange, declared.record_change.RecordStage.RecordStage, Entries.IsPutting}
 use Rattle.row_changes.specs.{declared.row_edit.RowEdit.RowEdit, Entering.Enters, Entries.IsThere, Entries.PutsEntry, Asides.IsReadied, Asides.StepsAside}
 use Rattle.row_changes.specs.{declared.entry_put.EntryPut.EntryPut, declared.row_edit.RowEdit.TheVariants.Put, declared.row_edit.RowEdit.TheVariants.Remove}
@@ -19,14 +18,14 @@ use Rattle.row_changes.specs.Pairs.{RowsStay, Hinders}
 use Rattle.row_changes.specs.Records.{Decodes, PutsFirst, PutsOver, IsListed, IsFormer, StageHolds, IsChangingRecord, GoesOnWithRecord, HindersRecord}
 use Rattle.row_changes.specs.Records.{IsSpoiled, ChangesRecord, record_steps, when_missed, when_found, HasRoom, Records, id_for, undo_of_new, undo_of_former}
 use Rattle.row_changes.specs.Records.{row_found}
-use Rattle.row_changes.specs.Edits.{IsPut, FindsRow, HasNoRow, LacksRow, change_of, rows_put, FitsEdit, version_by}
+use Rattle.row_changes.specs.Edits.{FindsRow, LacksRow, change_of, rows_put, FitsEdit, version_by}
 use Rattle.row_changes.specs.declared.record_change.RecordReached.TheVariants.{Went, Hindered, Recorded}
 use Rattle.row_changes.specs.declared.record_change.RecordStage.TheVariants.{Enter, Room, Find, Insert, Replace}
 use Rattle.store_api.specs.{declared.answers.Version.Version, declared.moves.Move.Move, declared.answers.Undo.Undo}
-use Rattle.row_codec.specs.Rows.{IsRecordOf, version_code, IsRowOf, IsKeyOf}
+use Rattle.row_codec.specs.Rows.{version_code, IsRowOf, IsKeyOf}
 use Rattle.row_changes.proofs.{Ids.one_work}
 use Rattle.row_changes.proofs.Sessions.{one_session, aside_of_stay, same_pairs, same_versions, set_here, set_other, one_found}
-use Rattle.row_changes.proofs.Awaited.{HasStayed, places_if, stays_if, change_stays_if, insert_leaves, insert_hinders, replace_leaves, replace_hinders}
+use Rattle.row_changes.proofs.Awaited.{IsLeft, places_if, stays_if, change_stays_if, insert_left, replace_leaves, replace_hinders}
 use Rattle.inno_db.specs.declared.change.Change.{Change}
 use Rattle.law_stored_rows.proofs.Coding.{short_key, short_value}
 use Rattle.key_codec.specs.Keys.{key_width}
@@ -36,30 +35,24 @@ use Rattle.row_changes.specs.declared.reached.Reached.TheVariants as reached
 use Rattle.row_changes.specs.declared.entry_put.PutPhase.TheVariants as phases
 
 -- what is told of pairs stays told, if pairs are told still
-pub told_kept : (P : List Pair → Type 0) (old new : Index) → AreKept old.pairs new.pairs → Told P old → Told P new
-told_kept P old new kept told = go old.pairs new.pairs kept told
-  where
-    go : (before after : Option (List Pair)) → Goes (λ (b a : List Pair). a ≡ b) before after → IfSome before P → IfSome after P
-    go before None kept told = record {}
-    go None (Some after) kept told = absurd kept
-    go (Some before) (Some after) kept told = subst P (sym kept) told
+told_kept : (P : List Pair → Type 0) (old new : Option (List Pair)) → AreKept old new → IfSome old P → IfSome new P
+told_kept P old None kept told = record {}
+told_kept P None (Some new) kept told = absurd kept
+told_kept P (Some old) (Some new) kept told = rw kept told
 
 -- what is told tells what follows from it
-pub told_only : (P Q : List Pair → Type 0) (index : Index) → Told P index → ((pairs : List Pair) → P pairs → Q pairs) → Told Q index
-told_only P Q index told follows = go index.pairs told
-  where
-    go : (pairs : Option (List Pair)) → IfSome pairs P → IfSome pairs Q
-    go None h = record {}
-    go (Some pairs) h = follows pairs h
+told_only : (P Q : List Pair → Type 0) (pairs : Option (List Pair)) → IfSome pairs P → ((list : List Pair) → P list → Q list) → IfSome pairs Q
+told_only P Q None told follows = record {}
+told_only P Q (Some list) told follows = follows list told
 
 -- the session's transaction is listed still, where its list has stayed and all other sessions have
 pub listed_on : (s : ℕ) (old new : WorldState) (work : Work) → new.txns ≡ old.txns
     → ((t : ℕ) → t ≢ s → slice_get new.sessions t ≡ slice_get old.sessions t) → IsListed s work old → IsListed s work new
 listed_on s old new work txns others listed =
     record {
-      there = subst (λ (t : Txns). is_there work.txn t.open_txns) (sym txns) listed.there;
-      id = ap (λ (t : Txns). id_at work.txn t.open_txns) txns ∙ listed.id;
-      few = subst (λ (t : Txns). t.next < 18446744073709551615) (sym txns) listed.few;
+      there = rw txns listed.there;
+      id = rw txns listed.id;
+      few = rw txns listed.few;
       alone =
           λ t session other has same. ⊎_elim (λ e. e)
           (λ differs. listed.alone t session other (record { session_is = sym (others t differs) ∙ has.session_is; work_is = has.work_is }) same)
@@ -72,28 +65,9 @@ pub stage_kept : (stage : RecordStage) (schema : Schema) (edit : RowEdit) (key :
 stage_kept Enter schema edit key session old new kept holds = holds
 stage_kept Room schema edit key session old new kept holds = holds
 stage_kept Find schema edit key session old new kept holds = holds
-stage_kept Insert schema edit key session old new kept holds = (holds.0, holds.1, told_kept _ old new kept holds.2)
+stage_kept Insert schema edit key session old new kept holds = (holds.0, holds.1, told_kept _ old.pairs new.pairs kept holds.2)
 stage_kept (Replace before bytes) schema edit key session old new kept holds =
-    (holds.0, holds.1, record { there = told_kept _ old new kept holds.2.there; code_is = holds.2.code_is })
-
--- a session alone is another, and what is known of pages
-abbrev pub readied_in_pages : (s : ℕ) (before after : Session) (old new : WorldState) → IsSession s before old → IsReadied before after
-    → new ≡ record (with_session s after old) { paged = new.paged } → StoreGoes old.paged new.paged → StepsAside s old new
-readied_in_pages s before after old new there readied is later =
-    rw is (record {
-      pairs = λ index. same_pairs (old.indexes index).pairs;
-      places = λ index. refl;
-      versions = same_versions old.versions;
-      before = before;
-      after = after;
-      was = there;
-      is = set_here old.sessions s before after there;
-      readied = readied;
-      others = λ t differs. set_other old.sessions s t after differs;
-      count = length-set old.sessions s after;
-      rest = refl;
-      later = later;
-    })
+    (holds.0, holds.1, record { there = told_kept _ old.pairs new.pairs kept holds.2.there; code_is = holds.2.code_is })
 
 pub unchanged_stays : (old new : WorldState) → IsUnchanged old new → RowsStay old new
 unchanged_stays old new same =
@@ -118,12 +92,7 @@ no_room_stays s bytes old new other h differs = unchanged_stays old new h.all
 pub spoiled : (schema : Schema) (key bytes : List ℕ) (index : Index) (why : Move) (s : ℕ) (new : Index)
     → Told (λ pairs. value_of key pairs ≡ Some bytes) index → Decodes schema key bytes (Err why) → Hinders s index new why ⊎ IsSpoiled schema key index
 spoiled schema key bytes index moves.NoMemory s new there h = inl (record {})
-spoiled schema key bytes index (moves.Bad page rule) s new there h = inr (go index.pairs there)
-  where
-    go : (pairs : Option (List Pair)) → IfSome pairs (λ p. value_of key p ≡ Some bytes)
-        → IfSome pairs (λ p. (found : List ℕ) × (value_of key p ≡ Some found) × ((version : Version) → IsRecordOf schema version key found → ⊥))
-    go None told = record {}
-    go (Some pairs) told = (bytes, told, h)
+spoiled schema key bytes index (moves.Bad page rule) s new there h = inr (told_only _ _ index.pairs there (λ pairs found. (bytes, found, h)))
 spoiled schema key bytes index other s new there h = absurd h
 
 pub same_rows : (state : WorldState) → RowsStay state state
@@ -136,18 +105,11 @@ same_rows state =
       later = store_stays state.paged;
     }
 
--- where the key wasn't found
-pub not_there : (key : List ℕ) (old new : Index) → AreKept old.pairs new.pairs → Told (λ pairs. value_of key pairs ≡ None) old → IsThere false key new
-not_there key old new kept none =
-    told_kept _ old new kept (told_only (λ pairs. value_of key pairs ≡ None) (λ pairs. is_some (value_of key pairs) ≡ false) old none
-    (λ pairs is. ap is_some is))
-
 -- ---- the next step of a record that is being changed
 
 pub stage_at : (s : ℕ) (state : WorldState) (change : RecordChange) (p : IsChangingRecord s state change) (stage : RecordStage) → change.stage ≡ stage
     → StageHolds stage p.schema change.edit change.key p.session (state.indexes (clustered_index change.table))
-stage_at s state change p stage at =
-    subst (λ st. StageHolds st p.schema change.edit change.key p.session (state.indexes (clustered_index change.table))) at p.stage
+stage_at s state change p stage is = rw is at p.stage
 
 module _ (s : ℕ) (old new : WorldState) (change : RecordChange) (p : IsChangingRecord s old change) where
   -- what is known of the record at its next stage
@@ -176,20 +138,34 @@ module _ (s : ℕ) (old new : WorldState) (change : RecordChange) (p : IsChangin
   goes_on : (was stage : RecordStage) (aside : StepsAside s old new) → change.stage ≡ was
       → StageHolds stage p.schema change.edit change.key aside.after (new.indexes (clustered_index change.table)) → record_steps stage < record_steps was
       → GoesOnWithRecord s old new change (record change { stage = stage })
-  goes_on was stage aside at holds nears =
+  goes_on was stage aside is holds nears =
       record {
         aside = aside;
         table_is = refl;
         edit_is = refl;
         key_is = refl;
         holds = changing_after stage aside holds;
-        nears = subst (λ st. record_steps stage < record_steps st) (sym at) nears;
+        nears = rw is nears;
       }
 
   -- the session has other rooms
   abbrev readied : (after : Session) → IsReadied p.session after → new ≡ record (with_session s after old) { paged = new.paged } → StoreGoes old.paged new.paged
       → StepsAside s old new
-  readied after = readied_in_pages s p.session after old new p.has_work.session_is
+  readied after other is later =
+      rw is (record {
+        pairs = λ index. same_pairs (old.indexes index).pairs;
+        places = λ index. refl;
+        versions = same_versions old.versions;
+        before = p.session;
+        after = after;
+        was = p.has_work.session_is;
+        is = set_here old.sessions s p.session after p.has_work.session_is;
+        readied = other;
+        others = λ t differs. set_other old.sessions s t after differs;
+        count = length-set old.sessions s after;
+        rest = refl;
+        later = later;
+      })
 
   -- the history has room for the entry
   pub entered : change.stage ≡ Enter → new ≡ with_room s p.session old → GoesOnWithRecord s old new change (record change { stage = Room })
@@ -209,12 +185,10 @@ module _ (s : ℕ) (old new : WorldState) (change : RecordChange) (p : IsChangin
   -- a call that hinders leaves what is known
   pub hindered : (why : Move) → RowsStay old new → HindersRecord s change p.schema old new why → ChangesRecord s old new change (Hindered change why)
   hindered why stay because =
-      let i = clustered_index change.table in
       let aside = aside_of_stay p.has_work.session_is stay in (
         refl,
         aside,
-        changing_after change.stage aside
-            (stage_kept change.stage p.schema change.edit change.key p.session (old.indexes i) (new.indexes i) (stay.pairs i) p.stage),
+        changing_after change.stage aside (stage_kept change.stage p.schema change.edit change.key p.session _ _ (stay.pairs (clustered_index change.table)) p.stage),
         p.schema,
         p.table,
         because,
@@ -225,21 +199,20 @@ module _ (s : ℕ) (old new : WorldState) (change : RecordChange) (p : IsChangin
       → LacksRow edit p.schema change.key (old.indexes (clustered_index change.table)) moves.End → ChangesRecord s old new change (Hindered change moves.End)
   lacks_row edit edit_is stay lacks =
       hindered moves.End stay
-      (inr (inr (inr (subst (λ e. LacksRow e p.schema change.key (old.indexes (clustered_index change.table)) moves.End) (sym edit_is) lacks))))
+      (inr (inr (inr (rw edit_is lacks))))
 
   -- nothing is there
   missed : (edit : RowEdit) → change.stage ≡ Find → change.edit ≡ edit → RowsStay old new
       → Told (λ pairs. value_of change.key pairs ≡ None) (old.indexes (clustered_index change.table)) → ChangesRecord s old new change (when_missed edit change)
   missed (Put row) at edit_is stay none =
-      let i = clustered_index change.table in
-      goes_on Find Insert (aside_of_stay p.has_work.session_is stay) at
-      (stage_at s old change p Find at, subst IsPut (sym edit_is) (record {}), not_there change.key (old.indexes i) (new.indexes i) (stay.pairs i) none)
-      (omega arith)
+      goes_on Find Insert (aside_of_stay p.has_work.session_is stay) at (
+        stage_at s old change p Find at,
+        rw edit_is (record {}),
+        told_kept _ (old.indexes (clustered_index change.table)).pairs _ (stay.pairs (clustered_index change.table))
+            (told_only _ _ (old.indexes (clustered_index change.table)).pairs none (λ pairs is. ap is_some is)),
+      ) (omega arith)
   missed (Remove value) at edit_is stay none =
-      let i = clustered_index change.table in
-      lacks_row (Remove value) edit_is stay
-      (told_only (λ pairs. value_of change.key pairs ≡ None) (λ pairs. HasNoRow p.schema change.key (value_of change.key pairs)) (old.indexes i) none
-      (λ pairs is. rw is (record {})))
+      lacks_row (Remove value) edit_is stay (told_only _ _ (old.indexes (clustered_index change.table)).pairs none (λ pairs is. rw is (record {})))
 
   -- a version is there
   found : (edit : RowEdit) (before : Version) (bytes : List ℕ) → change.stage ≡ Find → change.edit ≡ edit → RowsStay old new
@@ -248,9 +221,7 @@ module _ (s : ℕ) (old new : WorldState) (change : RecordChange) (p : IsChangin
   found edit before bytes at edit_is stay there code = on edit edit_is
     where
       former : IsFormer p.schema change.key bytes before (new.indexes (clustered_index change.table))
-      former =
-          let i = clustered_index change.table in
-          record { there = told_kept _ (old.indexes i) (new.indexes i) (stay.pairs i) there; code_is = code }
+      former = record { there = told_kept _ (old.indexes (clustered_index change.table)).pairs _ (stay.pairs (clustered_index change.table)) there; code_is = code }
 
       finds : FindsRow change.edit before → ChangesRecord s old new change (Went (record change { stage = Replace before bytes }))
       finds row =
@@ -260,12 +231,11 @@ module _ (s : ℕ) (old new : WorldState) (change : RecordChange) (p : IsChangin
           → ChangesRecord s old new change (cond marked (Hindered change moves.End) (Went (record change { stage = Replace before bytes })))
       by_mark value true removes is =
           lacks_row (Remove value) removes stay
-          (told_only (λ pairs. value_of change.key pairs ≡ Some bytes) (λ pairs. HasNoRow p.schema change.key (value_of change.key pairs))
-          (old.indexes (clustered_index change.table)) there (λ pairs found_is. subst (HasNoRow p.schema change.key) (sym found_is) (before, code, is)))
-      by_mark value false removes is = finds (subst (λ e. FindsRow e before) (sym removes) is)
+          (told_only _ _ (old.indexes (clustered_index change.table)).pairs there (λ pairs found_is. rw found_is (before, code, is)))
+      by_mark value false removes is = finds (rw removes is)
 
       on : (e : RowEdit) → change.edit ≡ e → ChangesRecord s old new change (when_found e before bytes change)
-      on (Put row) puts = finds (subst (λ e. FindsRow e before) (sym puts) (record {}))
+      on (Put row) puts = finds (rw puts (record {}))
       on (Remove value) removes = by_mark value before.marked removes refl
 
   -- ---- the record is looked up
@@ -395,10 +365,6 @@ pub value_of_row : (schema : Schema) (edit : RowEdit) (row row' : List Value) (v
 value_of_row schema edit row row' version value writer writer' pointer pointer' is version_is rows writers pointers =
     rw (← rows, ← writers, ← pointers, ← version_is) is
 
--- the room that the call asks for the undo record
-former_room : (key value room : ℕ) → key ≤ 33 → value ≤ 1024 → 1098 ≤ room → 7 + key + value ≤ room
-former_room key value room short_key short_value enough = omega arith
-
 module _ {s : ℕ} {old : WorldState} {change : RecordChange} (p : IsChangingRecord s old change) where
   abbrev index : ℕ
   index = clustered_index change.table
@@ -417,9 +383,9 @@ module _ {s : ℕ} {old : WorldState} {change : RecordChange} (p : IsChangingRec
     session = p.session;
     work = p.work;
     has_work = p.has_work;
-    room = rw key_is
-        (former_room (length change.key) (length undo.value) p.session.undo_room
-        (key_fits p.schema change.edit change.key p.table.storable p.fits) small room.undo);
+    room =
+        let enough : 1098 ≤ p.session.undo_room = room.undo in
+        omega (arith, key_fits p.schema change.edit change.key p.table.storable p.fits, small, enough, ap length key_is);
   }
 
   pub may_log_new : (undo : Undo) → HasRoom p.session → undo ≡ undo_of_new change.table change.key → MayLog s undo old
@@ -442,7 +408,7 @@ module _ {s : ℕ} {old : WorldState} {change : RecordChange} (p : IsChangingRec
       let work = one_work s logged.session p.session logged.work p.work old logged.has_work p.has_work in
       let listed =
       listed_on s old mid logged.work (ap (λ (state : WorldState). state.txns) logged.rest) (logged_elsewhere s undo old mid logged)
-      (subst (λ w. IsListed s w old) (sym work) p.listed) in (
+      (rw work p.listed) in (
         logged_session s undo old mid logged,
         logged_work s undo old mid logged,
         logged_here s undo old mid logged,
@@ -503,30 +469,29 @@ module _ {s : ℕ} {old : WorldState} {change : RecordChange} (p : IsChangingRec
 
   -- where the call was not done
   hindered_by : (new : WorldState) (undo : Undo) (answer : Move) (call : Index → Index → Move → Type 0) → Changes index s (Some undo) call old new answer
-      → answer ≢ moves.Done → HasStayed (old.indexes index) (new.indexes index) → Hinders s (old.indexes index) (new.indexes index) answer
+      → answer ≢ moves.Done → IsLeft s (old.indexes index) (new.indexes index) × Hinders s (old.indexes index) (new.indexes index) answer
       → ChangesRecord s old new change (Hindered change answer)
-  hindered_by new undo answer call c differs kept hinders =
+  hindered_by new undo answer call c differs left =
       hindered s old new change p answer
-      (stays_if (record { index_is = c.index_is; beside = not_brought s undo answer old new differs c.beside }) kept) (inl hinders)
+      (stays_if (record { index_is = c.index_is; beside = not_brought s undo answer old new differs c.beside }) left.0.0) (inl left.1)
 
   pub insert_hindered : (new : WorldState) (value : List ℕ) (undo : Undo) (answer : Move) → change.stage ≡ Insert → Inserting undo value new answer
       → answer ≢ moves.Done → ChangesRecord s old new change (Hindered change answer)
   insert_hindered new value undo answer at c differs =
-      let here = c.index_is.here in
       hindered_by new undo answer _ c differs
-      (insert_leaves (Some undo) s change.key value (old.indexes index) (new.indexes index) answer here differs).0
-      (insert_hinders (Some undo) s change.key value (old.indexes index) (new.indexes index) answer (stage_at s old change p Insert at).2 here differs)
+      (insert_left (Some undo) s change.key value _ _ answer (stage_at s old change p Insert at).2 c.index_is.here differs)
 
   pub replace_hindered : (new : WorldState) (before : Version) (bytes value : List ℕ) (undo : Undo) (answer : Move) → change.stage ≡ Replace before bytes
       → Replacing undo value new answer → answer ≢ moves.Done → ChangesRecord s old new change (Hindered change answer)
   replace_hindered new before bytes value undo answer at c differs =
       let here = c.index_is.here in
       let there =
-      told_only (λ pairs. value_of change.key pairs ≡ Some bytes) (λ pairs. is_some (value_of change.key pairs) ≡ true) (old.indexes index)
-      (stage_at s old change p (Replace before bytes) at).2.there (λ pairs is. ap is_some is) in
-      hindered_by new undo answer _ c differs
-      (replace_leaves (Some undo) s change.key value (old.indexes index) (new.indexes index) answer here differs).0
-      (replace_hinders (Some undo) s change.key value (old.indexes index) (new.indexes index) answer there here differs)
+      told_only _ (λ pairs. is_some (value_of change.key pairs) ≡ true) (old.indexes index).pairs (stage_at s old change p (Replace before bytes) at).2.there
+      (λ pairs is. ap is_some is) in
+      hindered_by new undo answer _ c differs (
+        replace_leaves (Some undo) s change.key value _ _ answer here differs,
+        replace_hinders (Some undo) s change.key value _ _ answer there here differs,
+      )
 
 -- ---- an entry that is being put
 
@@ -535,13 +500,13 @@ pub entry_hindered : (actor : ℕ) (value : List ℕ) (old new : WorldState) (pu
     → PutsEntry actor old new put (reached.Hindered put move)
 entry_hindered actor value old new put move is phase_is call not_done =
     let absent : IsThere false put.entry (old.indexes put.index) = rw phase_is at is.phase in
-    let kept = (insert_leaves None actor put.entry value (old.indexes put.index) (new.indexes put.index) move call.index_is.here not_done).0 in (
+    let left = insert_left None actor put.entry value _ _ move absent call.index_is.here not_done in (
       refl,
-      change_stays_if call kept,
+      change_stays_if call left.0.0,
       record {
         index_is = rw (ap (λ (w : WorldState). w.schemas) call.beside.rest) is.index_is;
         short = is.short;
-        phase = rw phase_is (told_kept _ (old.indexes put.index) (new.indexes put.index) kept.0 absent);
+        phase = rw phase_is (told_kept _ (old.indexes put.index).pairs _ left.0.0.0 absent);
       },
-      insert_hinders None actor put.entry value (old.indexes put.index) (new.indexes put.index) move absent call.index_is.here not_done,
+      left.1,
     )

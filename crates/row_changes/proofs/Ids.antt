@@ -1,9 +1,8 @@
 -- A transaction is given its id, and its change is entered.
-use Rattle.std.proofs.Common.{◌≡◌, ◌≢◌, ℕ, ◌+◌, ◌==◌, false, List, ◌∷◌, length, Option, Some, None, refl, sym, ap, subst, ◌∙◌, eq-eqb}
+use Rattle.std.proofs.Common.{◌≡◌, ◌≢◌, ℕ, ◌+◌, ◌==◌, false, Option, Some, None, refl, sym, ap, ◌∙◌, eq-eqb}
 use Rattle.std.proofs.lemmas.{List.length-map, List.length-set, Bool.cond-true, Bool.cond-false, Bool.ne_eqb, Option.slice_get-map}
 use Rattle.std.specs.Prelude.{slice_get, option_map}
 use Rattle.inno_db.specs.declared.change.Change.{Change}
-use Rattle.inno_model.specs.declared.event.Event.TheVariants.{Changed}
 use Rattle.store_api.specs.declared.answers.Standing.{Standing}
 use Rattle.txn_table.specs.Txns.{Txns, with_id}
 use Rattle.world.specs.State.{WorldState, Session, Work, HasWork, txn_of, id_of, standing_of}
@@ -60,28 +59,21 @@ pub gives_new_id : (s : ℕ) (session : Session) (work : Work) (old new : WorldS
     → new ≡ identified work.txn old → GivesId s session work old new
 gives_new_id s session work old new has listed none is =
     let f = λ (x : Session). record x { work = work_with_id old.txns.next x.work } in
-    let sessions = ap (λ (state : WorldState). state.sessions) is in
     record {
-      now = ap (λ (xs : List Session). slice_get xs s) sessions ∙ changed_here s session work f old has
-          ∙ ap (λ w. Some (record session { work = w }))
-          (ap (work_with_id old.txns.next) has.work_is ∙ ap (λ id. Some (record work { id = id })) (sym (id_new work.id old.txns.next none)));
-      others = λ t differs. ap (λ (xs : List Session). slice_get xs t) sessions ∙ changed_elsewhere s t work f old listed differs;
-      count = ap length sessions ∙ length-map old.sessions (λ session. of_txn work.txn f session session.work);
-      rest =
-          is ∙ ap (λ (xs : List Session). record old
-          { sessions = xs; txns = record old.txns { open_txns = with_id work.txn old.txns.next old.txns.open_txns; next = old.txns.next + 1 } })
-          (sym sessions) ∙ ap (λ (txns : Txns). record old { sessions = new.sessions; txns = txns }) (sym (txns_new work old.txns none));
+      now = rw (is, id_new work.id old.txns.next none) (changed_here s session work f old has
+          ∙ ap (λ w. Some (record session { work = work_with_id old.txns.next w })) has.work_is);
+      others = λ t differs. rw is (changed_elsewhere s t work f old listed differs);
+      count = rw is (length-map old.sessions (λ session. of_txn work.txn f session session.work));
+      rest = rw (is, txns_new work old.txns none) refl;
     }
 
 pub keeps_id : (s : ℕ) (session : Session) (work : Work) (state : WorldState) → HasWork s session work state → work.id ≢ 0 → GivesId s session work state state
 keeps_id s session work state has given =
     record {
-      now =
-          has.session_is ∙ ap (λ w. Some (record session { work = w }))
-          (has.work_is ∙ ap (λ id. Some (record work { id = id })) (sym (id_given work.id state.txns.next given)));
+      now = rw (id_given work.id state.txns.next given) (has.session_is ∙ ap (λ w. Some (record session { work = w })) has.work_is);
       others = λ t differs. refl;
       count = refl;
-      rest = ap (λ txns. record state { txns = txns }) (sym (txns_same work state.txns given));
+      rest = rw (txns_same work state.txns given) refl;
     }
 
 -- ---- the entry
@@ -94,13 +86,11 @@ entered_change s change rows session work old mid new gives added =
     let session1 = record session { work = Some work1 } in
     let is = added session1 work1 (record { session_is = gives.now; work_is = refl }) in
     let after = record session1 { can_change = false; work = Some (record work1 { own = work1.own + 1 }) } in
-    let sessions = ap (λ (state : WorldState). state.sessions) is in
     record {
-      now = ap (λ (xs : List Session). slice_get xs s) sessions ∙ set_here mid.sessions s session1 after gives.now;
-      others = λ t differs. ap (λ (xs : List Session). slice_get xs t) sessions ∙ set_other mid.sessions s t after differs ∙ gives.others t differs;
-      count = ap length sessions ∙ length-set mid.sessions s after ∙ gives.count;
-      rest = is ∙ ap (λ (xs : List Session). record mid { past = Changed s change ∷ mid.past; rows = mid.rows + rows; sessions = xs }) (sym sessions)
-          ∙ ap (λ (state : WorldState). record state { past = Changed s change ∷ state.past; rows = state.rows + rows; sessions = new.sessions }) gives.rest;
+      now = rw is (set_here mid.sessions s session1 after gives.now);
+      others = λ t differs. rw is (set_other mid.sessions s t after differs ∙ gives.others t differs);
+      count = rw is (length-set mid.sessions s after ∙ gives.count);
+      rest = rw (is, gives.rest) refl;
     }
 
 -- the work of a session that has it
@@ -126,7 +116,6 @@ pub gives_told : (s : ℕ) (x session : Session) (w work : Work) (old new : Worl
     → new ≡ identified txn old → GivesId s session work old new
 gives_told s x session w work old new standing txn has listed also is told none given =
     let same = one_work s x session w work old has also in
-    let listed' = subst (λ k. IsListed s k old) same listed in
     let txn_is = one_found txn w.txn told (told_txn s x w old standing has is) ∙ ap (λ (k : Work). k.txn) same in
     let id_is = ap (λ (k : Work). k.id) (sym same) ∙ sym (told_id s x w old standing has is) ∙ none in
-    gives_new_id s session work old new also listed' id_is (given ∙ ap (λ t. identified t old) txn_is)
+    gives_new_id s session work old new also (rw same at listed) id_is (given ∙ ap (λ t. identified t old) txn_is)

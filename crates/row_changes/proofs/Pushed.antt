@@ -110,9 +110,7 @@ module _ (schemas : List Schema) (old new : ℕ → List Pair) (before after : C
       → Pushes before after (place_in table schema (version_by edit former writer pointer).row) (shown (version_by edit former writer pointer))
   pushes_version former pointer bytes code =
       let home = at_primary schema (primary_of schema edit) key bytes (version_by edit former writer pointer) (key_at schema edit key fits) code in
-      let Pushed : Value → Version → Type 0 = λ k v. Pushes before after (record { table = table; key = k }) v in
-      subst (λ (v : Version). Pushed (key_of schema (version_by edit former writer pointer).row) v) (sym (version_shown edit former writer pointer))
-      (subst (λ (k : Value). Pushed k (record { writer = writer; row = row_after edit })) (sym home) pushes)
+      rw (version_shown edit former writer pointer, home) pushes
 
   pub first_rows : (kept : ℕ → Option Kept) → IsPut edit → value_of key (old (clustered_index table)) ≡ None
       → Puts old new (clustered_index table) key (Some (version_code schema (version_by edit [] writer 0))) → AreCoded schemas old kept before
@@ -166,13 +164,12 @@ module _ {s : ℕ} {old new : WorldState} {change : RecordChange} {former : Code
     (o : PutsOver s old new change p.schema former) where
   pub kept_over : KeepsVersion old.schemas o.session.next_pointer (undo_of_former change.table change.key o.bytes) old.versions new.versions
   kept_over =
-      subst (λ (x : Session). KeepsVersion old.schemas x.next_pointer (undo_of_former change.table change.key o.bytes) old.versions new.versions)
-      (one_session old s o.records.work.session o.session o.records.work.had.session_is o.had.session_is) o.records.work.versions
+      rw (one_session old s o.records.work.session o.session o.records.work.had.session_is o.had.session_is) at o.records.work.versions
 
   pub kept_code : IsCodeOf p.schema change.key o.bytes kept_over.version
   kept_code =
-      subst (λ (x : Schema). IsCodeOf x change.key o.bytes kept_over.version) (one_found kept_over.kept.schema p.schema kept_over.kept.there p.table.there)
-      (record { record_is = kept_over.kept.record_is; numbers = kept_over.kept.small })
+      let code : IsCodeOf kept_over.kept.schema change.key o.bytes kept_over.version = record { record_is = kept_over.kept.record_is; numbers = kept_over.kept.small } in
+      rw (one_found kept_over.kept.schema p.schema kept_over.kept.there p.table.there) at code
 
 module _ (s : ℕ) (chains pushed : Chains) (old new : WorldState) (change : RecordChange) (p : IsChangingRecord s old change) (rows : HasRows chains old)
     (push : PushesEdit s change old chains pushed) where
@@ -195,11 +192,7 @@ module _ (s : ℕ) (chains pushed : Chains) (old new : WorldState) (change : Rec
 
   pushes : Pushes chains pushed (place_of p.schema change) pushed_version
   pushes =
-      let schema = one_found push.schema p.schema push.there p.table.there in
-      let work = one_work s push.session p.session push.work p.work old push.has_work p.has_work in
-      subst (λ (w : Work). Pushes chains pushed (place_of p.schema change) (record { writer = id_for w.id old.txns.next; row = row_after change.edit })) work
-      (subst (λ (x : Schema). Pushes chains pushed (place_of x change) (record { writer = id_for push.work.id old.txns.next; row = row_after change.edit }))
-      schema push.pushes)
+      rw (one_found p.schema push.schema p.table.there push.there, one_work s p.session push.session p.work push.work old p.has_work push.has_work) push.pushes
 
   small : writer < 2 ^ 64
   small = small_id p.work.id old.txns.next p.small p.listed.few
@@ -248,15 +241,14 @@ module _ (s : ℕ) (chains pushed : Chains) (old new : WorldState) (change : Rec
       → RecordsEdit s change p.schema former (id_for work.id old.txns.next) pointer undo old new
       → HasPut index change.key (Some (written former pointer)) old new
   puts former pointer undo session work had records =
-      subst (λ (w : Work). HasPut index change.key (Some (version_code p.schema (version_by change.edit former (id_for w.id old.txns.next) pointer))) old new)
-      (one_work s session p.session work p.work old had p.has_work) (records.here, records.elsewhere)
+      rw (one_work s p.session session p.work work old p.has_work had) (records.here, records.elsewhere)
 
   first_keys : (f : PutsFirst s old new change p.schema) → IsChangingKeys pushed new (taken None)
   first_keys f =
       keys_next None same (record {})
       (λ told. ap newest (absent old.schemas (pairs_of old) old.versions.kept_at chains change.table p.schema at.column (primary_of p.schema change.edit)
       (rows (was_told told)).clustered p.table.there at.primary
-      (λ has. subst (λ (k : List ℕ). value_of k (pairs_of old index) ≡ None) at.spelled (nothing told))))
+      (λ has. rw (← at.spelled) (nothing told))))
       (λ told. coded_again old.schemas new.schemas (pairs_of new) (pairs_of new) old.versions.kept_at new.versions.kept_at pushed (what_is_there chains) same
       refl (kept.kept told.versions)
       (first_rows old.schemas (pairs_of old) (pairs_of new) chains pushed change.table p.schema change.edit change.key p.table.there p.fits writer small pushes
@@ -341,8 +333,7 @@ module _ (s : ℕ) (chains : Chains) (old new : WorldState) (mine : RowChange) (
       → keys ≡ record { table = change.table; key = key; before = before; after = after; which = 0; put = None }
       → ChangesRecord s old new change (records.Recorded before) → ChangesRow s chains old new mine (Went (Keys keys))
   record_recorded before keys keys_is h =
-      subst (λ (k : KeysChange). ChangesRow s chains old new mine (Went (Keys k))) (sym keys_is)
-      (at_record (Went (Keys (record { table = change.table; key = key; before = before; after = after; which = 0; put = None }))) (λ is. (
+      rw keys_is (at_record (Went (Keys (record { table = change.table; key = key; before = before; after = after; which = 0; put = None }))) (λ is. (
         (h, λ pushed push. recorded_keys s chains pushed old new change is.0 is.1 push before after key is.2 is.3 h, refl, is.2),
         λ schema there. let some = some_record_step change.stage in omega arith,
       )))

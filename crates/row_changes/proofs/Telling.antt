@@ -1,5 +1,5 @@
 -- What stays told of pairs and versions.
-use Rattle.std.proofs.Common.{◌≡◌, ◌≢◌, ⊎_elim, ◌∙◌, sym, ap, subst, refl, ℕ, ◌==◌, List, Option, None, Some}
+use Rattle.std.proofs.Common.{◌≡◌, ◌≢◌, ⊎_elim, ◌∙◌, sym, ap, refl, ℕ, ◌==◌, List, Option, None, Some}
 use Rattle.std.specs.Prelude.{IfSome, IsSome}
 use Rattle.std.proofs.lemmas.{Bool.cases_eq, Bool.cond-true, Bool.cond-false, Bool.Decides.eqb_tells}
 use Rattle.inno_types.specs.declared.value.Schema.{Schema}
@@ -40,8 +40,7 @@ same_pairs_of old new stay told = λ d i. went (λ pairs. pairs) (old.indexes i)
 pub coded_again : (schemas others : List Schema) (pairs now : ℕ → List Pair) (kept found : ℕ → Option Kept) (chains : Chains) (said : Said)
     → others ≡ schemas → now ≡ pairs → found ≡ kept → AreCodedAs schemas pairs kept chains said → AreCodedAs others now found chains said
 coded_again schemas others pairs now kept found chains said tables rows versions is =
-    subst (λ s. AreCodedAs s now found chains said) (sym tables)
-    (subst (λ p. AreCodedAs schemas p found chains said) (sym rows) (subst (λ k. AreCodedAs schemas pairs k chains said) (sym versions) is))
+    rw (tables, rows, versions) is
 
 -- rows of which no pair and no version has changed
 pub rows_if : (old new : WorldState) (chains : Chains) (said : Said) → new.schemas ≡ old.schemas
@@ -65,9 +64,8 @@ HasPut index key value old new =
 pub pairs_told : (index : ℕ) (key : List ℕ) (value : Option (List ℕ)) (old new : WorldState) → HasPut index key value old new → IsTold new → (i : ℕ)
     → IsSome (old.indexes i).pairs
 pairs_told index key value old new puts told i =
-    ⊎_elim (λ e. subst (λ k. IsSome (old.indexes k).pairs) (sym e)
-    (told_before (λ before after. after ≡ with_value key value before) (old.indexes index).pairs (new.indexes index).pairs puts.0 (told.pairs index)))
-    (λ differs. told_before (λ before after. after ≡ before) (old.indexes i).pairs (new.indexes i).pairs (puts.1 i differs) (told.pairs i)) (cases_eq i index)
+    ⊎_elim (λ e. rw e (told_before (λ before after. after ≡ with_value key value before) _ (new.indexes index).pairs puts.0 (told.pairs index)))
+    (λ differs. told_before (λ before after. after ≡ before) _ (new.indexes i).pairs (puts.1 i differs) (told.pairs i)) (cases_eq i index)
 
 pub puts_pairs : (index : ℕ) (key : List ℕ) (value : Option (List ℕ)) (old new : WorldState) → HasPut index key value old new → IsTold new
     → Puts (pairs_of old) (pairs_of new) index key value

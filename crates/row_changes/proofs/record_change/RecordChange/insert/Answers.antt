@@ -53,4 +53,4 @@ returns-in-Done-clause-awaits g c =
     let mid = g.W.World.state c.insert.new.self in
     entered_awaits c.args.s index _ old mid _ _ _ may.0 may.1 call
     (insert_with_here (Some c.in-Ok-undo_of_new.undo) c.args.s c.args.self.now.key _ (old.indexes index) (mid.indexes index) c.insert.result
-    call.here) ((rw c.take_edit.ensures at c.enter.ensures) may.0 may.1 may.2)
+    (stage_at _ _ _ p Insert c.requires.stage).2 call.here) ((rw c.take_edit.ensures at c.enter.ensures) may.0 may.1 may.2)
