@@ -1,6 +1,6 @@
 -- What stays known of a record that is being changed, what its steps do, and what is there once it stands.
-use Rattle.std.proofs.Common.{◌≡◌, ◌≢◌, ◌⊎◌, inl, inr, ⊎_elim, ℕ, ◌<◌, true, false, List, Option, Some, None, refl, sym, ap, ◌∙◌, arith, cond, Bool}
-use Rattle.std.proofs.Common.{◌+◌, ◌≤◌, ◌∷◌, [], ◌^◌}
+use Rattle.std.proofs.Common.{◌≡◌, ◌≢◌, ◌⊎◌, inl, inr, ⊎_elim, ℕ, ◌<◌, true, false, List, Option, Some, None, refl, sym, ap, ◌∙◌, arith, cond, Bool, ◌+◌, ◌≤◌}
+use Rattle.std.proofs.Common.{◌∷◌, [], ◌^◌}
 use Rattle.std.specs.Prelude.{slice_get, IfSome, is_some, Ok, Err, length}
 use Rattle.std.proofs.lemmas.{Bool.cases_eq, List.length-set}
 use Rattle.inno_types.specs.{declared.value.Value.Value, declared.value.Schema.Schema, declared.value.Column.Column}
@@ -14,12 +14,11 @@ use Rattle.world.proofs.Stores.{store_stays}
 use Rattle.row_changes.specs.{declared.record_change.RecordChange.RecordChange, declared.record_change.RecordStage.RecordStage, Entries.IsPutting}
 use Rattle.row_changes.specs.{declared.row_edit.RowEdit.RowEdit, Entering.Enters, Entries.IsThere, Entries.PutsEntry, Asides.IsReadied, Asides.StepsAside}
 use Rattle.row_changes.specs.{declared.entry_put.EntryPut.EntryPut, declared.row_edit.RowEdit.TheVariants.Put, declared.row_edit.RowEdit.TheVariants.Remove}
-use Rattle.row_changes.specs.Pairs.{RowsStay, Hinders}
-use Rattle.row_changes.specs.Records.{Decodes, PutsFirst, PutsOver, IsListed, IsFormer, StageHolds, IsChangingRecord, GoesOnWithRecord, HindersRecord}
-use Rattle.row_changes.specs.Records.{IsSpoiled, ChangesRecord, record_steps, when_missed, when_found, HasRoom, Records, id_for, undo_of_new, undo_of_former}
-use Rattle.row_changes.specs.Records.{row_found}
+use Rattle.row_changes.specs.{Pairs.RowsStay, Pairs.Hinders, declared.record_change.RecordReached.TheVariants.Went}
+use Rattle.row_changes.specs.{declared.record_change.RecordReached.TheVariants.Hindered, declared.record_change.RecordReached.TheVariants.Recorded}
+use Rattle.row_changes.specs.Records.{Decodes, PutsOver, IsListed, IsFormer, StageHolds, IsChangingRecord, GoesOnWithRecord, HindersRecord, IsSpoiled}
+use Rattle.row_changes.specs.Records.{ChangesRecord, record_steps, when_missed, when_found, HasRoom, Records, id_for, undo_of_new, undo_of_former, row_found}
 use Rattle.row_changes.specs.Edits.{FindsRow, LacksRow, change_of, rows_put, FitsEdit, version_by}
-use Rattle.row_changes.specs.declared.record_change.RecordReached.TheVariants.{Went, Hindered, Recorded}
 use Rattle.row_changes.specs.declared.record_change.RecordStage.TheVariants.{Enter, Room, Find, Insert, Replace}
 use Rattle.store_api.specs.{declared.answers.Version.Version, declared.moves.Move.Move, declared.answers.Undo.Undo}
 use Rattle.row_codec.specs.Rows.{version_code, IsRowOf, IsKeyOf}
@@ -119,16 +118,11 @@ module _ (s : ℕ) (old new : WorldState) (change : RecordChange) (p : IsChangin
   changing_after stage aside holds =
       record {
         schema = p.schema;
-        table = record { there = ap (λ (state : WorldState). slice_get state.schemas change.table) aside.rest ∙ p.table.there; storable = p.table.storable };
+        table = record { there = rw aside.rest p.table.there; storable = p.table.storable };
         fits = p.fits;
         session = aside.after;
         work = p.work;
-        has_work =
-            record {
-              session_is = aside.is;
-              work_is = aside.readied.work ∙ ap (λ (x : Session). x.work) (one_session old s aside.before p.session aside.was p.has_work.session_is)
-                  ∙ p.has_work.work_is;
-            };
+        has_work = record { session_is = aside.is; work_is = cc (aside.was, aside.readied.work, p.has_work.session_is, p.has_work.work_is) };
         listed = listed_on s old new p.work (ap (λ (state : WorldState). state.txns) aside.rest) aside.others p.listed;
         small = p.small;
         stage = holds;
@@ -188,7 +182,7 @@ module _ (s : ℕ) (old new : WorldState) (change : RecordChange) (p : IsChangin
       let aside = aside_of_stay p.has_work.session_is stay in (
         refl,
         aside,
-        changing_after change.stage aside (stage_kept change.stage p.schema change.edit change.key p.session _ _ (stay.pairs (clustered_index change.table)) p.stage),
+        changing_after change.stage aside (stage_kept change.stage _ _ _ _ _ _ (stay.pairs (clustered_index change.table)) p.stage),
         p.schema,
         p.table,
         because,
@@ -198,8 +192,7 @@ module _ (s : ℕ) (old new : WorldState) (change : RecordChange) (p : IsChangin
   lacks_row : (edit : RowEdit) → change.edit ≡ edit → RowsStay old new
       → LacksRow edit p.schema change.key (old.indexes (clustered_index change.table)) moves.End → ChangesRecord s old new change (Hindered change moves.End)
   lacks_row edit edit_is stay lacks =
-      hindered moves.End stay
-      (inr (inr (inr (rw edit_is lacks))))
+      hindered moves.End stay (inr (inr (inr (rw edit_is lacks))))
 
   -- nothing is there
   missed : (edit : RowEdit) → change.stage ≡ Find → change.edit ≡ edit → RowsStay old new
@@ -208,7 +201,7 @@ module _ (s : ℕ) (old new : WorldState) (change : RecordChange) (p : IsChangin
       goes_on Find Insert (aside_of_stay p.has_work.session_is stay) at (
         stage_at s old change p Find at,
         rw edit_is (record {}),
-        told_kept _ (old.indexes (clustered_index change.table)).pairs _ (stay.pairs (clustered_index change.table))
+        told_kept _ _ _ (stay.pairs (clustered_index change.table))
             (told_only _ _ (old.indexes (clustered_index change.table)).pairs none (λ pairs is. ap is_some is)),
       ) (omega arith)
   missed (Remove value) at edit_is stay none =
@@ -221,7 +214,7 @@ module _ (s : ℕ) (old new : WorldState) (change : RecordChange) (p : IsChangin
   found edit before bytes at edit_is stay there code = on edit edit_is
     where
       former : IsFormer p.schema change.key bytes before (new.indexes (clustered_index change.table))
-      former = record { there = told_kept _ (old.indexes (clustered_index change.table)).pairs _ (stay.pairs (clustered_index change.table)) there; code_is = code }
+      former = record { there = told_kept _ _ _ (stay.pairs (clustered_index change.table)) there; code_is = code }
 
       finds : FindsRow change.edit before → ChangesRecord s old new change (Went (record change { stage = Replace before bytes }))
       finds row =
@@ -240,16 +233,13 @@ module _ (s : ℕ) (old new : WorldState) (change : RecordChange) (p : IsChangin
 
   -- ---- the record is looked up
 
-  there_still : RowsStay old new → slice_get new.schemas change.table ≡ Some p.schema
-  there_still stay = ap (λ (state : WorldState). slice_get state.schemas change.table) stay.rest ∙ p.table.there
-
   pub looked_up : (before : Version) (read : List ℕ) → change.stage ≡ Find
       → Calls (clustered_index change.table) (λ b a. Fetches s change.key read b a moves.Done) old new
       → ((schema : Schema) → slice_get new.schemas change.table ≡ Some schema → Decodes schema change.key read (Ok before))
       → ChangesRecord s old new change (when_found change.edit before read change)
   looked_up before read at c decodes =
       let stay = stays_if c (c.index_is.here.1.pairs, c.index_is.here.1.place) in
-      found change.edit before read at refl stay c.index_is.here.0 (decodes p.schema (there_still stay))
+      found change.edit before read at refl stay c.index_is.here.0 (decodes p.schema (rw stay.rest p.table.there))
 
   pub not_decoded : (why : Move) (read : List ℕ) → Calls (clustered_index change.table) (λ b a. Fetches s change.key read b a moves.Done) old new
       → ((schema : Schema) → slice_get new.schemas change.table ≡ Some schema → Decodes schema change.key read (Err why))
@@ -258,7 +248,7 @@ module _ (s : ℕ) (old new : WorldState) (change : RecordChange) (p : IsChangin
       let i = clustered_index change.table in
       let stay = stays_if c (c.index_is.here.1.pairs, c.index_is.here.1.place) in
       hindered why stay (⊎_elim (λ h. inl h) (λ h. inr (inr (inl h)))
-      (spoiled p.schema change.key read (old.indexes i) why s (new.indexes i) c.index_is.here.0 (decodes p.schema (there_still stay))))
+      (spoiled p.schema change.key read (old.indexes i) why s (new.indexes i) c.index_is.here.0 (decodes p.schema (rw stay.rest p.table.there))))
 
   pub looked_up_none : (read : List ℕ) → change.stage ≡ Find → Calls (clustered_index change.table) (λ b a. Fetches s change.key read b a moves.End) old new
       → ChangesRecord s old new change (when_missed change.edit change)
@@ -334,36 +324,22 @@ not_brought actor undo other old new differs h = h
 key_fits : (schema : Schema) (edit : RowEdit) (key : List ℕ) → IsStorable schema → FitsEdit schema edit key → length key ≤ 33
 key_fits schema (Put row) key storable fits = short_key schema row key storable fits.key_is
 key_fits schema (Remove value) key storable fits =
-    let is : length key ≡ key_width fits.column.kind = ap length fits.spelled ∙ length-key_code fits.column.kind value fits.has_key.0 in
-    let width : key_width fits.column.kind ≡ key_width storable.column.kind =
-    ap (λ (c : Column). key_width c.kind) (one_found fits.column storable.column fits.primary storable.primary) in
-    omega (arith, is, width, storable.short)
+    omega (arith, ap length fits.spelled ∙ length-key_code fits.column.kind value fits.has_key.0,
+    ap (λ (c : Column). key_width c.kind) (one_found fits.column storable.column fits.primary storable.primary), storable.short)
 
--- a version is made at these stages alone
-abbrev pub Makes : RecordStage → Type 0
-Makes Insert = Unit {0}
-Makes (Replace before bytes) = Unit {0}
-Makes other = ⊥
-
--- its row is one of the table, and has the key
+-- the row of the version that is made is one of the table, and has the key
 pub version_made : (schema : Schema) (edit : RowEdit) (key : List ℕ) (session : Session) (index : Index) (stage : RecordStage) → FitsEdit schema edit key
-    → StageHolds stage schema edit key session index → Makes stage → (version : Version) (writer pointer : ℕ)
+    → StageHolds stage schema edit key session index → record_steps stage ≡ 1 → (version : Version) (writer pointer : ℕ)
     → version ≡ version_by edit (row_found stage) writer pointer → IsRowOf schema.columns version.row × IsKeyOf schema version.row key
 version_made schema (Put row) key session index stage fits holds makes version writer pointer is = rw is (fits.fits.columns, fits.key_is)
 version_made schema (Remove value) key session index Insert fits holds makes version writer pointer is = absurd holds.1
 version_made schema (Remove value) key session index (Replace before bytes) fits holds makes version writer pointer is =
     rw is (holds.2.code_is.record_is.fits, holds.2.code_is.record_is.key_is)
-version_made schema (Remove value) key session index other fits holds makes version writer pointer is = absurd makes
+version_made schema (Remove value) key session index other fits holds makes version writer pointer is = absurd (omega (arith, makes))
 
 pub value_short : (schema : Schema) (version : Version) (key value : List ℕ) → IsStorable schema
     → IsRowOf schema.columns version.row × IsKeyOf schema version.row key → value ≡ version_code schema version → length value ≤ 1024
 value_short schema version key value storable fits is = short_value schema version key value storable (record { fits = fits.0; key_is = fits.1; value_is = is })
-
-pub value_of_row : (schema : Schema) (edit : RowEdit) (row row' : List Value) (version : Version) (value : List ℕ) (writer writer' pointer pointer' : ℕ)
-    → value ≡ version_code schema version → version ≡ version_by edit row writer pointer → row ≡ row' → writer ≡ writer' → pointer ≡ pointer'
-    → value ≡ version_code schema (version_by edit row' writer' pointer')
-value_of_row schema edit row row' version value writer writer' pointer pointer' is version_is rows writers pointers =
-    rw (← rows, ← writers, ← pointers, ← version_is) is
 
 module _ {s : ℕ} {old : WorldState} {change : RecordChange} (p : IsChangingRecord s old change) where
   abbrev index : ℕ
@@ -421,38 +397,31 @@ module _ {s : ℕ} {old : WorldState} {change : RecordChange} (p : IsChangingRec
   EntersIt mid new =
       (session : Session) (work : Work) → HasWork s session work mid → Enters s (change_of change.table change.edit) (rows_put change.edit) session work mid new
 
-  abbrev Inserting : Undo → List ℕ → WorldState → Move → Type 0
-  Inserting undo value new move =
-      Changes index s (Some undo) (λ before after answer. InsertsWith (Some undo) s change.key value before after answer) old new move
-
-  abbrev Replacing : Undo → List ℕ → WorldState → Move → Type 0
-  Replacing undo value new move =
-      Changes index s (Some undo) (λ before after answer. ReplacesWith (Some undo) s change.key value before after answer) old new move
+  abbrev Calling : (Option Undo → ℕ → List ℕ → List ℕ → Index → Index → Move → Type 0) → Undo → List ℕ → WorldState → Move → Type 0
+  Calling call undo value new move = Changes index s (Some undo) (λ before after answer. call (Some undo) s change.key value before after answer) old new move
 
   pub inserted : (mid new : WorldState) (value : List ℕ) (undo : Undo) → change.stage ≡ Insert
       → value ≡ version_code p.schema (version_by change.edit [] (id_for p.work.id old.txns.next) 0) → undo ≡ undo_of_new change.table change.key
-      → Inserting undo value mid moves.Done → EntersIt mid new → ChangesRecord s old new change (Recorded None)
+      → Calling InsertsWith undo value mid moves.Done → EntersIt mid new → ChangesRecord s old new change (Recorded None)
   inserted mid new value undo at value_is undo_is c enters =
       let holds = stage_at s old change p Insert at in
-      let logged : IsLogged s undo old mid = c.beside in
-      let all =
-      recorded s undo old mid logged (change_of change.table change.edit) (rows_put change.edit) change.table change.key value new _ _
-      (enters _ _ (logged_here s undo old mid logged)) c.index_is c.index_is.here.2 in
-      let first : PutsFirst s old new change p.schema =
-      record { session = p.session; work = p.work; had = p.has_work; is_put = holds.1; absent = holds.2; records = rw (← undo_is, ← value_is) all } in
-      (p.schema, p.table, inl (first, refl))
+      let all = recorded s undo old mid c.beside _ _ change.table _ value new _ _ (enters _ _ (logged_here s undo old mid c.beside)) c.index_is c.index_is.here.2 in (
+        p.schema,
+        p.table,
+        inl (
+          record { session = p.session; work = p.work; had = p.has_work; is_put = holds.1; absent = holds.2; records = rw (← undo_is, ← value_is) all },
+          refl,
+        ),
+      )
 
   pub replaced : (mid new : WorldState) (before : Version) (bytes value : List ℕ) (undo : Undo) (found : Option (List Value))
       → change.stage ≡ Replace before bytes
       → value ≡ version_code p.schema (version_by change.edit before.row (id_for p.work.id old.txns.next) p.session.next_pointer)
       → undo ≡ undo_of_former change.table change.key bytes → found ≡ row_shown before.marked before.row → p.session.next_pointer < 2 ^ 64
-      → Replacing undo value mid moves.Done → EntersIt mid new → ChangesRecord s old new change (Recorded found)
+      → Calling ReplacesWith undo value mid moves.Done → EntersIt mid new → ChangesRecord s old new change (Recorded found)
   replaced mid new before bytes value undo found at value_is undo_is found_is small c enters =
       let holds = stage_at s old change p (Replace before bytes) at in
-      let logged : IsLogged s undo old mid = c.beside in
-      let all =
-      recorded s undo old mid logged (change_of change.table change.edit) (rows_put change.edit) change.table change.key value new _ _
-      (enters _ _ (logged_here s undo old mid logged)) c.index_is c.index_is.here.1 in
+      let all = recorded s undo old mid c.beside _ _ change.table _ value new _ _ (enters _ _ (logged_here s undo old mid c.beside)) c.index_is c.index_is.here.1 in
       let over : PutsOver s old new change p.schema before =
       record {
         session = p.session;
@@ -475,14 +444,14 @@ module _ {s : ℕ} {old : WorldState} {change : RecordChange} (p : IsChangingRec
       hindered s old new change p answer
       (stays_if (record { index_is = c.index_is; beside = not_brought s undo answer old new differs c.beside }) left.0.0) (inl left.1)
 
-  pub insert_hindered : (new : WorldState) (value : List ℕ) (undo : Undo) (answer : Move) → change.stage ≡ Insert → Inserting undo value new answer
+  pub insert_hindered : (new : WorldState) (value : List ℕ) (undo : Undo) (answer : Move) → change.stage ≡ Insert → Calling InsertsWith undo value new answer
       → answer ≢ moves.Done → ChangesRecord s old new change (Hindered change answer)
   insert_hindered new value undo answer at c differs =
       hindered_by new undo answer _ c differs
       (insert_left (Some undo) s change.key value _ _ answer (stage_at s old change p Insert at).2 c.index_is.here differs)
 
   pub replace_hindered : (new : WorldState) (before : Version) (bytes value : List ℕ) (undo : Undo) (answer : Move) → change.stage ≡ Replace before bytes
-      → Replacing undo value new answer → answer ≢ moves.Done → ChangesRecord s old new change (Hindered change answer)
+      → Calling ReplacesWith undo value new answer → answer ≢ moves.Done → ChangesRecord s old new change (Hindered change answer)
   replace_hindered new before bytes value undo answer at c differs =
       let here = c.index_is.here in
       let there =

@@ -4,10 +4,9 @@ use Rattle.std.proofs.lemmas.{List.length-map, List.length-set, Bool.cond-true, 
 use Rattle.std.specs.Prelude.{slice_get, option_map}
 use Rattle.inno_db.specs.declared.change.Change.{Change}
 use Rattle.store_api.specs.declared.answers.Standing.{Standing}
-use Rattle.txn_table.specs.Txns.{Txns, with_id}
 use Rattle.world.specs.State.{WorldState, Session, Work, HasWork, txn_of, id_of, standing_of}
 use Rattle.world.specs.Sessions.{of_txn, change_txn, work_with_id, identified, change_added}
-use Rattle.row_changes.specs.{Records.IsListed, Records.id_for, Records.txns_with_id, Entering.GivesId, Entering.Enters}
+use Rattle.row_changes.specs.{Records.IsListed, Records.id_for, Entering.GivesId, Entering.Enters}
 use Rattle.row_changes.proofs.Sessions.{one_found, set_here, set_other}
 
 pub id_given : (own next : ℕ) → own ≢ 0 → id_for own next ≡ own
@@ -16,13 +15,6 @@ id_given own next differs = cond-false (own == 0) next own (ne_eqb own 0 differs
 pub id_new : (own next : ℕ) → own ≡ 0 → id_for own next ≡ next
 id_new own next is = cond-true (own == 0) next own (eq-eqb own 0 is)
 
-pub txns_new : (work : Work) (txns : Txns) → work.id ≡ 0
-    → txns_with_id work txns ≡ record txns { open_txns = with_id work.txn txns.next txns.open_txns; next = txns.next + 1 }
-txns_new work txns is = cond-true (work.id == 0) _ _ (eq-eqb work.id 0 is)
-
-pub txns_same : (work : Work) (txns : Txns) → work.id ≢ 0 → txns_with_id work txns ≡ txns
-txns_same work txns differs = cond-false (work.id == 0) _ _ (ne_eqb work.id 0 differs)
-
 -- ---- sessions of which one's transaction is changed
 
 -- another's
@@ -30,10 +22,6 @@ other_kept : (txn : ℕ) (f : Session → Session) (session : Session) (work : O
     → ((other : Work) → work ≡ Some other → other.txn ≢ txn) → of_txn txn f session work ≡ session
 other_kept txn f session None is differs = refl
 other_kept txn f session (Some other) is differs = cond-false (other.txn == txn) (f session) session (ne_eqb other.txn txn (differs other refl))
-
-mine_changed : (txn : ℕ) (f : Session → Session) (session : Session) (work : Work) → session.work ≡ Some work → work.txn ≡ txn
-    → of_txn txn f session session.work ≡ f session
-mine_changed txn f session work is same = ap (λ w. of_txn txn f session w) is ∙ cond-true (work.txn == txn) (f session) session (eq-eqb work.txn txn same)
 
 found_kept : (g : Session → Session) (found : Option Session) → ((session : Session) → found ≡ Some session → g session ≡ session) → option_map g found ≡ found
 found_kept g None same = refl
@@ -50,8 +38,7 @@ changed_elsewhere s t work f state listed differs =
 pub changed_here : (s : ℕ) (session : Session) (work : Work) (f : Session → Session) (state : WorldState) → HasWork s session work state
     → slice_get (change_txn work.txn f state.sessions) s ≡ Some (f session)
 changed_here s session work f state has =
-    slice_get-map (λ x. of_txn work.txn f x x.work) state.sessions s ∙ ap (option_map (λ x. of_txn work.txn f x x.work)) has.session_is
-    ∙ ap Some (mine_changed work.txn f session work has.work_is refl)
+    slice_get-map (λ x. of_txn work.txn f x x.work) state.sessions s ∙ rw (has.session_is, has.work_is, eq-eqb work.txn work.txn refl) refl
 
 -- ---- the id
 
@@ -60,20 +47,20 @@ pub gives_new_id : (s : ℕ) (session : Session) (work : Work) (old new : WorldS
 gives_new_id s session work old new has listed none is =
     let f = λ (x : Session). record x { work = work_with_id old.txns.next x.work } in
     record {
-      now = rw (is, id_new work.id old.txns.next none) (changed_here s session work f old has
+      now = rw (is, eq-eqb work.id 0 none) (changed_here s session work f old has
           ∙ ap (λ w. Some (record session { work = work_with_id old.txns.next w })) has.work_is);
       others = λ t differs. rw is (changed_elsewhere s t work f old listed differs);
       count = rw is (length-map old.sessions (λ session. of_txn work.txn f session session.work));
-      rest = rw (is, txns_new work old.txns none) refl;
+      rest = rw (is, eq-eqb work.id 0 none) refl;
     }
 
 pub keeps_id : (s : ℕ) (session : Session) (work : Work) (state : WorldState) → HasWork s session work state → work.id ≢ 0 → GivesId s session work state state
 keeps_id s session work state has given =
     record {
-      now = rw (id_given work.id state.txns.next given) (has.session_is ∙ ap (λ w. Some (record session { work = w })) has.work_is);
+      now = rw (ne_eqb work.id 0 given) (has.session_is ∙ ap (λ w. Some (record session { work = w })) has.work_is);
       others = λ t differs. refl;
       count = refl;
-      rest = rw (txns_same work state.txns given) refl;
+      rest = rw (ne_eqb work.id 0 given) refl;
     }
 
 -- ---- the entry
@@ -96,10 +83,6 @@ entered_change s change rows session work old mid new gives added =
 -- the work of a session that has it
 pub one_work : (s : ℕ) (a b : Session) (v w : Work) (state : WorldState) → HasWork s a v state → HasWork s b w state → v ≡ w
 one_work s a b v w state first second = cc
-
-pub now_has : (s : ℕ) (session : Session) (work : Work) (old new : WorldState) → GivesId s session work old new
-    → HasWork s (record session { work = Some (record work { id = id_for work.id old.txns.next }) }) (record work { id = id_for work.id old.txns.next }) new
-now_has s session work old new gives = record { session_is = gives.now; work_is = refl }
 
 -- what a session tells of its transaction
 pub told_txn : (s : ℕ) (session : Session) (work : Work) (state : WorldState) (standing : Standing) → HasWork s session work state

@@ -1,6 +1,6 @@
 -- What one key says of a place while a change goes over into the keys, and what stays known meanwhile.
 use Rattle.std.proofs.Common.{◌≡◌, ◌≢◌, ⊎_elim, ◌∙◌, sym, ap, subst, refl, ℕ, zero, suc, ◌+◌, ◌<◌, ◌≤◌, ◌^◌, ◌==◌, Bool, true, false, cond, List, ◌∷◌, length}
-use Rattle.std.proofs.Common.{Option, None, Some, slice_get, arith, ◌-◌, ◌*◌}
+use Rattle.std.proofs.Common.{Option, None, Some, slice_get, arith, rules, ◌-◌, ◌*◌}
 use Rattle.std.specs.Prelude.{◌&&◌, IfSome, IfOk, Result, Ok, Err}
 use Rattle.std.proofs.lemmas.{Bool.cases_eq, Bool.eqb-true, Option.slice_get_within, Option.slice_get_cases, Option.get_or_from_slice_get}
 use Rattle.inno_types.specs.{declared.value.Value.Value, declared.value.Key.Key, declared.value.Schema.Schema}
@@ -189,14 +189,13 @@ module _ (chains : Chains) (old new : WorldState) (change : KeysChange) (p : IsC
           subst Alike (same_place place (record { table = table; key = value }) same) at_place s_there
 
   -- so many of them
-  pass : (pairs : ℕ → List Pair) (n done : ℕ)
-      → ((which : ℕ) (key : Key) → done ≤ which → which < done + n → slice_get p.schema.keys which ≡ Some key → TellAlike key.column p.older
-      (p.pushed.version ∷ p.older)) → SayOf pairs done p.older → SayOf pairs (done + n) p.older
-  pass pairs zero done alike says = let same : done + 0 ≡ done = omega arith in rw same says
-  pass pairs (suc n) done alike says =
-      let one : SayOf pairs (done + 1) p.older = pass_one pairs done (λ key k_is. alike done key (omega arith) (omega arith) k_is) says in
-      let same : done + suc n ≡ done + 1 + n = omega arith in
-      rw same (pass pairs n (done + 1) (λ which key from below k_is. alike which key (omega arith) (omega arith) k_is) one)
+  pass : (pairs : ℕ → List Pair) (n done to : ℕ) → done + n ≡ to
+      → ((which : ℕ) (key : Key) → done ≤ which → which < to → slice_get p.schema.keys which ≡ Some key → TellAlike key.column p.older
+      (p.pushed.version ∷ p.older)) → SayOf pairs done p.older → SayOf pairs to p.older
+  pass pairs zero done to same alike says = let all : to ≡ done = omega (arith, same) in rw all says
+  pass pairs (suc n) done to same alike says =
+      pass pairs n (done + 1) to (omega (arith, same)) (λ which key from. alike which key (omega arith))
+      (pass_one pairs done (λ key. alike done key (omega arith) (omega (arith, same))) says)
 
   -- an entry of a row of the place has changed, so its key says something else
   entry_here : (pairs : ℕ → List Pair) (done : ℕ) (next now : List Version) (row : List Value) → IsRowFor p.schema row change.key
@@ -250,11 +249,10 @@ module _ (chains : Chains) (old new : WorldState) (change : KeysChange) (p : IsC
   -- the keys from this one up to the other are passed over
   rows_passed : (to : ℕ) → change.put ≡ None → change.which ≤ to → StayBetween p.schema change.which to change.before change.after → SaySo to p.older old
   rows_passed to none from stay told =
-      let same : change.which + (to - change.which) ≡ to = omega arith in
       let waiting : SaySo change.which p.older old = rw none at p.rows in
-      rw same at (pass (pairs_of old) (to - change.which) change.which
+      pass (pairs_of old) (to - change.which) change.which to (omega arith)
       (λ which key from' below is. stays_alike key.column change.before change.after p.pushed.version p.older (p.was told) p.pushed.is
-      (stay which key from' (rw same at below) is)) (waiting told))
+      (stay which key from' below is)) (waiting told)
 
   -- all keys say what is there
   pub over : change.put ≡ None → StayBetween p.schema change.which keys change.before change.after → HasRows chains old
@@ -374,9 +372,6 @@ module _ (chains : Chains) (old new : WorldState) (change : KeysChange) (p : IsC
       go : (before after : Option (List Value)) (next : Option (List ℕ)) → change.before ≡ before → change.after ≡ after
           → IsEntryFor p.schema entries.which before change.key (Some entry) → IsEntryFor p.schema entries.which after change.key next
           → GoesOnWithKeys chains old new change (keys_next change index entries.which next)
-      go None after next was now e new_e = absurd e
-      go (Some row) None (Some later) was now e new_e = absurd new_e
-      go (Some row) (Some later) None was now e new_e = absurd new_e
       go (Some row) None None was now e new_e =
           let within = all.within in
           let from = all.first.from_there in
@@ -386,6 +381,7 @@ module _ (chains : Chains) (old new : WorldState) (change : KeysChange) (p : IsC
           (omega (arith, waits, within, from))
       go (Some row) (Some later) (Some bytes) was now e new_e =
           put_next index entries bytes none is all (rw now new_e) stays (rw was (gone_now row was e gone refl))
+      go before after next was now e new_e = absurd (search rules)
 
   -- there is no old entry
   pub nothing_marked : (index : ℕ) (entries : KeyEntries) → change.put ≡ None → index ≡ key_index change.table entries.which
@@ -397,9 +393,6 @@ module _ (chains : Chains) (old new : WorldState) (change : KeysChange) (p : IsC
       go : (before after : Option (List Value)) (next : Option (List ℕ)) → change.before ≡ before → change.after ≡ after
           → IsEntryFor p.schema entries.which before change.key None → IsEntryFor p.schema entries.which after change.key next
           → GoesOnWithKeys chains old new change (keys_next change index entries.which next)
-      go (Some row) after next was now e new_e = absurd e
-      go None None (Some later) was now e new_e = absurd new_e
-      go None (Some later) None was now e new_e = absurd new_e
       go None None None was now e new_e =
           let key = some_key p.schema entries.which all.within in
           let differs : value_stays key.0.column None None ≡ false = rw (was, now) at (all.first.changes key.0 key.1) in
@@ -407,6 +400,7 @@ module _ (chains : Chains) (old new : WorldState) (change : KeysChange) (p : IsC
       go None (Some later) (Some bytes) was now e new_e =
           put_next index entries bytes none is all (rw now new_e) (beside_stay old new stay)
           (rw was (so_far_kept chains place entries.which p.older p.older old new stay (rows_passed entries.which none all.first.from_there all.first.stay)))
+      go before after next was now e new_e = absurd (search rules)
 
   -- ---- the new entry
 

@@ -6,7 +6,7 @@ use Rattle.row_changes.proofs.Sessions.{one_found}
 use Rattle.row_changes.proofs.key_entries.first_to_change.Goals as goal
 
 item_there : {X : Type 0} (all xs : List X) (i : ℕ) (default : X) → xs ≡ all → i < length xs → slice_get all i ≡ Some (get_or xs i default)
-item_there {X} all xs i default same within = ap (λ (l : List X). slice_get l i) (sym same) ∙ slice_get-get_or xs i default within
+item_there {X} all xs i default same within = rw (← same) (slice_get-get_or xs i default within)
 
 more_stay : (schema : Schema) (from which : ℕ) (before after : Option (List Value)) (key : Key) → StayBetween schema from which before after
     → slice_get schema.keys which ≡ Some key → value_stays key.column before after ≡ true → StayBetween schema from (which + 1) before after

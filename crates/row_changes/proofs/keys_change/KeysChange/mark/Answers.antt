@@ -1,11 +1,10 @@
-use Rattle.std.proofs.Common.{sym, subst, refl, Some}
-use Rattle.row_changes.specs.Keys.{ChangesKeys}
+use Rattle.std.proofs.Common.{refl, Some}
 use Rattle.row_changes.proofs.{Keying.marked_on, Keying.mark_hindered, Awaited.key_awaits}
 use Rattle.row_changes.proofs.keys_change.KeysChange.mark.Goals as goal
 
 abbrev pub returns-in-Ok-clause-changes : goal.returns-in-Ok-clause-changes
 returns-in-Ok-clause-changes g c = λ chains p.
-    subst (ChangesKeys c.args.actor chains (g.W.World.state c.args.world.now) (g.W.World.state c.step.new.world) c.args.self.now) (sym c.next.ensures)
+    rw c.next.ensures
     (marked_on chains _ _ c.args.self.now p c.args.mark.index (record { which = c.args.which; old = Some c.args.mark.entry; new = c.args.new })
     c.args.mark.entry
     c.requires.none c.requires.index (c.requires.entries p.schema p.table.there) refl
