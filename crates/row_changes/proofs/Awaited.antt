@@ -1,8 +1,8 @@
 -- What the calls of a world's indexes leave of its pairs, what may hinder them, and who is awaited afterwards.
-use Rattle.std.proofs.Common.{◌≡◌, ◌≢◌, ◌⊎◌, inr, ⊎_elim, ℕ, true, false, Option, Some, None, List, refl, sym, inl, ◌∙◌, ◌+◌, ap, ◌≤◌, arith}
+use Rattle.std.proofs.Common.{◌≡◌, ◌≢◌, ◌⊎◌, inr, ⊎_elim, ℕ, true, false, Option, Some, None, List, refl, sym, inl, ◌∙◌, ◌+◌, ap, ◌≤◌, arith, rules}
 use Rattle.std.proofs.lemmas.Bool.{cases_eq}
 use Rattle.store_api.specs.{declared.moves.Move.Move, declared.answers.Undo.Undo}
-use Rattle.store_api.specs.declared.moves.Move.TheVariants.{At, End, Done, Step, Latch, Again, Full, TooDeep, Failed, Bad, NoMemory}
+use Rattle.store_api.specs.declared.moves.Move.TheVariants.{At, End, Done, Latch, Failed, NoMemory}
 use Rattle.entries.specs.{Pairs.Pair, Pairs.value_of, Index.Index, Index.AreKept, Index.HasGone, Index.IsAsBefore}
 use Rattle.entries.specs.Calls.{Inserts, Replaces, Delays, IsKeptOff, Fetches, NextKeys, Removes}
 use Rattle.std.specs.Prelude.{IfSome, is_some, ◌<◌, length, slice_get}
@@ -55,20 +55,12 @@ none_here actor old new none by is = absurd (cc)
 
 -- what a delay leaves
 delay_leaves : (actor : ℕ) (old new : Index) (move : Move) → Delays actor old new move → IsAsBefore old new
-delay_leaves actor old new Step h = h.all
-delay_leaves actor old new (Latch by) h = h.all
-delay_leaves actor old new Again h = h.all
 delay_leaves actor old new Failed h = record { pairs = h.pairs; place = h.place; awaited = h.awaited }
-delay_leaves actor old new (Bad page rule) h = h.all
-delay_leaves actor old new other h = absurd h
+delay_leaves actor old new other h = search rules
 
 pub delay_hinders : (actor : ℕ) (old new : Index) (move : Move) → Delays actor old new move → Hinders actor old new move
-delay_hinders actor old new Step h = h
 delay_hinders actor old new (Latch by) h = inr h
-delay_hinders actor old new Again h = h
-delay_hinders actor old new Failed h = h
-delay_hinders actor old new (Bad page rule) h = h
-delay_hinders actor old new other h = absurd h
+delay_hinders actor old new other h = search rules
 
 -- what one leaves, or who is kept off by another actor
 off_leaves : (actor by : ℕ) (old new : Index) → IsKeptOff actor by old new ⊎ Delays actor old new (Latch by) → IsAsBefore old new
@@ -86,8 +78,7 @@ fetch_delays actor key read old new other h not_done not_end = h
 
 pub fetch_keeps : (actor : ℕ) (key read : List ℕ) (old new : Index) (move : Move) → Fetches actor key read old new move → HasStayed old new
 fetch_keeps actor key read old new Done h = (h.1.pairs, h.1.place)
-fetch_keeps actor key read old new End h = (h.1.pairs, h.1.place)
-fetch_keeps actor key read old new other h = (as_before actor old new (delay_leaves actor old new other h)).0
+fetch_keeps actor key read old new other h = (as_before actor old new (search (rules, delay_leaves))).0
 
 pub next_key_keeps : (actor : ℕ) (key read : List ℕ) (old new : Index) (move : Move) → NextKeys actor key read old new move → HasStayed old new
 next_key_keeps actor key read old new Done h = (h.2.pairs, h.2.place)
@@ -132,11 +123,7 @@ insert_alone actor key value old new (At there kept) absent h not_done = (
   not_told (λ pairs. is_some (value_of key pairs) ≡ false) (λ pairs. value_of key pairs ≡ Some kept) old.pairs (λ pairs none some. cc) absent h.2,
 )
 insert_alone actor key value old new (Latch by) absent h not_done = (as_before actor old new (off_leaves actor by old new h), h)
-insert_alone actor key value old new NoMemory absent h not_done = (as_before actor old new h.1, record {})
-insert_alone actor key value old new (Full need free) absent h not_done = (as_before actor old new h.all, h)
-insert_alone actor key value old new TooDeep absent h not_done = (as_before actor old new h.all, h)
-insert_alone actor key value old new End absent h not_done = absurd h
-insert_alone actor key value old new other absent h not_done = (as_before actor old new (delay_leaves actor old new other h), h)
+insert_alone actor key value old new other absent h not_done = (as_before actor old new (search (rules, delay_leaves)), search rules)
 
 pub insert_left : (undo : Option Undo) (actor : ℕ) (key value : List ℕ) (old new : Index) (move : Move) → IsThere false key old
     → InsertsWith undo actor key value old new move → move ≢ Done → IsLeft actor old new × Hinders actor old new move
@@ -154,11 +141,7 @@ insert_with_here undo actor key value old new other absent h = (insert_left undo
 
 replace_alone : (actor : ℕ) (key value : List ℕ) (old new : Index) (move : Move) → Replaces actor key value old new move → move ≢ Done → IsLeft actor old new
 replace_alone actor key value old new Done h not_done = absurd (not_done refl)
-replace_alone actor key value old new End h not_done = as_before actor old new h.1
-replace_alone actor key value old new NoMemory h not_done = as_before actor old new h.1
-replace_alone actor key value old new (Full need free) h not_done = as_before actor old new h.1.all
-replace_alone actor key value old new TooDeep h not_done = as_before actor old new h.1.all
-replace_alone actor key value old new other h not_done = as_before actor old new (delay_leaves actor old new other h)
+replace_alone actor key value old new other h not_done = as_before actor old new (search (rules, delay_leaves))
 
 pub replace_leaves : (undo : Option Undo) (actor : ℕ) (key value : List ℕ) (old new : Index) (move : Move) → ReplacesWith undo actor key value old new move
     → move ≢ Done → IsLeft actor old new
@@ -178,10 +161,7 @@ replace_hinders_alone : (actor : ℕ) (key value : List ℕ) (old new : Index) (
 replace_hinders_alone actor key value old new Done there h not_done = absurd (not_done refl)
 replace_hinders_alone actor key value old new End there h not_done =
     not_told (λ pairs. is_some (value_of key pairs) ≡ true) (λ pairs. value_of key pairs ≡ None) old.pairs (λ pairs some none. cc) there h.0
-replace_hinders_alone actor key value old new (Full need free) there h not_done = h.1
-replace_hinders_alone actor key value old new TooDeep there h not_done = h.1
-replace_hinders_alone actor key value old new NoMemory there h not_done = record {}
-replace_hinders_alone actor key value old new other there h not_done = delay_hinders actor old new other h
+replace_hinders_alone actor key value old new other there h not_done = search rules
 
 pub replace_hinders : (undo : Option Undo) (actor : ℕ) (key value : List ℕ) (old new : Index) (move : Move) → IsThere true key old
     → ReplacesWith undo actor key value old new move → move ≢ Done → Hinders actor old new move

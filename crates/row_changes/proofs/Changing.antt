@@ -1,5 +1,5 @@
 -- What stays known of a record that is being changed, what its steps do, and what is there once it stands.
-use Rattle.std.proofs.Common.{◌≡◌, ◌≢◌, ◌⊎◌, inl, inr, ⊎_elim, ℕ, ◌<◌, true, false, List, Option, Some, None, refl, sym, ap, ◌∙◌, arith, cond, Bool, ◌+◌, ◌≤◌}
+use Rattle.std.proofs.Common.{◌≡◌, ◌≢◌, ◌⊎◌, inl, inr, ⊎_elim, ℕ, ◌<◌, true, false, List, Option, Some, None, refl, sym, ap, ◌∙◌, arith, rules, cond, Bool, ◌+◌, ◌≤◌}
 use Rattle.std.proofs.Common.{◌∷◌, [], ◌^◌}
 use Rattle.std.specs.Prelude.{slice_get, IfSome, is_some, Ok, Err, length}
 use Rattle.std.proofs.lemmas.{Bool.cases_eq, List.length-set}
@@ -35,9 +35,8 @@ use Rattle.row_changes.specs.declared.entry_put.PutPhase.TheVariants as phases
 
 -- what is told of pairs stays told, if pairs are told still
 told_kept : (P : List Pair → Type 0) (old new : Option (List Pair)) → AreKept old new → IfSome old P → IfSome new P
-told_kept P old None kept told = record {}
-told_kept P None (Some new) kept told = absurd kept
 told_kept P (Some old) (Some new) kept told = rw kept told
+told_kept P old new kept told = search rules
 
 -- what is told tells what follows from it
 told_only : (P Q : List Pair → Type 0) (pairs : Option (List Pair)) → IfSome pairs P → ((list : List Pair) → P list → Q list) → IfSome pairs Q
@@ -61,12 +60,10 @@ listed_on s old new work txns others listed =
 -- a stage's facts while no pair changes
 pub stage_kept : (stage : RecordStage) (schema : Schema) (edit : RowEdit) (key : List ℕ) (session : Session) (old new : Index)
     → AreKept old.pairs new.pairs → StageHolds stage schema edit key session old → StageHolds stage schema edit key session new
-stage_kept Enter schema edit key session old new kept holds = holds
-stage_kept Room schema edit key session old new kept holds = holds
-stage_kept Find schema edit key session old new kept holds = holds
 stage_kept Insert schema edit key session old new kept holds = (holds.0, holds.1, told_kept _ old.pairs new.pairs kept holds.2)
 stage_kept (Replace before bytes) schema edit key session old new kept holds =
     (holds.0, holds.1, record { there = told_kept _ old.pairs new.pairs kept holds.2.there; code_is = holds.2.code_is })
+stage_kept other schema edit key session old new kept holds = holds
 
 pub unchanged_stays : (old new : WorldState) → IsUnchanged old new → RowsStay old new
 unchanged_stays old new same =
@@ -81,18 +78,13 @@ unchanged_stays old new same =
 -- room for an undo record was not made
 pub no_room_stays : (s bytes : ℕ) (old new : WorldState) (why : Move) → MakesRoom s bytes old new why → why ≢ moves.Done → RowsStay old new
 no_room_stays s bytes old new moves.Done h differs = absurd (differs refl)
-no_room_stays s bytes old new moves.NoMemory h differs = unchanged_stays old new h
-no_room_stays s bytes old new (moves.At key value) h differs = absurd h
-no_room_stays s bytes old new moves.End h differs = absurd h
-no_room_stays s bytes old new moves.TooDeep h differs = absurd h
-no_room_stays s bytes old new other h differs = unchanged_stays old new h.all
+no_room_stays s bytes old new other h differs = unchanged_stays old new (search rules)
 
 -- the record that is there has no version: the answer's cause
 pub spoiled : (schema : Schema) (key bytes : List ℕ) (index : Index) (why : Move) (s : ℕ) (new : Index)
     → Told (λ pairs. value_of key pairs ≡ Some bytes) index → Decodes schema key bytes (Err why) → Hinders s index new why ⊎ IsSpoiled schema key index
-spoiled schema key bytes index moves.NoMemory s new there h = inl (record {})
 spoiled schema key bytes index (moves.Bad page rule) s new there h = inr (told_only _ _ index.pairs there (λ pairs found. (bytes, found, h)))
-spoiled schema key bytes index other s new there h = absurd h
+spoiled schema key bytes index other s new there h = search rules
 
 pub same_rows : (state : WorldState) → RowsStay state state
 same_rows state =
@@ -332,10 +324,9 @@ pub version_made : (schema : Schema) (edit : RowEdit) (key : List ℕ) (session 
     → StageHolds stage schema edit key session index → record_steps stage ≡ 1 → (version : Version) (writer pointer : ℕ)
     → version ≡ version_by edit (row_found stage) writer pointer → IsRowOf schema.columns version.row × IsKeyOf schema version.row key
 version_made schema (Put row) key session index stage fits holds makes version writer pointer is = rw is (fits.fits.columns, fits.key_is)
-version_made schema (Remove value) key session index Insert fits holds makes version writer pointer is = absurd holds.1
 version_made schema (Remove value) key session index (Replace before bytes) fits holds makes version writer pointer is =
     rw is (holds.2.code_is.record_is.fits, holds.2.code_is.record_is.key_is)
-version_made schema (Remove value) key session index other fits holds makes version writer pointer is = absurd (omega (arith, makes))
+version_made schema (Remove value) key session index other fits holds makes version writer pointer is = absurd (search rules)
 
 pub value_short : (schema : Schema) (version : Version) (key value : List ℕ) → IsStorable schema
     → IsRowOf schema.columns version.row × IsKeyOf schema version.row key → value ≡ version_code schema version → length value ≤ 1024

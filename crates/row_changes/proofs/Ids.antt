@@ -1,6 +1,6 @@
 -- A transaction is given its id, and its change is entered.
 use Rattle.std.proofs.Common.{◌≡◌, ◌≢◌, ℕ, ◌+◌, ◌==◌, false, Option, Some, None, refl, sym, ap, ◌∙◌, eq-eqb}
-use Rattle.std.proofs.lemmas.{List.length-map, List.length-set, Bool.cond-true, Bool.cond-false, Bool.ne_eqb, Option.slice_get-map}
+use Rattle.std.proofs.lemmas.{List.length-map, List.length-set, Bool.cond-false, Bool.ne_eqb, Option.slice_get-map}
 use Rattle.std.specs.Prelude.{slice_get, option_map}
 use Rattle.inno_db.specs.declared.change.Change.{Change}
 use Rattle.store_api.specs.declared.answers.Standing.{Standing}
@@ -8,12 +8,6 @@ use Rattle.world.specs.State.{WorldState, Session, Work, HasWork, txn_of, id_of,
 use Rattle.world.specs.Sessions.{of_txn, change_txn, work_with_id, identified, change_added}
 use Rattle.row_changes.specs.{Records.IsListed, Records.id_for, Entering.GivesId, Entering.Enters}
 use Rattle.row_changes.proofs.Sessions.{one_found, set_here, set_other}
-
-pub id_given : (own next : ℕ) → own ≢ 0 → id_for own next ≡ own
-id_given own next differs = cond-false (own == 0) next own (ne_eqb own 0 differs)
-
-pub id_new : (own next : ℕ) → own ≡ 0 → id_for own next ≡ next
-id_new own next is = cond-true (own == 0) next own (eq-eqb own 0 is)
 
 -- ---- sessions of which one's transaction is changed
 

@@ -61,17 +61,15 @@ say_more chains place done older said so =
 
 alike_if : (a b : Bool) (column : ℕ) (was now : List Version) → (a ≡ true → b ≡ true → TellAlike column was now) → TellAlike column was (cond (a && b) now was)
 alike_if true true column was now alike = alike refl refl
-alike_if true false column was now alike = λ value. refl
-alike_if false b column was now alike = λ value. refl
+alike_if a b column was now alike = λ value. refl
 
 -- a key whose value stays tells the same
 stays_alike : (column : ℕ) (before after : Option (List Value)) (version : Version) (older : List Version) → newest older ≡ before
     → version.row ≡ after → value_stays column before after ≡ true → TellAlike column older (version ∷ older)
 stays_alike column None None version older was is stays = tells_no_row column version older is was
-stays_alike column None (Some after) version older was is stays = absurd (cc)
-stays_alike column (Some before) None version older was is stays = absurd (cc)
 stays_alike column (Some before) (Some after) version older was is stays =
     value_again column before version older after was is (same_value (value_in column before) (value_in column after) stays)
+stays_alike column before after version older was is stays = absurd (cc)
 
 so_far_kept : (chains : Chains) (place : Place) (done : ℕ) (next older : List Version) (old new : WorldState) → RowsStay old new
     → HasRowsSoFar chains place done next older old → HasRowsSoFar chains place done next older new
@@ -434,43 +432,36 @@ module _ (chains : Chains) (old new : WorldState) (change : KeysChange) (p : IsC
         stays : StaysBesideKeys old new
         stays = beside_put put.index change.which put.entry (Some unmarked) entering.within entering.index_is puts
 
+        coded : List Value → Coded
+        coded row = plain row p.pushed.version.writer
+
+        now_said : List Value → List Version
+        now_said row = shown (coded row) ∷ p.older
+
         rows : (before after : Option (List Value)) → change.before ≡ before → change.after ≡ after
             → IsEntryFor p.schema change.which after change.key (Some put.entry) → SaySo (change.which + 1) p.older new
         rows before None was now entry = absurd entry
         rows before (Some row) was now entry =
-            so_far_done change.which now_said new (ap (λ (v : Version). v ∷ p.older) shown_is ∙ sym p.pushed.versions)
-            (so_far_put change.which (without_row before p.older) now_said (key_index change.table change.which) put.entry (Some unmarked) here
-            (λ told. entry_here (pairs_of new) change.which (without_row before p.older) now_said row fits (step before was told))
+            let fits : IsRowFor p.schema row change.key = rw now at p.after in
+            let shown_is : shown (coded row) ≡ p.pushed.version = ap (λ r. let v : Version = record { writer = p.pushed.version.writer; row = r } in v) (sym (p.pushed.is ∙ now)) in
+            so_far_done change.which (now_said row) new (ap (λ (v : Version). v ∷ p.older) shown_is ∙ sym p.pushed.versions)
+            (so_far_put change.which (without_row before p.older) (now_said row) (key_index change.table change.which) put.entry (Some unmarked) here
+            (λ told. entry_here (pairs_of new) change.which (without_row before p.older) (now_said row) row fits (step before was told
+            (puts_entry change.which row p.pushed.version.writer put.entry (Some unmarked) p.pushed.small fits entry here told)))
             (rw was at waiting))
           where
-            coded : Coded
-            coded = plain row p.pushed.version.writer
-
-            now_said : List Version
-            now_said = shown coded ∷ p.older
-
-            shown_is : shown coded ≡ p.pushed.version
-            shown_is = ap (λ (r : Option (List Value)). let v : Version = record { writer = p.pushed.version.writer; row = r } in v) (sym (p.pushed.is ∙ now))
-
-            fits : IsRowFor p.schema row change.key
-            fits = rw now at p.after
-
-            changed : IsTold new
-                → PutsStored old.schemas (pairs_of old) (pairs_of new) change.table p.schema change.which entry.key.column coded (Some unmarked)
-            changed told =
-                puts_entry change.which row p.pushed.version.writer put.entry (Some unmarked) p.pushed.small fits entry here told
-
-            step : (was_row : Option (List Value)) → change.before ≡ was_row → IsTold new → (said : Said)
-                → AreCodedAs old.schemas (pairs_of old) old.versions.kept_at chains said
+            step : (was_row : Option (List Value)) → change.before ≡ was_row → IsTold new
+                → PutsStored old.schemas (pairs_of old) (pairs_of new) change.table p.schema change.which entry.key.column (coded row) (Some unmarked)
+                → (said : Said) → AreCodedAs old.schemas (pairs_of old) old.versions.kept_at chains said
                 → said change.table change.which (key_of p.schema row) ≡ without_row was_row p.older
-                → SaysNow said (says_of said place change.which now_said) (record { table = change.table; key = key_of p.schema row }) change.which now_said
-                → AreCodedAs old.schemas (pairs_of new) old.versions.kept_at chains (says_of said place change.which now_said)
-            step None none told said are said_is =
-                first_put old.schemas (pairs_of old) (pairs_of new) old.versions.kept_at chains said (says_of said place change.which now_said) change.table
-                p.schema change.which entry.key.column coded are p.older (changed told) refl said_is (p.was (stays.told told) ∙ none)
-            step (Some was_row) some told said are said_is =
-                new_put old.schemas (pairs_of old) (pairs_of new) old.versions.kept_at chains said (says_of said place change.which now_said) change.table
-                p.schema change.which entry.key.column coded are gone p.older (changed told) refl said_is refl
+                → SaysNow said (says_of said place change.which (now_said row)) (record { table = change.table; key = key_of p.schema row }) change.which
+                (now_said row) → AreCodedAs old.schemas (pairs_of new) old.versions.kept_at chains (says_of said place change.which (now_said row))
+            step None none told changed said are said_is =
+                first_put old.schemas (pairs_of old) (pairs_of new) old.versions.kept_at chains said (says_of said place change.which (now_said row))
+                change.table p.schema change.which entry.key.column (coded row) are p.older changed refl said_is (p.was (stays.told told) ∙ none)
+            step (Some was_row) some told changed said are said_is =
+                new_put old.schemas (pairs_of old) (pairs_of new) old.versions.kept_at chains said (says_of said place change.which (now_said row))
+                change.table p.schema change.which entry.key.column (coded row) are gone p.older changed refl said_is refl
 
     pub put_waits : (actor : ℕ) (same : EntryPut) (why : Move) → PutsEntry actor old new put (Hindered same why)
         → ChangesKeys actor chains old new change (Hindered (record change { put = Some same }) why)

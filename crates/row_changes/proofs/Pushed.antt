@@ -1,5 +1,5 @@
 -- A version that was recorded is the newest of its place, and the keys come next: the whole change of a row.
-use Rattle.std.proofs.Common.{◌≡◌, ◌≢◌, ◌∙◌, sym, ap, subst, refl, ℕ, ◌-◌, ◌^◌, ◌<◌, ◌==◌, Bool, true, false, cond, List, [], Option, None, Some, slice_get}
+use Rattle.std.proofs.Common.{◌≡◌, ◌≢◌, ◌∙◌, sym, ap, subst, refl, ℕ, ◌-◌, ◌^◌, ◌<◌, ◌==◌, Bool, true, false, List, [], Option, None, Some, slice_get}
 use Rattle.std.proofs.Common.{arith, ⊎_elim, inl, inr, ◌⊎◌}
 use Rattle.std.specs.Prelude.{IfSome, IsTrue, is_some}
 use Rattle.inno_types.specs.{declared.value.Value.Value, declared.value.Schema.Schema}
@@ -23,7 +23,7 @@ use Rattle.row_changes.specs.{declared.record_change.RecordChange.RecordChange, 
 use Rattle.row_changes.specs.{Keys.IsChangingKeys, Records.id_for, Records.GoesOnWithRecord, Records.ChangesRecord, Records.record_steps}
 use Rattle.row_changes.specs.Edits.{version_by, IsRowFor, IsKeyAt, FitsEdit, IsPut}
 use Rattle.row_changes.specs.Rows.{primary_of, PushesEdit, IsChangingRow, row_after, place_of, ChangesRow}
-use Rattle.std.proofs.lemmas.Bool.{cases_eq}
+use Rattle.std.proofs.lemmas.Bool.{cases_eq, cond_both}
 use Rattle.world.specs.{State.WorldState, State.Session, State.Work, State.HasWork, Indexes.KeepsVersion, Told.pairs_of, Told.IsTold}
 use Rattle.row_changes.proofs.{Sessions.one_found, Sessions.one_session, Ids.one_work}
 use Rattle.row_changes.proofs.Telling.{HasPut, told_if, rows_if, pairs_told, puts_pairs, tells}
@@ -95,11 +95,7 @@ after_fits schema (Put row) key fits = fits
 after_fits schema (Remove value) key fits = record {}
 
 pub small_id : (own next : ℕ) → own < 2 ^ 64 → next < 2 ^ 64 - 1 → id_for own next < 2 ^ 64
-small_id own next small few = go (own == 0)
-  where
-    go : (b : Bool) → cond b next own < 2 ^ 64
-    go true = omega arith
-    go false = small
+small_id own next small few = cond_both (own == 0) next own (λ n. n < 2 ^ 64) (λ new. omega arith) (λ own_one. small)
 
 -- ---- the rows
 

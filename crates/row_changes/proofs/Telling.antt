@@ -1,5 +1,5 @@
 -- What stays told of pairs and versions.
-use Rattle.std.proofs.Common.{◌≡◌, ◌≢◌, ⊎_elim, ◌∙◌, sym, ap, refl, ℕ, ◌==◌, List, Option, None, Some}
+use Rattle.std.proofs.Common.{◌≡◌, ◌≢◌, rules, ⊎_elim, ◌∙◌, sym, ap, refl, ℕ, ◌==◌, List, Option, None, Some}
 use Rattle.std.specs.Prelude.{IfSome, IsSome}
 use Rattle.std.proofs.lemmas.{Bool.cases_eq, Bool.cond-true, Bool.cond-false, Bool.Decides.eqb_tells}
 use Rattle.inno_types.specs.declared.value.Schema.{Schema}
@@ -11,15 +11,13 @@ use Rattle.row_changes.specs.{Pairs.RowsStay, Pairs.PutsPair, Told.AreRowsAs}
 
 -- what is told was told before
 pub told_before : (step : List Pair → List Pair → Type 0) (old new : Option (List Pair)) → Goes step old new → IsSome new → IsSome old
-told_before step old None goes told = absurd (cc)
-told_before step None (Some new) goes told = absurd goes
 told_before step (Some old) (Some new) goes told = refl
+told_before step old new goes told = absurd (search rules)
 
 pub went : (f : List Pair → List Pair) (old new : Option (List Pair)) → Goes (λ before after. after ≡ f before) old new → IsSome new
     → pairs_in new ≡ f (pairs_in old)
-went f old None goes told = absurd (cc)
-went f None (Some new) goes told = absurd goes
 went f (Some old) (Some new) goes told = goes
+went f old new goes told = absurd (search rules)
 
 -- ---- while no pair changes
 

@@ -1,5 +1,5 @@
 use Rattle.std.proofs.Common.{subst, inl}
-use Rattle.std.specs.Prelude.{Ok, Err}
+use Rattle.std.specs.Prelude.{Err}
 use Rattle.row_changes.specs.Records.{Decodes}
 use Rattle.row_changes.proofs.Awaited.{stays_if, fetch_keeps, fetch_delays, delay_hinders}
 use Rattle.row_changes.proofs.Changing.{looked_up, looked_up_none, not_decoded, hindered}
@@ -20,11 +20,9 @@ returns-in_default-fetch-clause-changes g c =
 abbrev pub returns-in-Ok-decoded-clause-changes : goal.returns-in-Ok-decoded-clause-changes
 returns-in-Ok-decoded-clause-changes g c =
     let decoded = rw c.in-Ok-decoded.is at c.decoded.ensures in
-    let next =
-    looked_up _ _ _ _ c.requires.changing _ c.fetch.new.into.items c.requires.stage (rw c.index.ensures at (rw c.in-Done.is at c.fetch.ensures.answer))
-    (λ schema there. subst (λ value. Decodes schema c.args.self.now.key value (Ok c.in-Ok-decoded.before)) c.deref.ensures.value (decoded schema there)) in
-    rw c.found.ensures
-    (rw c.from_vec.ensures next)
+    rw (c.found.ensures, c.from_vec.ensures)
+    (looked_up _ _ _ _ c.requires.changing _ c.fetch.new.into.items c.requires.stage (rw c.index.ensures at (rw c.in-Done.is at c.fetch.ensures.answer))
+    (λ schema there. rw c.deref.ensures.value at (decoded schema there)))
 
 abbrev pub returns-in-Err-clause-changes : goal.returns-in-Err-clause-changes
 returns-in-Err-clause-changes g c =

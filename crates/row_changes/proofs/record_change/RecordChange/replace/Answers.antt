@@ -64,9 +64,6 @@ returns-in-Done-clause-awaits g c =
     let p = c.requires.changing in
     let may = may_enter p _ _ (stage_at _ _ _ p _ c.requires.stage.2).0 (rw c.in-Done.is at c.replace.ensures).beside in
     let call = (rw c.index.ensures at c.replace.ensures).index_is in
-    let index = clustered_index c.args.self.now.table in
-    let old = g.W.World.state c.args.world.now in
-    let mid = g.W.World.state c.replace.new.self in
-    entered_awaits c.args.s index _ old mid _ _ _ may.0 may.1 call
-    (replace_with_here (Some c.in-Ok.undo) c.args.s c.args.self.now.key _ (old.indexes index) (mid.indexes index) c.replace.result call.here)
+    entered_awaits c.args.s (clustered_index c.args.self.now.table) _ (g.W.World.state c.args.world.now) _ _ _ _ may.0 may.1 call
+    (replace_with_here (Some c.in-Ok.undo) c.args.s c.args.self.now.key _ _ _ c.replace.result call.here)
     ((rw c.take_edit.ensures at c.enter.ensures) may.0 may.1 may.2)
