@@ -316,8 +316,8 @@ not_brought actor undo other old new differs h = h
 key_fits : (schema : Schema) (edit : RowEdit) (key : List ℕ) → IsStorable schema → FitsEdit schema edit key → length key ≤ 33
 key_fits schema (Put row) key storable fits = short_key schema row key storable fits.key_is
 key_fits schema (Remove value) key storable fits =
-    omega (arith, ap length fits.spelled ∙ length-key_code fits.column.kind value fits.has_key.0,
-    ap (λ (c : Column). key_width c.kind) (one_found fits.column storable.column fits.primary storable.primary), storable.short)
+    let width = ap (λ (c : Column). key_width c.kind) (one_found fits.column storable.column fits.primary storable.primary) in
+    omega (arith, ap length fits.spelled ∙ length-key_code fits.column.kind value fits.has_key.0, width, storable.short)
 
 -- the row of the version that is made is one of the table, and has the key
 pub version_made : (schema : Schema) (edit : RowEdit) (key : List ℕ) (session : Session) (index : Index) (stage : RecordStage) → FitsEdit schema edit key

@@ -7,14 +7,14 @@ use Rattle.inno_types.specs.{declared.value.Value.Value, declared.value.Key.Key,
 use Rattle.inno_db.specs.Database.{key_of}
 use Rattle.store_api.specs.{declared.NoMemory.NoMemory, declared.moves.Move.Move}
 use Rattle.store_api.specs.declared.answers.Version.{Version as Coded}
-use Rattle.entries.specs.{Pairs.Pair, Index.Index}
+use Rattle.entries.specs.{Index.Index}
 use Rattle.row_versions.specs.{declared.place.Place.Place, declared.version.Version.Version}
 use Rattle.row_versions.specs.Chains.{Chains, versions_at, is_same_place, newest}
 use Rattle.row_codec.specs.Rows.{version_code}
 use Rattle.law_stored_rows.specs.{Edits.key_index, Edits.clustered_index, Entries.value_in, Entries.entry_of, Entries.TellAlike, Records.shown}
 use Rattle.law_stored_rows.specs.{Tables.Said, Tables.AreCodedAs, Tables.SaysNow, FittingRecords.IsEntryOf, Storable.IsStorable}
 use Rattle.law_stored_rows.specs.Steps.{PutsEntry as PutsStored}
-use Rattle.row_changes.specs.{Told.HasRows, declared.entry_put.PutPhase.TheVariants.Look, Edits.IsRowFor, declared.entry_put.PutPhase.PutPhase}
+use Rattle.row_changes.specs.{Told.HasRows, Told.AreRowsAs, declared.entry_put.PutPhase.TheVariants.Look, Edits.IsRowFor, declared.entry_put.PutPhase.PutPhase}
 use Rattle.row_changes.specs.{declared.entry_put.EntryPut.EntryPut, declared.keys_change.KeysChange.KeysChange, declared.key_entries.KeyEntries.KeyEntries}
 use Rattle.row_changes.specs.{declared.reached.Reached.TheVariants.Hindered, Pairs.Hinders, Pairs.RowsStay, Pairs.PutsPair}
 use Rattle.row_changes.specs.Keys.{StaysBesideKeys, gone, SaySoFar, said_next, keys_next, without_row, keys_steps, HasRowsSoFar, ChangesKeys, IsEntering}
@@ -152,9 +152,9 @@ module _ (chains : Chains) (old new : WorldState) (change : KeysChange) (p : IsC
   abbrev SaySo : ℕ → List Version → WorldState → Type 0
   SaySo done next state = HasRowsSoFar chains place done next p.older state
 
-  -- of these pairs the keys say so much of the place
-  abbrev SayOf : (ℕ → List Pair) → ℕ → List Version → Type 0
-  SayOf pairs done next = (said : Said) × AreCodedAs old.schemas pairs old.versions.kept_at chains said × SaySoFar chains place done next p.older said
+  -- the keys say so much of the place before the step
+  abbrev SayOf : ℕ → List Version → Type 0
+  SayOf done next = (said : Said) × AreRowsAs chains said old × SaySoFar chains place done next p.older said
 
   few : (which : ℕ) → which < keys → which < 4
   few which within = let most = p.table.storable.few in omega arith
@@ -162,12 +162,11 @@ module _ (chains : Chains) (old new : WorldState) (change : KeysChange) (p : IsC
   -- ---- what keys say
 
   -- a key whose entries stay is done
-  pass_one : (pairs : ℕ → List Pair) (done : ℕ)
-      → ((key : Key) → slice_get p.schema.keys done ≡ Some key → TellAlike key.column p.older (p.pushed.version ∷ p.older))
-      → SayOf pairs done p.older → SayOf pairs (done + 1) p.older
-  pass_one pairs done alike says = (
+  pass_one : (done : ℕ) → ((key : Key) → slice_get p.schema.keys done ≡ Some key → TellAlike key.column p.older (p.pushed.version ∷ p.older))
+      → SayOf done p.older → SayOf (done + 1) p.older
+  pass_one done alike says = (
     says_of says.0 place done (versions_at place chains),
-    said_alike old.schemas pairs old.versions.kept_at chains says.0 (says_of says.0 place done (versions_at place chains)) says.1
+    said_alike old.schemas (pairs_of old) old.versions.kept_at chains says.0 (says_of says.0 place done (versions_at place chains)) says.1
         (λ table which s k s_there k_there value. alike_if (which == done) (is_same_place place (record { table = table; key = value })) k.column
         (says.0 table which value) (versions_at place chains) (λ at same. here table which s k s_there k_there value at same)),
     say_more chains place done p.older (says_of says.0 place done (versions_at place chains))
@@ -187,26 +186,13 @@ module _ (chains : Chains) (old new : WorldState) (change : KeysChange) (p : IsC
           subst Alike (same_place place (record { table = table; key = value }) same) at_place s_there
 
   -- so many of them
-  pass : (pairs : ℕ → List Pair) (n done to : ℕ) → done + n ≡ to
+  pass : (n done to : ℕ) → done + n ≡ to
       → ((which : ℕ) (key : Key) → done ≤ which → which < to → slice_get p.schema.keys which ≡ Some key → TellAlike key.column p.older
-      (p.pushed.version ∷ p.older)) → SayOf pairs done p.older → SayOf pairs to p.older
-  pass pairs zero done to same alike says = let all : to ≡ done = omega (arith, same) in rw all says
-  pass pairs (suc n) done to same alike says =
-      pass pairs n (done + 1) to (omega (arith, same)) (λ which key from. alike which key (omega arith))
-      (pass_one pairs done (λ key. alike done key (omega arith) (omega (arith, same))) says)
-
-  -- an entry of a row of the place has changed, so its key says something else
-  entry_here : (pairs : ℕ → List Pair) (done : ℕ) (next now : List Version) (row : List Value) → IsRowFor p.schema row change.key
-      → ((was : Said) → AreCodedAs old.schemas (pairs_of old) old.versions.kept_at chains was → was change.table done (key_of p.schema row) ≡ next
-      → SaysNow was (says_of was place done now) (record { table = change.table; key = key_of p.schema row }) done now
-      → AreCodedAs old.schemas pairs old.versions.kept_at chains (says_of was place done now))
-      → SayOf (pairs_of old) done next → SayOf pairs done now
-  entry_here pairs done next now row fits law says =
-      let key = at_primary p.schema p.value change.key _ (plain row 0) p.at (code_of p.schema row change.key 0 (omega arith) fits) in (
-        says_of says.0 place done now,
-        law says.0 says.1 (ap (says.0 change.table done) key ∙ says.2.here) (rw key (λ t w v. refl)),
-        say_here chains place done next now p.older says.0 says.2,
-      )
+      (p.pushed.version ∷ p.older)) → SayOf done p.older → SayOf to p.older
+  pass zero done to same alike says = let all : to ≡ done = omega (arith, same) in rw all says
+  pass (suc n) done to same alike says =
+      pass n (done + 1) to (omega (arith, same)) (λ which key from. alike which key (omega arith))
+      (pass_one done (λ key. alike done key (omega arith) (omega (arith, same))) says)
 
   -- the next key says what is there, and is done
   so_far_done : (done : ℕ) (next : List Version) (state : WorldState) → next ≡ versions_at place chains → SaySo done next state
@@ -215,15 +201,19 @@ module _ (chains : Chains) (old new : WorldState) (change : KeysChange) (p : IsC
       let now = rows told in
       (now.0, now.1, say_more chains place done p.older now.0 (rw is at now.2))
 
-  -- a pair has changed: what it makes of what keys say, where told
-  so_far_put : (done : ℕ) (next now : List Version) (index : ℕ) (key : List ℕ) (value : Option (List ℕ)) (puts : PutsPair index key value old new)
-      → (IsTold new → SayOf (pairs_of old) done next → SayOf (pairs_of new) done now) → SaySo done next old → SaySo done now new
-  so_far_put done next now index key value puts step rows told =
-      let says = step told (rows (put_told index key value old new puts told)) in (
-        says.0,
-        coded_again old.schemas new.schemas (pairs_of new) (pairs_of new) old.versions.kept_at new.versions.kept_at chains says.0
-            (ap (λ (state : WorldState). state.schemas) puts.rest) refl (puts.versions.kept told.versions) says.1,
-        says.2,
+  -- an entry of a row of the place has changed, so its key says something else, where told
+  entry_put : (done : ℕ) (next now : List Version) (row : List Value) (entry : List ℕ) (value : Option (List ℕ))
+      → PutsPair (key_index change.table done) entry value old new → IsRowFor p.schema row change.key
+      → (IsTold new → (was : Said) → AreRowsAs chains was old → was change.table done (key_of p.schema row) ≡ next
+      → SaysNow was (says_of was place done now) (record { table = change.table; key = key_of p.schema row }) done now
+      → AreCodedAs old.schemas (pairs_of new) old.versions.kept_at chains (says_of was place done now)) → SaySo done next old → SaySo done now new
+  entry_put done next now row entry value puts fits law rows told =
+      let says = rows (put_told (key_index change.table done) entry value old new puts told) in
+      let home = at_primary p.schema p.value change.key _ (plain row 0) p.at (code_of p.schema row change.key 0 (omega arith) fits) in (
+        says_of says.0 place done now,
+        coded_again _ _ _ _ _ _ _ _ (ap (λ (state : WorldState). state.schemas) puts.rest) refl (puts.versions.kept told.versions)
+            (law told says.0 says.1 (ap (says.0 change.table done) home ∙ says.2.here) (rw home (λ t w v. refl))),
+        say_here chains place done next now p.older says.0 says.2,
       )
 
   -- the entry of a row of the place has been put
@@ -248,7 +238,7 @@ module _ (chains : Chains) (old new : WorldState) (change : KeysChange) (p : IsC
   rows_passed : (to : ℕ) → change.put ≡ None → change.which ≤ to → StayBetween p.schema change.which to change.before change.after → SaySo to p.older old
   rows_passed to none from stay told =
       let waiting : SaySo change.which p.older old = rw none at p.rows in
-      pass (pairs_of old) (to - change.which) change.which to (omega arith)
+      pass (to - change.which) change.which to (omega arith)
       (λ which key from' below is. stays_alike key.column change.before change.after p.pushed.version p.older (p.was told) p.pushed.is
       (stay which key from' below is)) (waiting told)
 
@@ -285,11 +275,11 @@ module _ (chains : Chains) (old new : WorldState) (change : KeysChange) (p : IsC
       entering (so_far_kept chains place change.which (said_next change.put change.before p.older) p.older old new stay p.rows)
 
   -- an entry has changed, and the index of a key holds no records
-  beside_put : (index which : ℕ) (key : List ℕ) (value : Option (List ℕ)) → which < keys → index ≡ key_index change.table which
-      → PutsPair index key value old new → StaysBesideKeys old new
-  beside_put index which key value within is puts = record {
-    told = put_told index key value old new puts;
-    records = λ table. puts.elsewhere (clustered_index table) (λ same. no_key table change.table which (few which within) (sym (same ∙ is)));
+  beside_put : (which : ℕ) (key : List ℕ) (value : Option (List ℕ)) → which < keys → PutsPair (key_index change.table which) key value old new
+      → StaysBesideKeys old new
+  beside_put which key value within puts = record {
+    told = put_told (key_index change.table which) key value old new puts;
+    records = λ table. puts.elsewhere (clustered_index table) (λ same. no_key table change.table which (few which within) (sym same));
     places = puts.places;
     versions = puts.versions;
     rest = puts.rest;
@@ -312,26 +302,26 @@ module _ (chains : Chains) (old new : WorldState) (change : KeysChange) (p : IsC
   waiting_steps none = ap (keys_steps (keys - change.which)) none
 
   -- the new row's entry is put next
-  put_next : (index : ℕ) (entries : KeyEntries) (entry : List ℕ) → change.put ≡ None → index ≡ key_index change.table entries.which
-      → AreEntries p.schema change.which change.before change.after change.key entries
+  put_next : (entries : KeyEntries) (entry : List ℕ) → change.put ≡ None → AreEntries p.schema change.which change.before change.after change.key entries
       → IsEntryFor p.schema entries.which change.after change.key (Some entry) → StaysBesideKeys old new
-      → SaySo entries.which (without_row change.before p.older) new → GoesOnWithKeys chains old new change (keys_next change index entries.which (Some entry))
-  put_next index entries entry none is all new_entry stays rows =
+      → SaySo entries.which (without_row change.before p.older) new → GoesOnWithKeys chains old new change
+      (keys_next change (key_index change.table entries.which) entries.which (Some entry))
+  put_next entries entry none all new_entry stays rows =
       let within = all.within in
       let from = all.first.from_there in
       let waits = waiting_steps none in
-      let number : IsIndex new.schemas index =
+      let number : IsIndex new.schemas (key_index change.table entries.which) =
       record {
         table = change.table;
         which = 1 + entries.which;
-        number = is;
+        number = refl;
         schema = p.schema;
-        there = ap (λ (state : WorldState). slice_get state.schemas change.table) stays.rest ∙ p.table.there;
+        there = rw stays.rest p.table.there;
         key = omega (arith, within);
         few = (let f = few entries.which within in omega arith);
       } in
-      goes_on entries.which (Some (record { index = index; entry = entry; phase = Look })) stays (omega (arith, within)) (record {
-        index_is = is;
+      goes_on entries.which (Some (record { index = key_index change.table entries.which; entry = entry; phase = Look })) stays (omega (arith, within)) (record {
+        index_is = refl;
         entry_is = new_entry;
         within = within;
         putting =
@@ -343,33 +333,30 @@ module _ (chains : Chains) (old new : WorldState) (change : KeysChange) (p : IsC
       }) rows (omega (arith, waits, within, from))
 
   -- nothing else is left to do in a key where no row is any more
-  pub marked_on : (index : ℕ) (entries : KeyEntries) (entry : List ℕ) → change.put ≡ None → index ≡ key_index change.table entries.which
-      → AreEntries p.schema change.which change.before change.after change.key entries → entries.old ≡ Some entry → PutsPair index entry (Some marked) old new
-      → GoesOnWithKeys chains old new change (keys_next change index entries.which entries.new)
-  marked_on index entries entry none is all old_is puts =
+  pub marked_on : (entries : KeyEntries) (entry : List ℕ) → change.put ≡ None
+      → AreEntries p.schema change.which change.before change.after change.key entries → entries.old ≡ Some entry
+      → PutsPair (key_index change.table entries.which) entry (Some marked) old new
+      → GoesOnWithKeys chains old new change (keys_next change (key_index change.table entries.which) entries.which entries.new)
+  marked_on entries entry none all old_is puts =
       go change.before change.after entries.new refl refl (rw old_is at all.old_is) all.new_is
     where
-      here : PutsPair (key_index change.table entries.which) entry (Some marked) old new
-      here = rw is at puts
-
       stays : StaysBesideKeys old new
-      stays = beside_put index entries.which entry (Some marked) all.within is puts
+      stays = beside_put entries.which entry (Some marked) all.within puts
 
       -- once the old row's entry is marked
       gone_now : (row : List Value) → change.before ≡ Some row → IsEntryIn p.schema entries.which row change.key entry → (version : Version)
           → version.row ≡ None → SaySo entries.which (version ∷ p.older) new
       gone_now row was e version no_row =
           let fits : IsRowFor p.schema row change.key = rw was at p.before in
-          so_far_put entries.which p.older (version ∷ p.older) (key_index change.table entries.which) entry (Some marked) here
-          (λ told. entry_here (pairs_of new) entries.which p.older (version ∷ p.older) row fits
-          (λ said are said_is now. old_marked old.schemas (pairs_of old) (pairs_of new) old.versions.kept_at chains said
+          entry_put entries.which p.older (version ∷ p.older) row entry (Some marked) puts fits
+          (λ told said are said_is now. old_marked old.schemas (pairs_of old) (pairs_of new) old.versions.kept_at chains said
           (says_of said place entries.which (version ∷ p.older)) change.table p.schema entries.which e.key.column (plain row 0) are version p.older
-          (puts_entry entries.which row 0 entry (Some marked) (omega arith) fits e here told)
-          said_is (p.was (stays.told told) ∙ was) no_row now)) (rows_passed entries.which none all.first.from_there all.first.stay)
+          (puts_entry entries.which row 0 entry (Some marked) (omega arith) fits e puts told)
+          said_is (p.was (stays.told told) ∙ was) no_row now) (rows_passed entries.which none all.first.from_there all.first.stay)
 
       go : (before after : Option (List Value)) (next : Option (List ℕ)) → change.before ≡ before → change.after ≡ after
           → IsEntryFor p.schema entries.which before change.key (Some entry) → IsEntryFor p.schema entries.which after change.key next
-          → GoesOnWithKeys chains old new change (keys_next change index entries.which next)
+          → GoesOnWithKeys chains old new change (keys_next change (key_index change.table entries.which) entries.which next)
       go (Some row) None None was now e new_e =
           let within = all.within in
           let from = all.first.from_there in
@@ -378,25 +365,25 @@ module _ (chains : Chains) (old new : WorldState) (change : KeysChange) (p : IsC
           (so_far_done entries.which (p.pushed.version ∷ p.older) new (sym p.pushed.versions) (gone_now row was e p.pushed.version (p.pushed.is ∙ now)))
           (omega (arith, waits, within, from))
       go (Some row) (Some later) (Some bytes) was now e new_e =
-          put_next index entries bytes none is all (rw now new_e) stays (rw was (gone_now row was e gone refl))
+          put_next entries bytes none all (rw now new_e) stays (rw was (gone_now row was e gone refl))
       go before after next was now e new_e = absurd (search rules)
 
   -- there is no old entry
-  pub nothing_marked : (index : ℕ) (entries : KeyEntries) → change.put ≡ None → index ≡ key_index change.table entries.which
+  pub nothing_marked : (entries : KeyEntries) → change.put ≡ None
       → AreEntries p.schema change.which change.before change.after change.key entries → entries.old ≡ None → RowsStay old new
-      → GoesOnWithKeys chains old new change (keys_next change index entries.which entries.new)
-  nothing_marked index entries none is all old_is stay =
+      → GoesOnWithKeys chains old new change (keys_next change (key_index change.table entries.which) entries.which entries.new)
+  nothing_marked entries none all old_is stay =
       go change.before change.after entries.new refl refl (rw old_is at all.old_is) all.new_is
     where
       go : (before after : Option (List Value)) (next : Option (List ℕ)) → change.before ≡ before → change.after ≡ after
           → IsEntryFor p.schema entries.which before change.key None → IsEntryFor p.schema entries.which after change.key next
-          → GoesOnWithKeys chains old new change (keys_next change index entries.which next)
+          → GoesOnWithKeys chains old new change (keys_next change (key_index change.table entries.which) entries.which next)
       go None None None was now e new_e =
           let key = some_key p.schema entries.which all.within in
           let differs : value_stays key.0.column None None ≡ false = rw (was, now) at (all.first.changes key.0 key.1) in
           absurd (cc)
       go None (Some later) (Some bytes) was now e new_e =
-          put_next index entries bytes none is all (rw now new_e) (beside_stay old new stay)
+          put_next entries bytes none all (rw now new_e) (beside_stay old new stay)
           (rw was (so_far_kept chains place entries.which p.older p.older old new stay (rows_passed entries.which none all.first.from_there all.first.stay)))
       go before after next was now e new_e = absurd (search rules)
 
@@ -430,7 +417,7 @@ module _ (chains : Chains) (old new : WorldState) (change : KeysChange) (p : IsC
         here = rw entering.index_is at puts
 
         stays : StaysBesideKeys old new
-        stays = beside_put put.index change.which put.entry (Some unmarked) entering.within entering.index_is puts
+        stays = beside_put change.which put.entry (Some unmarked) entering.within here
 
         coded : List Value → Coded
         coded row = plain row p.pushed.version.writer
@@ -445,9 +432,8 @@ module _ (chains : Chains) (old new : WorldState) (change : KeysChange) (p : IsC
             let fits : IsRowFor p.schema row change.key = rw now at p.after in
             let shown_is : shown (coded row) ≡ p.pushed.version = ap (λ r. let v : Version = record { writer = p.pushed.version.writer; row = r } in v) (sym (p.pushed.is ∙ now)) in
             so_far_done change.which (now_said row) new (ap (λ (v : Version). v ∷ p.older) shown_is ∙ sym p.pushed.versions)
-            (so_far_put change.which (without_row before p.older) (now_said row) (key_index change.table change.which) put.entry (Some unmarked) here
-            (λ told. entry_here (pairs_of new) change.which (without_row before p.older) (now_said row) row fits (step before was told
-            (puts_entry change.which row p.pushed.version.writer put.entry (Some unmarked) p.pushed.small fits entry here told)))
+            (entry_put change.which (without_row before p.older) (now_said row) row put.entry (Some unmarked) here fits
+            (λ told. step before was told (puts_entry change.which row p.pushed.version.writer put.entry (Some unmarked) p.pushed.small fits entry here told))
             (rw was at waiting))
           where
             step : (was_row : Option (List Value)) → change.before ≡ was_row → IsTold new

@@ -4,11 +4,9 @@ use Rattle.row_changes.proofs.keys_change.KeysChange.mark.Goals as goal
 
 abbrev pub returns-in-Ok-clause-changes : goal.returns-in-Ok-clause-changes
 returns-in-Ok-clause-changes g c = λ chains p.
-    rw c.next.ensures
-    (marked_on chains _ _ c.args.self.now p c.args.mark.index (record { which = c.args.which; old = Some c.args.mark.entry; new = c.args.new })
-    c.args.mark.entry
-    c.requires.none c.requires.index (c.requires.entries p.schema p.table.there) refl
-    c.in-Ok.ensures.marks)
+    rw (c.next.ensures, c.requires.index)
+    (marked_on chains _ _ c.args.self.now p (record { which = c.args.which; old = Some c.args.mark.entry; new = c.args.new }) c.args.mark.entry c.requires.none
+    (c.requires.entries p.schema p.table.there) refl (rw c.requires.index at c.in-Ok.ensures.marks))
 
 abbrev pub returns-clause-changes : goal.returns-clause-changes
 returns-clause-changes g c = λ chains p.
