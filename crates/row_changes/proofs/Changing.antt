@@ -266,11 +266,11 @@ module _ (s : ℕ) (undo : Undo) (old mid : WorldState) (logged : IsLogged s und
   logged_elsewhere : (t : ℕ) → t ≢ s → slice_get mid.sessions t ≡ slice_get old.sessions t
   logged_elsewhere t differs = ap (λ (state : WorldState). slice_get state.sessions t) logged.rest ∙ set_other old.sessions s t logged_session differs
 
-  recorded : (change : Change) (rows table : ℕ) (key bytes : List ℕ) (new : WorldState) (step : Index → Index → Type 0) (holder : Option ℕ)
+  recorded : (change : Change) (rows table : ℕ) (key bytes : List ℕ) {new : WorldState} {step : Index → Index → Type 0} {holder : Option ℕ}
       → Enters s change rows logged_session logged_work mid new → InIndex (clustered_index table) step old mid
       → HasGone (λ before after. after ≡ with_value key (Some bytes) before) holder (old.indexes (clustered_index table)) (mid.indexes (clustered_index table))
       → Records s change rows table key bytes undo old new
-  recorded change rows table key bytes new step holder enters index_is gone =
+  recorded change rows table key bytes enters index_is gone =
       let now : Work = record logged_work { id = id_for logged.work.id mid.txns.next; own = logged.work.own + 1 } in
       let places = places_if index_is gone.place in
       rw (enters.rest, logged.rest) (record {
@@ -396,7 +396,7 @@ module _ {s : ℕ} {old : WorldState} {change : RecordChange} (p : IsChangingRec
       → Calling InsertsWith undo value mid moves.Done → EntersIt mid new → ChangesRecord s old new change (Recorded None)
   inserted mid new value undo at value_is undo_is c enters =
       let holds = stage_at s old change p Insert at in
-      let all = recorded s undo old mid c.beside _ _ change.table _ value new _ _ (enters _ _ (logged_here s undo old mid c.beside)) c.index_is c.index_is.here.2 in (
+      let all = recorded s undo old mid c.beside _ _ change.table _ value (enters _ _ (logged_here s undo old mid c.beside)) c.index_is c.index_is.here.2 in (
         p.schema,
         p.table,
         inl (
@@ -412,7 +412,7 @@ module _ {s : ℕ} {old : WorldState} {change : RecordChange} (p : IsChangingRec
       → Calling ReplacesWith undo value mid moves.Done → EntersIt mid new → ChangesRecord s old new change (Recorded found)
   replaced mid new before bytes value undo found at value_is undo_is found_is small c enters =
       let holds = stage_at s old change p (Replace before bytes) at in
-      let all = recorded s undo old mid c.beside _ _ change.table _ value new _ _ (enters _ _ (logged_here s undo old mid c.beside)) c.index_is c.index_is.here.1 in
+      let all = recorded s undo old mid c.beside _ _ change.table _ value (enters _ _ (logged_here s undo old mid c.beside)) c.index_is c.index_is.here.1 in
       let over : PutsOver s old new change p.schema before =
       record {
         session = p.session;

@@ -201,12 +201,17 @@ module _ (chains : Chains) (old new : WorldState) (change : KeysChange) (p : IsC
       let now = rows told in
       (now.0, now.1, say_more chains place done p.older now.0 (rw is at now.2))
 
+  -- whatever the keys said, this one says something else of the row's place, and the pairs are as it says
+  abbrev MovesOn : ℕ → List Version → List Version → List Value → Type 0
+  MovesOn done next now row =
+      (was : Said) → AreRowsAs chains was old → was change.table done (key_of p.schema row) ≡ next
+      → SaysNow was (says_of was place done now) (record { table = change.table; key = key_of p.schema row }) done now
+      → AreCodedAs old.schemas (pairs_of new) old.versions.kept_at chains (says_of was place done now)
+
   -- an entry of a row of the place has changed, so its key says something else, where told
   entry_put : (done : ℕ) (next now : List Version) (row : List Value) (entry : List ℕ) (value : Option (List ℕ))
       → PutsPair (key_index change.table done) entry value old new → IsRowFor p.schema row change.key
-      → (IsTold new → (was : Said) → AreRowsAs chains was old → was change.table done (key_of p.schema row) ≡ next
-      → SaysNow was (says_of was place done now) (record { table = change.table; key = key_of p.schema row }) done now
-      → AreCodedAs old.schemas (pairs_of new) old.versions.kept_at chains (says_of was place done now)) → SaySo done next old → SaySo done now new
+      → (IsTold new → MovesOn done next now row) → SaySo done next old → SaySo done now new
   entry_put done next now row entry value puts fits law rows told =
       let says = rows (put_told (key_index change.table done) entry value old new puts told) in
       let home = at_primary p.schema p.value change.key _ (plain row 0) p.at (code_of p.schema row change.key 0 (omega arith) fits) in (
@@ -349,8 +354,7 @@ module _ (chains : Chains) (old new : WorldState) (change : KeysChange) (p : IsC
       gone_now row was e version no_row =
           let fits : IsRowFor p.schema row change.key = rw was at p.before in
           entry_put entries.which p.older (version ∷ p.older) row entry (Some marked) puts fits
-          (λ told said are said_is now. old_marked old.schemas (pairs_of old) (pairs_of new) old.versions.kept_at chains said
-          (says_of said place entries.which (version ∷ p.older)) change.table p.schema entries.which e.key.column (plain row 0) are version p.older
+          (λ told said are said_is now. old_marked _ _ _ _ _ said _ _ _ _ _ (plain row 0) are version p.older
           (puts_entry entries.which row 0 entry (Some marked) (omega arith) fits e puts told)
           said_is (p.was (stays.told told) ∙ was) no_row now) (rows_passed entries.which none all.first.from_there all.first.stay)
 
@@ -430,7 +434,8 @@ module _ (chains : Chains) (old new : WorldState) (change : KeysChange) (p : IsC
         rows before None was now entry = absurd entry
         rows before (Some row) was now entry =
             let fits : IsRowFor p.schema row change.key = rw now at p.after in
-            let shown_is : shown (coded row) ≡ p.pushed.version = ap (λ r. let v : Version = record { writer = p.pushed.version.writer; row = r } in v) (sym (p.pushed.is ∙ now)) in
+            let shown_is : shown (coded row) ≡ p.pushed.version =
+            ap (λ r. let v : Version = record { writer = p.pushed.version.writer; row = r } in v) (sym (p.pushed.is ∙ now)) in
             so_far_done change.which (now_said row) new (ap (λ (v : Version). v ∷ p.older) shown_is ∙ sym p.pushed.versions)
             (entry_put change.which (without_row before p.older) (now_said row) row put.entry (Some unmarked) here fits
             (λ told. step before was told (puts_entry change.which row p.pushed.version.writer put.entry (Some unmarked) p.pushed.small fits entry here told))
@@ -438,16 +443,11 @@ module _ (chains : Chains) (old new : WorldState) (change : KeysChange) (p : IsC
           where
             step : (was_row : Option (List Value)) → change.before ≡ was_row → IsTold new
                 → PutsStored old.schemas (pairs_of old) (pairs_of new) change.table p.schema change.which entry.key.column (coded row) (Some unmarked)
-                → (said : Said) → AreCodedAs old.schemas (pairs_of old) old.versions.kept_at chains said
-                → said change.table change.which (key_of p.schema row) ≡ without_row was_row p.older
-                → SaysNow said (says_of said place change.which (now_said row)) (record { table = change.table; key = key_of p.schema row }) change.which
-                (now_said row) → AreCodedAs old.schemas (pairs_of new) old.versions.kept_at chains (says_of said place change.which (now_said row))
+                → MovesOn change.which (without_row was_row p.older) (now_said row) row
             step None none told changed said are said_is =
-                first_put old.schemas (pairs_of old) (pairs_of new) old.versions.kept_at chains said (says_of said place change.which (now_said row))
-                change.table p.schema change.which entry.key.column (coded row) are p.older changed refl said_is (p.was (stays.told told) ∙ none)
+                first_put _ _ _ _ _ said _ _ _ _ _ (coded row) are p.older changed refl said_is (p.was (stays.told told) ∙ none)
             step (Some was_row) some told changed said are said_is =
-                new_put old.schemas (pairs_of old) (pairs_of new) old.versions.kept_at chains said (says_of said place change.which (now_said row))
-                change.table p.schema change.which entry.key.column (coded row) are gone p.older changed refl said_is refl
+                new_put _ _ _ _ _ said _ _ _ _ _ (coded row) are gone p.older changed refl said_is refl
 
     pub put_waits : (actor : ℕ) (same : EntryPut) (why : Move) → PutsEntry actor old new put (Hindered same why)
         → ChangesKeys actor chains old new change (Hindered (record change { put = Some same }) why)

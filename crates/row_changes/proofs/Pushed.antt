@@ -159,8 +159,7 @@ kept_more schemas pointer undo old new k told other found is =
 module _ {s : ℕ} {old new : WorldState} {change : RecordChange} {former : Coded} (p : IsChangingRecord s old change)
     (o : PutsOver s old new change p.schema former) where
   pub kept_over : KeepsVersion old.schemas o.session.next_pointer (undo_of_former change.table change.key o.bytes) old.versions new.versions
-  kept_over =
-      rw (one_session old s o.records.work.session o.session o.records.work.had.session_is o.had.session_is) at o.records.work.versions
+  kept_over = rw (one_session old s o.records.work.session o.session o.records.work.had.session_is o.had.session_is) at o.records.work.versions
 
   pub kept_code : IsCodeOf p.schema change.key o.bytes kept_over.version
   kept_code =
@@ -244,11 +243,10 @@ module _ (s : ℕ) (chains pushed : Chains) (old new : WorldState) (change : Rec
   first_keys : (f : PutsFirst s old new change p.schema) → IsChangingKeys pushed new (taken None)
   first_keys f =
       keys_next None [] 0 _ f.had f.records f.records.work.versions.told (record {})
-      (λ told. ap newest (absent old.schemas (pairs_of old) old.versions.kept_at chains change.table p.schema at.column (primary_of p.schema change.edit)
-      (rows told).clustered p.table.there at.primary (λ has. rw (← at.spelled) (nothing told))))
+      (λ told. ap newest (absent _ _ _ _ change.table p.schema at.column (primary_of p.schema change.edit) (rows told).clustered p.table.there at.primary
+      (λ has. rw (← at.spelled) (nothing told))))
       (λ now told puts. rw (f.records.work.versions.kept now)
-      (first_rows old.schemas (pairs_of old) (pairs_of new) chains pushed change.table p.schema change.edit change.key p.table.there p.fits writer small pushes
-      old.versions.kept_at f.is_put (nothing told) puts (rows told)))
+      (first_rows _ _ _ _ _ change.table p.schema change.edit change.key p.table.there p.fits writer small pushes _ f.is_put (nothing told) puts (rows told)))
     where
       nothing : IsTold old → value_of change.key (pairs_of old index) ≡ None
       nothing told =
@@ -261,14 +259,11 @@ module _ (s : ℕ) (chains pushed : Chains) (old new : WorldState) (change : Rec
       (shown_fits p.schema change.key o.bytes former.marked former o.was.code_is)
       (λ told. ap (λ (k : Value). newest (versions_at (record { table = change.table; key = k }) chains))
       (sym (at_primary p.schema (primary_of p.schema change.edit) change.key o.bytes former at o.was.code_is))
-      ∙ ap newest (decoded old.schemas (pairs_of old) old.versions.kept_at chains change.table p.schema change.key o.bytes former
-      (rows told).clustered p.table.there (there told) o.was.code_is).0)
+      ∙ ap newest (decoded _ _ _ _ change.table p.schema change.key o.bytes former (rows told).clustered p.table.there (there told) o.was.code_is).0)
       (λ now told puts.
-      next_rows old.schemas (pairs_of old) (pairs_of new) chains pushed change.table p.schema change.edit change.key p.table.there p.fits writer small pushes
-      new.versions.kept_at former o.session.next_pointer (record { version = (kept_over p o).version; bytes = o.bytes }) (there told) o.was.code_is
+      next_rows _ _ _ _ _ change.table p.schema change.edit change.key p.table.there p.fits writer small pushes _ former o.session.next_pointer (record { version = (kept_over p o).version; bytes = o.bytes }) (there told) o.was.code_is
       (kept_code p o) o.leads o.small ((kept_over p o).here now) puts
-      (coded_still old.schemas (pairs_of old) old.versions.kept_at new.versions.kept_at chains (what_is_there chains)
-      (kept_more old.schemas o.session.next_pointer (undo_of_former change.table change.key o.bytes) old.versions new.versions (kept_over p o) now)
+      (coded_still _ _ _ _ _ _ (kept_more old.schemas o.session.next_pointer (undo_of_former change.table change.key o.bytes) old.versions new.versions (kept_over p o) now)
       (rows told)))
     where
       there : IsTold old → value_of change.key (pairs_of old index) ≡ Some o.bytes

@@ -22,8 +22,7 @@ insert-requires-clause-value g c =
 
 abbrev pub insert-requires-clause-undo : goal.insert-requires-clause-undo
 insert-requires-clause-undo g c =
-    let p = c.requires.changing in
-    may_log_new p _ (stage_at _ _ _ p Insert c.requires.stage).0 c.in-Ok-undo_of_new.ensures
+    may_log_new c.requires.changing _ (stage_at _ _ _ c.requires.changing Insert c.requires.stage).0 c.in-Ok-undo_of_new.ensures
 
 abbrev pub enter-requires : goal.enter-requires
 enter-requires g c =
@@ -41,8 +40,7 @@ returns-in-Done-clause-changes g c =
 
 abbrev pub returns-clause-changes : goal.returns-clause-changes
 returns-clause-changes g c =
-    let p = c.requires.changing in
-    insert_hindered p _ _ _ _ c.requires.stage (rw c.index.ensures at c.insert.ensures) c.in_default-insert.not-Done
+    insert_hindered c.requires.changing _ _ _ _ c.requires.stage (rw c.index.ensures at c.insert.ensures) c.in_default-insert.not-Done
 
 pub returns-in-Done-clause-awaits : goal.returns-in-Done-clause-awaits
 returns-in-Done-clause-awaits g c =

@@ -55,9 +55,7 @@ abbrev pub returns-in_default-clause-changes : goal.returns-in_default-clause-ch
 returns-in_default-clause-changes g c = lacks_memory c.args.s _ c.args.self.now c.requires.changing
 
 abbrev pub next_pointer-pointer-requires : goal.next_pointer-pointer-requires
-next_pointer-pointer-requires g c =
-    let p = c.requires.changing in
-    slice_get_within _ c.args.s p.session p.has_work.session_is
+next_pointer-pointer-requires g c = slice_get_within _ c.args.s c.requires.changing.session c.requires.changing.has_work.session_is
 
 pub returns-in-Done-clause-awaits : goal.returns-in-Done-clause-awaits
 returns-in-Done-clause-awaits g c =
