@@ -166,11 +166,10 @@ module _ (chains : Chains) (old new : WorldState) (change : KeysChange) (p : IsC
       → SayOf done p.older → SayOf (done + 1) p.older
   pass_one done alike says = (
     says_of says.0 place done (versions_at place chains),
-    said_alike old.schemas (pairs_of old) old.versions.kept_at chains says.0 (says_of says.0 place done (versions_at place chains)) says.1
+    said_alike _ _ _ _ _ _ says.1
         (λ table which s k s_there k_there value. alike_if (which == done) (is_same_place place (record { table = table; key = value })) k.column
-        (says.0 table which value) (versions_at place chains) (λ at same. here table which s k s_there k_there value at same)),
-    say_more chains place done p.older (says_of says.0 place done (versions_at place chains))
-        (say_here chains place done p.older (versions_at place chains) p.older says.0 says.2),
+        (says.0 table which value) (versions_at place chains) (here table which s k s_there k_there value)),
+    say_more chains place done p.older _ (say_here chains place done p.older (versions_at place chains) p.older says.0 says.2),
   )
     where
       here : (table which : ℕ) (s : Schema) (k : Key) → slice_get old.schemas table ≡ Some s → slice_get s.keys which ≡ Some k → (value : Value)

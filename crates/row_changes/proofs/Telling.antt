@@ -68,10 +68,8 @@ pairs_told index key value old new puts told i =
 pub puts_pairs : (index : ℕ) (key : List ℕ) (value : Option (List ℕ)) (old new : WorldState) → HasPut index key value old new → IsTold new
     → Puts (pairs_of old) (pairs_of new) index key value
 puts_pairs index key value old new puts told i =
-    ⊎_elim (λ t. ap (pairs_of new) t.1 ∙ went (with_value key value) (old.indexes index).pairs (new.indexes index).pairs puts.0 (told.pairs index)
-    ∙ sym (cond-true (i == index) (with_value key value (pairs_of old index)) (pairs_of old i) t.0))
-    (λ f. went (λ pairs. pairs) (old.indexes i).pairs (new.indexes i).pairs (puts.1 i f.1) (told.pairs i)
-    ∙ sym (cond-false (i == index) (with_value key value (pairs_of old index)) (pairs_of old i) f.0)) (eqb_tells i index)
+    ⊎_elim (λ t. rw (t.0, t.1) (went (with_value key value) (old.indexes index).pairs (new.indexes index).pairs puts.0 (told.pairs index)))
+    (λ f. rw f.0 (went (λ pairs. pairs) (old.indexes i).pairs (new.indexes i).pairs (puts.1 i f.1) (told.pairs i))) (eqb_tells i index)
 
 pub put_told : (index : ℕ) (key : List ℕ) (value : Option (List ℕ)) (old new : WorldState) → PutsPair index key value old new → IsTold new → IsTold old
 put_told index key value old new puts told =
