@@ -2,7 +2,7 @@
 use Rattle.std.proofs.Common.{◌≡◌, ◌≢◌, ◌⊎◌, inl, inr, ⊎_elim, ℕ, ◌<◌, true, false, List, Option, Some, None, refl, sym, ap, ◌∙◌, arith, rules, cond, Bool, ◌+◌, ◌≤◌}
 use Rattle.std.proofs.Common.{◌∷◌, [], ◌^◌}
 use Rattle.std.specs.Prelude.{slice_get, IfSome, is_some, Ok, Err, length}
-use Rattle.std.proofs.lemmas.{Bool.cases_eq, List.length-set}
+use Rattle.std.proofs.lemmas.{Bool.cases_eq, Bool.cond_both, List.length-set}
 use Rattle.inno_types.specs.{declared.value.Value.Value, declared.value.Schema.Schema, declared.value.Column.Column}
 use Rattle.entries.specs.{Index.Index, Index.Told, Index.AreKept, Index.HasGone, Calls.Fetches, Calls.is_done, Calls.Inserts}
 use Rattle.entries.specs.Pairs.{Pair, value_of}
@@ -212,16 +212,13 @@ module _ (s : ℕ) (old new : WorldState) (change : RecordChange) (p : IsChangin
       finds row =
           goes_on Find (Replace before bytes) (aside_of_stay p.has_work.session_is stay) at (stage_at s old change p Find at, row, former) (omega arith)
 
-      by_mark : (value : Value) (marked : Bool) → change.edit ≡ Remove value → before.marked ≡ marked
-          → ChangesRecord s old new change (cond marked (Hindered change moves.End) (Went (record change { stage = Replace before bytes })))
-      by_mark value true removes is =
-          lacks_row (Remove value) removes stay
-          (told_only _ _ (old.indexes (clustered_index change.table)).pairs there (λ pairs found_is. rw found_is (before, code, is)))
-      by_mark value false removes is = finds (rw removes is)
-
       on : (e : RowEdit) → change.edit ≡ e → ChangesRecord s old new change (when_found e before bytes change)
       on (Put row) puts = finds (rw puts (record {}))
-      on (Remove value) removes = by_mark value before.marked removes refl
+      on (Remove value) removes =
+          cond_both before.marked _ _ (ChangesRecord s old new change)
+          (λ is. lacks_row (Remove value) removes stay
+          (told_only _ _ (old.indexes (clustered_index change.table)).pairs there (λ pairs found_is. rw found_is (before, code, is))))
+          (λ is. finds (rw removes is))
 
   -- ---- the record is looked up
 
@@ -272,11 +269,10 @@ module _ (s : ℕ) (undo : Undo) (old mid : WorldState) (logged : IsLogged s und
       → Records s change rows table key bytes undo old new
   recorded change rows table key bytes enters index_is gone =
       let now : Work = record logged_work { id = id_for logged.work.id mid.txns.next; own = logged.work.own + 1 } in
-      let places = places_if index_is gone.place in
       rw (enters.rest, logged.rest) (record {
         here = gone.pairs;
         elsewhere = λ other differs. (index_is.elsewhere other differs).pairs;
-        places = places;
+        places = places_if index_is gone.place;
         work = record {
           session = logged.session;
           work = logged.work;

@@ -79,20 +79,17 @@ pub one_work : (s : ℕ) (a b : Session) (v w : Work) (state : WorldState) → H
 one_work s a b v w state first second = cc
 
 -- what a session tells of its transaction
-pub told_txn : (s : ℕ) (session : Session) (work : Work) (state : WorldState) (standing : Standing) → HasWork s session work state
-    → standing ≡ standing_of session → standing.txn ≡ Some work.txn
-told_txn s session work state standing has is = ap (λ (x : Standing). x.txn) is ∙ ap txn_of has.work_is
-
-pub told_id : (s : ℕ) (session : Session) (work : Work) (state : WorldState) (standing : Standing) → HasWork s session work state
-    → standing ≡ standing_of session → standing.id ≡ work.id
-told_id s session work state standing has is = ap (λ (x : Standing). x.id) is ∙ ap id_of has.work_is
+pub told : (s : ℕ) (session : Session) (work : Work) (state : WorldState) (standing : Standing) → HasWork s session work state
+    → standing ≡ standing_of session → (standing.txn ≡ Some work.txn) × (standing.id ≡ work.id)
+told s session work state standing has is = rw (is, has.work_is) (refl, refl)
 
 -- the transaction that was told of is given its id
 pub gives_told : (s : ℕ) (x session : Session) (w work : Work) (old new : WorldState) (standing : Standing) (txn : ℕ) → HasWork s x w old
     → IsListed s w old → HasWork s session work old → standing ≡ standing_of x → standing.txn ≡ Some txn → standing.id ≡ 0
     → new ≡ identified txn old → GivesId s session work old new
-gives_told s x session w work old new standing txn has listed also is told none given =
+gives_told s x session w work old new standing txn has listed also is txn_told none given =
     let same = one_work s x session w work old has also in
-    let txn_is = one_found txn w.txn told (told_txn s x w old standing has is) ∙ ap (λ (k : Work). k.txn) same in
-    let id_is = ap (λ (k : Work). k.id) (sym same) ∙ sym (told_id s x w old standing has is) ∙ none in
+    let tells = told s x w old standing has is in
+    let txn_is = one_found txn w.txn txn_told tells.0 ∙ ap (λ (k : Work). k.txn) same in
+    let id_is = ap (λ (k : Work). k.id) (sym same) ∙ sym tells.1 ∙ none in
     gives_new_id s session work old new also (rw same at listed) id_is (given ∙ ap (λ t. identified t old) txn_is)

@@ -453,8 +453,7 @@ module _ (chains : Chains) (old new : WorldState) (change : KeysChange) (p : IsC
     put_waits actor same why h = (
       ap (λ (o : Option EntryPut). let c : KeysChange = record change { put = o } in c) (ap Some h.0 ∙ sym put_is),
       h.1,
-      changing_kept h.1
-          (rw put_is (record { index_is = entering.index_is; entry_is = entering.entry_is; within = entering.within; putting = h.2 })),
+      changing_kept h.1 (rw put_is (record { index_is = entering.index_is; entry_is = entering.entry_is; within = entering.within; putting = h.2 })),
       record {
         which = change.which;
         from = omega arith;

@@ -249,9 +249,7 @@ module _ (s : ℕ) (chains pushed : Chains) (old new : WorldState) (change : Rec
       (first_rows _ _ _ _ _ change.table p.schema change.edit change.key p.table.there p.fits writer small pushes _ f.is_put (nothing told) puts (rows told)))
     where
       nothing : IsTold old → value_of change.key (pairs_of old index) ≡ None
-      nothing told =
-          none_of (value_of change.key (pairs_of old index))
-          (tells (λ pairs. is_some (value_of change.key pairs) ≡ false) (old.indexes index).pairs f.absent (told.pairs index))
+      nothing told = none_of _ (tells (λ pairs. is_some (value_of change.key pairs) ≡ false) (old.indexes index).pairs f.absent (told.pairs index))
 
   next_keys : (former : Coded) (o : PutsOver s old new change p.schema former) → IsChangingKeys pushed new (taken (row_shown former.marked former.row))
   next_keys former o =

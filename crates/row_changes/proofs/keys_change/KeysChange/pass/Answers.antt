@@ -3,8 +3,7 @@ use Rattle.row_changes.proofs.keys_change.KeysChange.pass.Goals as goal
 
 abbrev pub take_over-requires-clause-entries : goal.take_over-requires-clause-entries
 take_over-requires-clause-entries g c = λ schema there.
-    let found = rw c.in-Ok-Some.field-0-is at c.in-Ok-Some.ensures in
-    found schema there
+    (rw c.in-Ok-Some.field-0-is at c.in-Ok-Some.ensures) schema there
 
 abbrev pub returns-in-Ok-None-clause-changes : goal.returns-in-Ok-None-clause-changes
 returns-in-Ok-None-clause-changes g c = λ chains p.

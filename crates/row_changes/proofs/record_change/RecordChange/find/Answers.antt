@@ -19,13 +19,12 @@ returns-in_default-fetch-clause-changes g c =
 
 abbrev pub returns-in-Ok-decoded-clause-changes : goal.returns-in-Ok-decoded-clause-changes
 returns-in-Ok-decoded-clause-changes g c =
-    let decoded = rw c.in-Ok-decoded.is at c.decoded.ensures in
     rw (c.found.ensures, c.from_vec.ensures)
     (looked_up _ _ _ _ c.requires.changing _ c.fetch.new.into.items c.requires.stage (rw c.index.ensures at (rw c.in-Done.is at c.fetch.ensures.answer))
-    (λ schema there. rw c.deref.ensures.value at (decoded schema there)))
+    (λ schema there. rw c.deref.ensures.value at ((rw c.in-Ok-decoded.is at c.decoded.ensures) schema there)))
 
 abbrev pub returns-in-Err-clause-changes : goal.returns-in-Err-clause-changes
 returns-in-Err-clause-changes g c =
-    let decoded = rw c.in-Err.is at c.decoded.ensures in
     not_decoded _ _ _ _ c.requires.changing _ c.fetch.new.into.items (rw c.index.ensures at (rw c.in-Done.is at c.fetch.ensures.answer))
-    (λ schema there. subst (λ value. Decodes schema c.args.self.now.key value (Err c.in-Err.why)) c.deref.ensures.value (decoded schema there))
+    (λ schema there. subst (λ value. Decodes schema c.args.self.now.key value (Err c.in-Err.why)) c.deref.ensures.value
+    ((rw c.in-Err.is at c.decoded.ensures) schema there))
