@@ -127,9 +127,7 @@ short_entry : (schema : Schema) (which : ℕ) (row : Option (List Value)) (prima
 short_entry schema which None primary entry storable fits is = absurd is
 short_entry schema which (Some row) primary entry storable fits is =
     let within : which < length schema.keys = slice_get_within schema.keys which is.key is.key_is in
-    let ShortFor : Key → Type 0 = λ k. (r : List Value) (bytes : List ℕ) → IsEntryOf schema k r bytes → length bytes ≤ 67 in
-    let short : ShortFor is.key =
-    subst ShortFor (get_or_from_slice_get schema.keys which is.key is.key is.key_is) (short_entries schema storable which is.key within) in
+    let short = rw (get_or_from_slice_get schema.keys which is.key is.key is.key_is) at (short_entries schema storable which is.key within) in
     short row entry (record {
       column = is.indexed;
       there = is.indexed_is;
@@ -461,10 +459,3 @@ module _ (chains : Chains) (old new : WorldState) (change : KeysChange) (p : IsC
         cause = put_hinders actor put.entry _ _ why (rw entering.index_is at h.3);
       },
     )
-
--- ---- what was looked up
-
-pub for_its_schema : (result : Result (Option KeyEntries) NoMemory) (P : Schema → Option KeyEntries → Type 0) (found : Option Schema) (schema : Schema)
-    → found ≡ Some schema → IfOk result (P schema) → IfOk result (λ r. (s : Schema) → found ≡ Some s → P s r)
-for_its_schema (Ok r) P found schema is holds = λ s also. rw (one_found s schema also is) holds
-for_its_schema (Err e) P found schema is holds = record {}

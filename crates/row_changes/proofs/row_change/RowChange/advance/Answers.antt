@@ -12,8 +12,7 @@ returns-in-Recorded-clause-changes g c = λ chains p.
 
 pub returns-in-Recorded-clause-awaits : goal.returns-in-Recorded-clause-awaits
 returns-in-Recorded-clause-awaits g c =
-    record_awaits_at c.requires.0 c.args.s _ _ c.args.self.now c.in-Record.change c.in-Record.key c.in-Record.after c.in-Record.is c.requires.1
-    c.in-Recorded.ensures.awaits
+    record_awaits_at _ _ _ _ _ _ _ _ c.in-Record.is c.requires.1 c.in-Recorded.ensures.awaits
 
 abbrev pub returns-in-Hindered-clause-changes : goal.returns-in-Hindered-clause-changes
 returns-in-Hindered-clause-changes g c =
