@@ -58,6 +58,9 @@ delay_leaves : (actor : ℕ) (old new : Index) (move : Move) → Delays actor ol
 delay_leaves actor old new Failed h = record { pairs = h.pairs; place = h.place; awaited = h.awaited }
 delay_leaves actor old new other h = search rules
 
+delay_keeps : (actor : ℕ) (old new : Index) (move : Move) → Delays actor old new move → HasStayed old new
+delay_keeps actor old new move h = (as_before actor old new (delay_leaves actor old new move h)).0
+
 pub delay_hinders : (actor : ℕ) (old new : Index) (move : Move) → Delays actor old new move → Hinders actor old new move
 delay_hinders actor old new (Latch by) h = inr h
 delay_hinders actor old new other h = search rules
@@ -73,18 +76,15 @@ off_leaves actor by old new (inr delay) = delay.all
 pub fetch_delays : (actor : ℕ) (key read : List ℕ) (old new : Index) (move : Move) → Fetches actor key read old new move → move ≢ Done → move ≢ End
     → Delays actor old new move
 fetch_delays actor key read old new Done h not_done not_end = absurd (not_done refl)
-fetch_delays actor key read old new End h not_done not_end = absurd (not_end refl)
-fetch_delays actor key read old new other h not_done not_end = h
+fetch_delays actor key read old new other h not_done not_end = search rules
 
 pub fetch_keeps : (actor : ℕ) (key read : List ℕ) (old new : Index) (move : Move) → Fetches actor key read old new move → HasStayed old new
 fetch_keeps actor key read old new Done h = (h.1.pairs, h.1.place)
-fetch_keeps actor key read old new other h = (as_before actor old new (search (rules, delay_leaves))).0
+fetch_keeps actor key read old new other h = search (rules, delay_keeps)
 
 pub next_key_keeps : (actor : ℕ) (key read : List ℕ) (old new : Index) (move : Move) → NextKeys actor key read old new move → HasStayed old new
-next_key_keeps actor key read old new Done h = (h.2.pairs, h.2.place)
-next_key_keeps actor key read old new End h = (h.2.pairs, h.2.place)
 next_key_keeps actor key read old new (Latch by) h = (as_before actor old new (off_leaves actor by old new h)).0
-next_key_keeps actor key read old new other h = (as_before actor old new (delay_leaves actor old new other h)).0
+next_key_keeps actor key read old new other h = search (rules, delay_keeps)
 
 -- ---- changes
 
@@ -172,10 +172,8 @@ replace_hinders (Some undo) actor key value old new other there h not_done = rep
 -- ---- remove
 
 pub remove_keeps : (actor : ℕ) (key : List ℕ) (old new : Index) (move : Move) → Removes actor key old new move → move ≢ Done → HasStayed old new
-remove_keeps actor key old new Done h not_done = absurd (not_done refl)
-remove_keeps actor key old new End h not_done = (h.2.pairs, h.2.place)
 remove_keeps actor key old new (Latch by) h not_done = (as_before actor old new (off_leaves actor by old new h)).0
-remove_keeps actor key old new other h not_done = (as_before actor old new (delay_leaves actor old new other h)).0
+remove_keeps actor key old new other h not_done = search (rules, delay_keeps)
 
 -- ---- who is awaited after the calls of a world's indexes
 

@@ -1,5 +1,5 @@
 -- What stays known of a record that is being changed, what its steps do, and what is there once it stands.
-use Rattle.std.proofs.Common.{◌≡◌, ◌≢◌, ◌⊎◌, inl, inr, ⊎_elim, ℕ, ◌<◌, true, false, List, Option, Some, None, refl, sym, ap, ◌∙◌, arith, rules, cond, Bool, ◌+◌, ◌≤◌}
+use Rattle.std.proofs.Common.{◌≡◌, ◌≢◌, ◌⊎◌, inl, inr, ⊎_elim, ℕ, ◌<◌, true, false, List, Option, Some, None, refl, sym, ap, ◌∙◌, arith, rules, ◌+◌, ◌≤◌}
 use Rattle.std.proofs.Common.{◌∷◌, [], ◌^◌}
 use Rattle.std.specs.Prelude.{slice_get, IfSome, is_some, Ok, Err, length}
 use Rattle.std.proofs.lemmas.{Bool.cases_eq, Bool.cond_both, List.length-set}
@@ -301,12 +301,6 @@ module _ (s : ℕ) (undo : Undo) (old mid : WorldState) (logged : IsLogged s und
         later = logged.later;
       })
 
--- where the pair was not put, no undo record has come
-not_brought : (actor : ℕ) (undo : Undo) (answer : Move) (old new : WorldState) → answer ≢ moves.Done → Brings actor (Some undo) (is_done answer) old new
-    → StaysBeside old new
-not_brought actor undo moves.Done old new differs h = absurd (differs refl)
-not_brought actor undo other old new differs h = h
-
 -- ---- the call that changes the record
 
 key_fits : (schema : Schema) (edit : RowEdit) (key : List ℕ) → IsStorable schema → FitsEdit schema edit key → length key ≤ 33
@@ -429,7 +423,12 @@ module _ {s : ℕ} {old : WorldState} {change : RecordChange} (p : IsChangingRec
       → ChangesRecord s old new change (Hindered change answer)
   hindered_by new undo answer call c differs left =
       hindered s old new change p answer
-      (stays_if (record { index_is = c.index_is; beside = not_brought s undo answer old new differs c.beside }) left.0.0) (inl left.1)
+      (stays_if (record { index_is = c.index_is; beside = beside answer differs c.beside }) left.0.0) (inl left.1)
+    where
+      -- no undo record has come
+      beside : (move : Move) → move ≢ moves.Done → Brings s (Some undo) (is_done move) old new → StaysBeside old new
+      beside moves.Done not_done h = absurd (not_done refl)
+      beside other not_done h = h
 
   pub insert_hindered : (new : WorldState) (value : List ℕ) (undo : Undo) (answer : Move) → change.stage ≡ Insert → Calling InsertsWith undo value new answer
       → answer ≢ moves.Done → ChangesRecord s old new change (Hindered change answer)

@@ -4,7 +4,7 @@ use Rattle.std.proofs.lemmas.{List.length-map, List.length-set, Bool.cond-false,
 use Rattle.std.specs.Prelude.{slice_get, option_map}
 use Rattle.inno_db.specs.declared.change.Change.{Change}
 use Rattle.store_api.specs.declared.answers.Standing.{Standing}
-use Rattle.world.specs.State.{WorldState, Session, Work, HasWork, txn_of, id_of, standing_of}
+use Rattle.world.specs.State.{WorldState, Session, Work, HasWork, standing_of}
 use Rattle.world.specs.Sessions.{of_txn, change_txn, work_with_id, identified, change_added}
 use Rattle.row_changes.specs.{Records.IsListed, Records.id_for, Entering.GivesId, Entering.Enters}
 use Rattle.row_changes.proofs.Sessions.{one_found, set_here, set_other}

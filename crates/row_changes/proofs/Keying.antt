@@ -1,18 +1,18 @@
 -- What one key says of a place while a change goes over into the keys, and what stays known meanwhile.
 use Rattle.std.proofs.Common.{◌≡◌, ◌≢◌, ⊎_elim, ◌∙◌, sym, ap, subst, refl, ℕ, zero, suc, ◌+◌, ◌<◌, ◌≤◌, ◌^◌, ◌==◌, Bool, true, false, cond, List, ◌∷◌, length}
 use Rattle.std.proofs.Common.{Option, None, Some, slice_get, arith, rules, ◌-◌, ◌*◌}
-use Rattle.std.specs.Prelude.{◌&&◌, IfSome, IfOk, Result, Ok, Err}
+use Rattle.std.specs.Prelude.{◌&&◌, IfSome}
 use Rattle.std.proofs.lemmas.{Bool.cases_eq, Bool.eqb-true, Option.slice_get_within, Option.slice_get_cases, Option.get_or_from_slice_get}
 use Rattle.inno_types.specs.{declared.value.Value.Value, declared.value.Key.Key, declared.value.Schema.Schema}
 use Rattle.inno_db.specs.Database.{key_of}
-use Rattle.store_api.specs.{declared.NoMemory.NoMemory, declared.moves.Move.Move}
+use Rattle.store_api.specs.{declared.moves.Move.Move}
 use Rattle.store_api.specs.declared.answers.Version.{Version as Coded}
 use Rattle.entries.specs.{Index.Index}
 use Rattle.row_versions.specs.{declared.place.Place.Place, declared.version.Version.Version}
 use Rattle.row_versions.specs.Chains.{Chains, versions_at, is_same_place, newest}
 use Rattle.row_codec.specs.Rows.{version_code}
 use Rattle.law_stored_rows.specs.{Edits.key_index, Edits.clustered_index, Entries.value_in, Entries.entry_of, Entries.TellAlike, Records.shown}
-use Rattle.law_stored_rows.specs.{Tables.Said, Tables.AreCodedAs, Tables.SaysNow, FittingRecords.IsEntryOf, Storable.IsStorable}
+use Rattle.law_stored_rows.specs.{Tables.Said, Tables.AreCodedAs, Tables.SaysNow, Storable.IsStorable}
 use Rattle.law_stored_rows.specs.Steps.{PutsEntry as PutsStored}
 use Rattle.row_changes.specs.{Told.HasRows, Told.AreRowsAs, declared.entry_put.PutPhase.TheVariants.Look, Edits.IsRowFor, declared.entry_put.PutPhase.PutPhase}
 use Rattle.row_changes.specs.{declared.entry_put.EntryPut.EntryPut, declared.keys_change.KeysChange.KeysChange, declared.key_entries.KeyEntries.KeyEntries}

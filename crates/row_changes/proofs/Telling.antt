@@ -1,7 +1,7 @@
 -- What stays told of pairs and versions.
-use Rattle.std.proofs.Common.{◌≡◌, ◌≢◌, rules, ⊎_elim, ◌∙◌, sym, ap, refl, ℕ, ◌==◌, List, Option, None, Some}
+use Rattle.std.proofs.Common.{◌≡◌, ◌≢◌, rules, ⊎_elim, ap, refl, ℕ, List, Option, None, Some}
 use Rattle.std.specs.Prelude.{IfSome, IsSome}
-use Rattle.std.proofs.lemmas.{Bool.cases_eq, Bool.cond-true, Bool.cond-false, Bool.Decides.eqb_tells}
+use Rattle.std.proofs.lemmas.{Bool.cases_eq, Bool.Decides.eqb_tells}
 use Rattle.inno_types.specs.declared.value.Schema.{Schema}
 use Rattle.entries.specs.{Pairs.Pair, Index.Goes, Index.AreKept}
 use Rattle.row_versions.specs.{declared.kept.Kept.Kept, Versions.Stays, Chains.Chains}
