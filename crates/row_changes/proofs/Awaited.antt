@@ -1,8 +1,8 @@
 -- What the calls of a world's indexes leave of its pairs, what may hinder them, and who is awaited afterwards.
-use Rattle.std.proofs.Common.{◌≡◌, ◌≢◌, ◌⊎◌, inr, ⊎_elim, ℕ, true, false, Option, Some, None, List, refl, sym, subst, inl, ◌∙◌, ◌+◌, ap, ◌≤◌, arith}
+use Rattle.std.proofs.Common.{◌≡◌, ◌≢◌, ◌⊎◌, inr, ⊎_elim, ℕ, true, false, Option, Some, None, List, refl, sym, inl, ◌∙◌, ◌+◌, ap, ◌≤◌, arith, rules}
 use Rattle.std.proofs.lemmas.Bool.{cases_eq}
 use Rattle.store_api.specs.{declared.moves.Move.Move, declared.answers.Undo.Undo}
-use Rattle.store_api.specs.declared.moves.Move.TheVariants.{At, End, Done, Step, Latch, Again, Full, TooDeep, Failed, Bad, NoMemory}
+use Rattle.store_api.specs.declared.moves.Move.TheVariants.{At, End, Done, Latch, Failed, NoMemory}
 use Rattle.entries.specs.{Pairs.Pair, Pairs.value_of, Index.Index, Index.AreKept, Index.HasGone, Index.IsAsBefore}
 use Rattle.entries.specs.Calls.{Inserts, Replaces, Delays, IsKeptOff, Fetches, NextKeys, Removes}
 use Rattle.std.specs.Prelude.{IfSome, is_some, ◌<◌, length, slice_get}
@@ -25,20 +25,14 @@ HasStayed old new = AreKept old.pairs new.pairs × (new.place ≡ old.place)
 pub places_if : {index : ℕ} {step : Index → Index → Type 0} {old new : WorldState} → InIndex index step old new
     → (new.indexes index).place ≡ (old.indexes index).place → (i : ℕ) → (new.indexes i).place ≡ (old.indexes i).place
 places_if {index} {step} {old} {new} is kept i =
-    ⊎_elim (λ e. subst (λ k. (new.indexes k).place ≡ (old.indexes k).place) (sym e) kept) (λ other. (is.elsewhere i other).place) (cases_eq i index)
-
--- where a step in one index has kept the pairs there, no pair has changed anywhere
-pub pairs_if : {index : ℕ} {step : Index → Index → Type 0} {old new : WorldState} → InIndex index step old new
-    → AreKept (old.indexes index).pairs (new.indexes index).pairs → (i : ℕ) → AreKept (old.indexes i).pairs (new.indexes i).pairs
-pairs_if {index} {step} {old} {new} is kept i =
-    ⊎_elim (λ e. subst (λ k. AreKept (old.indexes k).pairs (new.indexes k).pairs) (sym e) kept) (λ other. (is.elsewhere i other).pairs) (cases_eq i index)
+    ⊎_elim (λ e. rw e kept) (λ other. (is.elsewhere i other).place) (cases_eq i index)
 
 -- where the call has kept its index, no pair has changed anywhere, and no place
 pub stays_if : {index : ℕ} {call : Index → Index → Type 0} {old new : WorldState} → Calls index call old new
     → HasStayed (old.indexes index) (new.indexes index) → RowsStay old new
 stays_if {index} {call} {old} {new} c kept =
     record {
-      pairs = pairs_if c.index_is kept.0;
+      pairs = λ i. ⊎_elim (λ e. rw e kept.0) (λ other. (c.index_is.elsewhere i other).pairs) (cases_eq i index);
       places = places_if c.index_is kept.1;
       versions = c.beside.versions;
       rest = c.beside.rest;
@@ -61,31 +55,20 @@ none_here actor old new none by is = absurd (cc)
 
 -- what a delay leaves
 delay_leaves : (actor : ℕ) (old new : Index) (move : Move) → Delays actor old new move → IsAsBefore old new
-delay_leaves actor old new Step h = h.all
-delay_leaves actor old new (Latch by) h = h.all
-delay_leaves actor old new Again h = h.all
 delay_leaves actor old new Failed h = record { pairs = h.pairs; place = h.place; awaited = h.awaited }
-delay_leaves actor old new (Bad page rule) h = h.all
-delay_leaves actor old new other h = absurd h
+delay_leaves actor old new other h = search rules
 
 delay_keeps : (actor : ℕ) (old new : Index) (move : Move) → Delays actor old new move → HasStayed old new
-delay_keeps actor old new move h = let same = delay_leaves actor old new move h in (same.pairs, same.place)
+delay_keeps actor old new move h = (as_before actor old new (delay_leaves actor old new move h)).0
 
 pub delay_hinders : (actor : ℕ) (old new : Index) (move : Move) → Delays actor old new move → Hinders actor old new move
-delay_hinders actor old new Step h = h
 delay_hinders actor old new (Latch by) h = inr h
-delay_hinders actor old new Again h = h
-delay_hinders actor old new Failed h = h
-delay_hinders actor old new (Bad page rule) h = h
-delay_hinders actor old new other h = absurd h
+delay_hinders actor old new other h = search rules
 
 -- what one leaves, or who is kept off by another actor
 off_leaves : (actor by : ℕ) (old new : Index) → IsKeptOff actor by old new ⊎ Delays actor old new (Latch by) → IsAsBefore old new
 off_leaves actor by old new (inl off) = off.all
 off_leaves actor by old new (inr delay) = delay.all
-
-off_keeps : (actor by : ℕ) (old new : Index) → IsKeptOff actor by old new ⊎ Delays actor old new (Latch by) → HasStayed old new
-off_keeps actor by old new h = let same = off_leaves actor by old new h in (same.pairs, same.place)
 
 -- ---- calls that change nothing
 
@@ -93,19 +76,15 @@ off_keeps actor by old new h = let same = off_leaves actor by old new h in (same
 pub fetch_delays : (actor : ℕ) (key read : List ℕ) (old new : Index) (move : Move) → Fetches actor key read old new move → move ≢ Done → move ≢ End
     → Delays actor old new move
 fetch_delays actor key read old new Done h not_done not_end = absurd (not_done refl)
-fetch_delays actor key read old new End h not_done not_end = absurd (not_end refl)
-fetch_delays actor key read old new other h not_done not_end = h
+fetch_delays actor key read old new other h not_done not_end = search rules
 
 pub fetch_keeps : (actor : ℕ) (key read : List ℕ) (old new : Index) (move : Move) → Fetches actor key read old new move → HasStayed old new
 fetch_keeps actor key read old new Done h = (h.1.pairs, h.1.place)
-fetch_keeps actor key read old new End h = (h.1.pairs, h.1.place)
-fetch_keeps actor key read old new other h = delay_keeps actor old new other h
+fetch_keeps actor key read old new other h = search (rules, delay_keeps)
 
 pub next_key_keeps : (actor : ℕ) (key read : List ℕ) (old new : Index) (move : Move) → NextKeys actor key read old new move → HasStayed old new
-next_key_keeps actor key read old new Done h = (h.2.pairs, h.2.place)
-next_key_keeps actor key read old new End h = (h.2.pairs, h.2.place)
-next_key_keeps actor key read old new (Latch by) h = off_keeps actor by old new h
-next_key_keeps actor key read old new other h = delay_keeps actor old new other h
+next_key_keeps actor key read old new (Latch by) h = (as_before actor old new (off_leaves actor by old new h)).0
+next_key_keeps actor key read old new other h = search (rules, delay_keeps)
 
 -- ---- changes
 
@@ -135,52 +114,34 @@ not_told P Q (Some list) apart known answered = absurd (apart list known answere
 
 -- ---- insert
 
-insert_alone : (actor : ℕ) (key value : List ℕ) (old new : Index) (move : Move) → Inserts actor key value old new move → move ≢ Done → IsLeft actor old new
-insert_alone actor key value old new Done h not_done = absurd (not_done refl)
-insert_alone actor key value old new (At there kept) h not_done = ((h.3.pairs, h.3.place), none_here actor old new h.3.awaited)
-insert_alone actor key value old new (Latch by) h not_done = as_before actor old new (off_leaves actor by old new h)
-insert_alone actor key value old new NoMemory h not_done = as_before actor old new h.1
-insert_alone actor key value old new (Full need free) h not_done = as_before actor old new h.all
-insert_alone actor key value old new TooDeep h not_done = as_before actor old new h.all
-insert_alone actor key value old new other h not_done = as_before actor old new (delay_leaves actor old new other h)
+-- a call that wasn't done, of a key that was not there
+insert_alone : (actor : ℕ) (key value : List ℕ) (old new : Index) (move : Move) → IsThere false key old → Inserts actor key value old new move → move ≢ Done
+    → IsLeft actor old new × Hinders actor old new move
+insert_alone actor key value old new Done absent h not_done = absurd (not_done refl)
+insert_alone actor key value old new (At there kept) absent h not_done = (
+  ((h.3.pairs, h.3.place), none_here actor old new h.3.awaited),
+  not_told (λ pairs. is_some (value_of key pairs) ≡ false) (λ pairs. value_of key pairs ≡ Some kept) old.pairs (λ pairs none some. cc) absent h.2,
+)
+insert_alone actor key value old new (Latch by) absent h not_done = (as_before actor old new (off_leaves actor by old new h), h)
+insert_alone actor key value old new other absent h not_done = (as_before actor old new (search (rules, delay_leaves)), search rules)
 
-pub insert_leaves : (undo : Option Undo) (actor : ℕ) (key value : List ℕ) (old new : Index) (move : Move) → InsertsWith undo actor key value old new move
-    → move ≢ Done → IsLeft actor old new
-insert_leaves None actor key value old new move h not_done = insert_alone actor key value old new move h not_done
-insert_leaves (Some undo) actor key value old new NoMemory h not_done = as_before actor old new h
-insert_leaves (Some undo) actor key value old new other h not_done = insert_alone actor key value old new other h not_done
+pub insert_left : (undo : Option Undo) (actor : ℕ) (key value : List ℕ) (old new : Index) (move : Move) → IsThere false key old
+    → InsertsWith undo actor key value old new move → move ≢ Done → IsLeft actor old new × Hinders actor old new move
+insert_left None actor key value old new move absent h not_done = insert_alone actor key value old new move absent h not_done
+insert_left (Some undo) actor key value old new NoMemory absent h not_done = (as_before actor old new h, record {})
+insert_left (Some undo) actor key value old new other absent h not_done = insert_alone actor key value old new other absent h not_done
 
-pub insert_with_here : (undo : Option Undo) (actor : ℕ) (key value : List ℕ) (old new : Index) (move : Move)
+pub insert_with_here : (undo : Option Undo) (actor : ℕ) (key value : List ℕ) (old new : Index) (move : Move) → IsThere false key old
     → InsertsWith undo actor key value old new move → AwaitsHere actor old new
-insert_with_here None actor key value old new Done h = none_here actor old new h.2.awaited
-insert_with_here (Some undo) actor key value old new Done h = none_here actor old new h.2.awaited
-insert_with_here undo actor key value old new other h = (insert_leaves undo actor key value old new other h (λ e. cc)).1
-
--- where the key was not there
-insert_hinders_alone : (actor : ℕ) (key value : List ℕ) (old new : Index) (move : Move) → IsThere false key old → Inserts actor key value old new move
-    → move ≢ Done → Hinders actor old new move
-insert_hinders_alone actor key value old new Done absent h not_done = absurd (not_done refl)
-insert_hinders_alone actor key value old new (At there kept) absent h not_done =
-    not_told (λ pairs. is_some (value_of key pairs) ≡ false) (λ pairs. value_of key pairs ≡ Some kept) old.pairs (λ pairs none some. cc) absent h.2
-insert_hinders_alone actor key value old new NoMemory absent h not_done = record {}
-insert_hinders_alone actor key value old new End absent h not_done = absurd h
-insert_hinders_alone actor key value old new other absent h not_done = h
-
-pub insert_hinders : (undo : Option Undo) (actor : ℕ) (key value : List ℕ) (old new : Index) (move : Move) → IsThere false key old
-    → InsertsWith undo actor key value old new move → move ≢ Done → Hinders actor old new move
-insert_hinders None actor key value old new move absent h not_done = insert_hinders_alone actor key value old new move absent h not_done
-insert_hinders (Some undo) actor key value old new NoMemory absent h not_done = record {}
-insert_hinders (Some undo) actor key value old new other absent h not_done = insert_hinders_alone actor key value old new other absent h not_done
+insert_with_here None actor key value old new Done absent h = none_here actor old new h.2.awaited
+insert_with_here (Some undo) actor key value old new Done absent h = none_here actor old new h.2.awaited
+insert_with_here undo actor key value old new other absent h = (insert_left undo actor key value old new other absent h (λ e. cc)).0.1
 
 -- ---- replace
 
 replace_alone : (actor : ℕ) (key value : List ℕ) (old new : Index) (move : Move) → Replaces actor key value old new move → move ≢ Done → IsLeft actor old new
 replace_alone actor key value old new Done h not_done = absurd (not_done refl)
-replace_alone actor key value old new End h not_done = as_before actor old new h.1
-replace_alone actor key value old new NoMemory h not_done = as_before actor old new h.1
-replace_alone actor key value old new (Full need free) h not_done = as_before actor old new h.1.all
-replace_alone actor key value old new TooDeep h not_done = as_before actor old new h.1.all
-replace_alone actor key value old new other h not_done = as_before actor old new (delay_leaves actor old new other h)
+replace_alone actor key value old new other h not_done = as_before actor old new (search (rules, delay_leaves))
 
 pub replace_leaves : (undo : Option Undo) (actor : ℕ) (key value : List ℕ) (old new : Index) (move : Move) → ReplacesWith undo actor key value old new move
     → move ≢ Done → IsLeft actor old new
@@ -200,10 +161,7 @@ replace_hinders_alone : (actor : ℕ) (key value : List ℕ) (old new : Index) (
 replace_hinders_alone actor key value old new Done there h not_done = absurd (not_done refl)
 replace_hinders_alone actor key value old new End there h not_done =
     not_told (λ pairs. is_some (value_of key pairs) ≡ true) (λ pairs. value_of key pairs ≡ None) old.pairs (λ pairs some none. cc) there h.0
-replace_hinders_alone actor key value old new (Full need free) there h not_done = h.1
-replace_hinders_alone actor key value old new TooDeep there h not_done = h.1
-replace_hinders_alone actor key value old new NoMemory there h not_done = record {}
-replace_hinders_alone actor key value old new other there h not_done = delay_hinders actor old new other h
+replace_hinders_alone actor key value old new other there h not_done = search rules
 
 pub replace_hinders : (undo : Option Undo) (actor : ℕ) (key value : List ℕ) (old new : Index) (move : Move) → IsThere true key old
     → ReplacesWith undo actor key value old new move → move ≢ Done → Hinders actor old new move
@@ -214,31 +172,24 @@ replace_hinders (Some undo) actor key value old new other there h not_done = rep
 -- ---- remove
 
 pub remove_keeps : (actor : ℕ) (key : List ℕ) (old new : Index) (move : Move) → Removes actor key old new move → move ≢ Done → HasStayed old new
-remove_keeps actor key old new Done h not_done = absurd (not_done refl)
-remove_keeps actor key old new End h not_done = (h.2.pairs, h.2.place)
-remove_keeps actor key old new (Latch by) h not_done = off_keeps actor by old new h
-remove_keeps actor key old new other h not_done = delay_keeps actor old new other h
+remove_keeps actor key old new (Latch by) h not_done = (as_before actor old new (off_leaves actor by old new h)).0
+remove_keeps actor key old new other h not_done = search (rules, delay_keeps)
 
 -- ---- who is awaited after the calls of a world's indexes
 
 -- what holds in the index of the call holds of the world
 pub awaits_at : (actor index : ℕ) (step : Index → Index → Type 0) (old new : WorldState) → InIndex index step old new
     → AwaitsHere actor (old.indexes index) (new.indexes index) → AwaitsAt actor index old new
-awaits_at actor index step old new in_index here = record { each = go }
-  where
-    go : (i by : ℕ) → (new.indexes i).awaited ≡ Some by → ((old.indexes i).awaited ≡ Some by) ⊎ ((by ≡ actor) × (i ≡ index))
-    go i by is =
-        ⊎_elim (λ at. ⊎_elim (λ was. inl (subst (λ (k : ℕ). (old.indexes k).awaited ≡ Some by) (sym at) was)) (λ mine. inr (mine, at))
-        (here by (subst (λ (k : ℕ). (new.indexes k).awaited ≡ Some by) at is)))
-        (λ apart. inl (sym (in_index.elsewhere i apart).awaited ∙ is)) (cases_eq i index)
+awaits_at actor index step old new in_index here = record {
+  each = λ i by is.
+      ⊎_elim (λ same. ⊎_elim (λ was. inl (rw same was)) (λ mine. inr (mine, same)) (here by (rw same at is)))
+      (λ apart. inl (sym (in_index.elsewhere i apart).awaited ∙ is)) (cases_eq i index);
+}
 
 -- where the index is one of the table
 pub awaits_in : (actor index table : ℕ) (old new : WorldState) → IsOfTable table old.schemas index → AwaitsAt actor index old new → AwaitsIn actor table old new
 awaits_in actor index table old new of_table awaits =
-    record {
-      each = λ i by is. ⊎_elim (λ was. inl was) (λ mine. inr (mine.0, subst (λ (k : ℕ). IsOfTable table old.schemas k) (sym mine.1) of_table))
-          (awaits.each i by is);
-    }
+    record { each = λ i by is. ⊎_elim (λ was. inl was) (λ mine. inr (mine.0, rw mine.1 of_table)) (awaits.each i by is) }
 
 -- no index was called
 pub awaits_same : (actor index : ℕ) (old new : WorldState) → new.indexes ≡ old.indexes → AwaitsAt actor index old new
@@ -272,10 +223,10 @@ put_awaits chains actor old new change put put_is is awaits =
 -- a change that is at its record
 pub record_awaits_at : (chains : Chains) (s : ℕ) (old new : WorldState) (mine : RowChange) (change : RecordChange) (key : List ℕ) (after : Option (List Value))
     → mine ≡ Record change key after → IsChangingRow s chains old mine → AwaitsAt s (clustered_index change.table) old new → AwaitsIn s (table_of mine) old new
-record_awaits_at chains s old new mine change key after at is awaits =
-    subst (λ (r : RowChange). IsChangingRow s chains old r → AwaitsIn s (table_of r) old new) (sym at)
-    (λ holds. awaits_in s (clustered_index change.table) change.table old new
-    (clustered_of_table change.table old.schemas holds.0.schema holds.0.table.there) awaits) is
+record_awaits_at chains s old new mine change key after mine_is is awaits =
+    let holds = rw mine_is at is in
+    rw mine_is (awaits_in s (clustered_index change.table) change.table old new
+    (clustered_of_table change.table old.schemas holds.0.schema holds.0.table.there) awaits)
 
 -- a record that was put, and then the entry of the history, which calls no index
 pub entered_awaits : (s index : ℕ) (step : Index → Index → Type 0) (old mid new : WorldState) (change : Change) (rows : ℕ) (session : Session) (work : Work)

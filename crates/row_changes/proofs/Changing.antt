@@ -1,32 +1,30 @@
 -- What stays known of a record that is being changed, what its steps do, and what is there once it stands.
-use Rattle.std.proofs.Common.{◌≡◌, ◌≢◌, ◌⊎◌, inl, inr, ⊎_elim, ℕ, ◌<◌, true, false, List, Option, Some, None, refl, sym, ap, subst, ◌∙◌, arith, cond, Bool}
-use Rattle.std.proofs.Common.{◌+◌, ◌≤◌, ◌∷◌, [], ◌^◌}
+use Rattle.std.proofs.Common.{◌≡◌, ◌≢◌, ◌⊎◌, inl, inr, ⊎_elim, ℕ, ◌<◌, true, false, List, Option, Some, None, refl, sym, ap, ◌∙◌, arith, rules, ◌+◌, ◌≤◌}
+use Rattle.std.proofs.Common.{◌∷◌, [], ◌^◌}
 use Rattle.std.specs.Prelude.{slice_get, IfSome, is_some, Ok, Err, length}
-use Rattle.std.proofs.lemmas.{Bool.cases_eq, List.length-set}
+use Rattle.std.proofs.lemmas.{Bool.cases_eq, Bool.cond_both, List.length-set}
 use Rattle.inno_types.specs.{declared.value.Value.Value, declared.value.Schema.Schema, declared.value.Column.Column}
-use Rattle.entries.specs.{Index.Index, Index.Told, Index.Goes, Index.AreKept, Index.HasGone, Calls.Fetches, Calls.is_done, Calls.Inserts}
+use Rattle.entries.specs.{Index.Index, Index.Told, Index.AreKept, Index.HasGone, Calls.Fetches, Calls.is_done, Calls.Inserts}
 use Rattle.entries.specs.Pairs.{Pair, value_of}
 use Rattle.law_stored_rows.specs.{Edits.clustered_index, Edits.with_value, Records.IsCodeOf, Records.row_shown, Storable.IsStorable}
 use Rattle.world.specs.{Stores.StoreGoes, Undoing.IsReady, Undoing.IsUnchanged, Undoing.MakesRoom, Sessions.with_room}
-use Rattle.world.specs.State.{WorldState, Session, Work, IsSession, with_session, IsIndex, HasWork}
+use Rattle.world.specs.State.{WorldState, Session, Work, with_session, IsIndex, HasWork}
 use Rattle.world.specs.Indexes.{InIndex, KeepsAsSaid, Calls, MayLog, IsLogged, Changes, Brings, StaysBeside, InsertsWith, ReplacesWith}
 use Rattle.world.proofs.Stores.{store_stays}
-use Rattle.txn_table.specs.Txns.{Txns, is_there, id_at}
 use Rattle.row_changes.specs.{declared.record_change.RecordChange.RecordChange, declared.record_change.RecordStage.RecordStage, Entries.IsPutting}
 use Rattle.row_changes.specs.{declared.row_edit.RowEdit.RowEdit, Entering.Enters, Entries.IsThere, Entries.PutsEntry, Asides.IsReadied, Asides.StepsAside}
 use Rattle.row_changes.specs.{declared.entry_put.EntryPut.EntryPut, declared.row_edit.RowEdit.TheVariants.Put, declared.row_edit.RowEdit.TheVariants.Remove}
-use Rattle.row_changes.specs.Pairs.{RowsStay, Hinders}
-use Rattle.row_changes.specs.Records.{Decodes, PutsFirst, PutsOver, IsListed, IsFormer, StageHolds, IsChangingRecord, GoesOnWithRecord, HindersRecord}
-use Rattle.row_changes.specs.Records.{IsSpoiled, ChangesRecord, record_steps, when_missed, when_found, HasRoom, Records, id_for, undo_of_new, undo_of_former}
-use Rattle.row_changes.specs.Records.{row_found}
-use Rattle.row_changes.specs.Edits.{IsPut, FindsRow, HasNoRow, LacksRow, change_of, rows_put, FitsEdit, version_by}
-use Rattle.row_changes.specs.declared.record_change.RecordReached.TheVariants.{Went, Hindered, Recorded}
+use Rattle.row_changes.specs.{Pairs.RowsStay, Pairs.Hinders, declared.record_change.RecordReached.TheVariants.Went}
+use Rattle.row_changes.specs.{declared.record_change.RecordReached.TheVariants.Hindered, declared.record_change.RecordReached.TheVariants.Recorded}
+use Rattle.row_changes.specs.Records.{Decodes, PutsOver, IsListed, IsFormer, StageHolds, IsChangingRecord, GoesOnWithRecord, HindersRecord, IsSpoiled}
+use Rattle.row_changes.specs.Records.{ChangesRecord, record_steps, when_missed, when_found, HasRoom, Records, id_for, undo_of_new, undo_of_former, row_found}
+use Rattle.row_changes.specs.Edits.{FindsRow, LacksRow, change_of, rows_put, FitsEdit, version_by}
 use Rattle.row_changes.specs.declared.record_change.RecordStage.TheVariants.{Enter, Room, Find, Insert, Replace}
 use Rattle.store_api.specs.{declared.answers.Version.Version, declared.moves.Move.Move, declared.answers.Undo.Undo}
-use Rattle.row_codec.specs.Rows.{IsRecordOf, version_code, IsRowOf, IsKeyOf}
+use Rattle.row_codec.specs.Rows.{version_code, IsRowOf, IsKeyOf}
 use Rattle.row_changes.proofs.{Ids.one_work}
 use Rattle.row_changes.proofs.Sessions.{one_session, aside_of_stay, same_pairs, same_versions, set_here, set_other, one_found}
-use Rattle.row_changes.proofs.Awaited.{HasStayed, places_if, stays_if, change_stays_if, insert_leaves, insert_hinders, replace_leaves, replace_hinders}
+use Rattle.row_changes.proofs.Awaited.{IsLeft, places_if, stays_if, change_stays_if, insert_left, replace_leaves, replace_hinders}
 use Rattle.inno_db.specs.declared.change.Change.{Change}
 use Rattle.law_stored_rows.proofs.Coding.{short_key, short_value}
 use Rattle.key_codec.specs.Keys.{key_width}
@@ -36,30 +34,23 @@ use Rattle.row_changes.specs.declared.reached.Reached.TheVariants as reached
 use Rattle.row_changes.specs.declared.entry_put.PutPhase.TheVariants as phases
 
 -- what is told of pairs stays told, if pairs are told still
-pub told_kept : (P : List Pair → Type 0) (old new : Index) → AreKept old.pairs new.pairs → Told P old → Told P new
-told_kept P old new kept told = go old.pairs new.pairs kept told
-  where
-    go : (before after : Option (List Pair)) → Goes (λ (b a : List Pair). a ≡ b) before after → IfSome before P → IfSome after P
-    go before None kept told = record {}
-    go None (Some after) kept told = absurd kept
-    go (Some before) (Some after) kept told = subst P (sym kept) told
+told_kept : (P : List Pair → Type 0) (old new : Option (List Pair)) → AreKept old new → IfSome old P → IfSome new P
+told_kept P (Some old) (Some new) kept told = rw kept told
+told_kept P old new kept told = search rules
 
 -- what is told tells what follows from it
-pub told_only : (P Q : List Pair → Type 0) (index : Index) → Told P index → ((pairs : List Pair) → P pairs → Q pairs) → Told Q index
-told_only P Q index told follows = go index.pairs told
-  where
-    go : (pairs : Option (List Pair)) → IfSome pairs P → IfSome pairs Q
-    go None h = record {}
-    go (Some pairs) h = follows pairs h
+told_only : (P Q : List Pair → Type 0) (pairs : Option (List Pair)) → IfSome pairs P → ((list : List Pair) → P list → Q list) → IfSome pairs Q
+told_only P Q None told follows = record {}
+told_only P Q (Some list) told follows = follows list told
 
 -- the session's transaction is listed still, where its list has stayed and all other sessions have
 pub listed_on : (s : ℕ) (old new : WorldState) (work : Work) → new.txns ≡ old.txns
     → ((t : ℕ) → t ≢ s → slice_get new.sessions t ≡ slice_get old.sessions t) → IsListed s work old → IsListed s work new
 listed_on s old new work txns others listed =
     record {
-      there = subst (λ (t : Txns). is_there work.txn t.open_txns) (sym txns) listed.there;
-      id = ap (λ (t : Txns). id_at work.txn t.open_txns) txns ∙ listed.id;
-      few = subst (λ (t : Txns). t.next < 18446744073709551615) (sym txns) listed.few;
+      there = rw txns listed.there;
+      id = rw txns listed.id;
+      few = rw txns listed.few;
       alone =
           λ t session other has same. ⊎_elim (λ e. e)
           (λ differs. listed.alone t session other (record { session_is = sym (others t differs) ∙ has.session_is; work_is = has.work_is }) same)
@@ -69,31 +60,10 @@ listed_on s old new work txns others listed =
 -- a stage's facts while no pair changes
 pub stage_kept : (stage : RecordStage) (schema : Schema) (edit : RowEdit) (key : List ℕ) (session : Session) (old new : Index)
     → AreKept old.pairs new.pairs → StageHolds stage schema edit key session old → StageHolds stage schema edit key session new
-stage_kept Enter schema edit key session old new kept holds = holds
-stage_kept Room schema edit key session old new kept holds = holds
-stage_kept Find schema edit key session old new kept holds = holds
-stage_kept Insert schema edit key session old new kept holds = (holds.0, holds.1, told_kept _ old new kept holds.2)
+stage_kept Insert schema edit key session old new kept holds = (holds.0, holds.1, told_kept _ old.pairs new.pairs kept holds.2)
 stage_kept (Replace before bytes) schema edit key session old new kept holds =
-    (holds.0, holds.1, record { there = told_kept _ old new kept holds.2.there; code_is = holds.2.code_is })
-
--- a session alone is another, and what is known of pages
-abbrev pub readied_in_pages : (s : ℕ) (before after : Session) (old new : WorldState) → IsSession s before old → IsReadied before after
-    → new ≡ record (with_session s after old) { paged = new.paged } → StoreGoes old.paged new.paged → StepsAside s old new
-readied_in_pages s before after old new there readied is later =
-    rw is (record {
-      pairs = λ index. same_pairs (old.indexes index).pairs;
-      places = λ index. refl;
-      versions = same_versions old.versions;
-      before = before;
-      after = after;
-      was = there;
-      is = set_here old.sessions s before after there;
-      readied = readied;
-      others = λ t differs. set_other old.sessions s t after differs;
-      count = length-set old.sessions s after;
-      rest = refl;
-      later = later;
-    })
+    (holds.0, holds.1, record { there = told_kept _ old.pairs new.pairs kept holds.2.there; code_is = holds.2.code_is })
+stage_kept other schema edit key session old new kept holds = holds
 
 pub unchanged_stays : (old new : WorldState) → IsUnchanged old new → RowsStay old new
 unchanged_stays old new same =
@@ -108,23 +78,13 @@ unchanged_stays old new same =
 -- room for an undo record was not made
 pub no_room_stays : (s bytes : ℕ) (old new : WorldState) (why : Move) → MakesRoom s bytes old new why → why ≢ moves.Done → RowsStay old new
 no_room_stays s bytes old new moves.Done h differs = absurd (differs refl)
-no_room_stays s bytes old new moves.NoMemory h differs = unchanged_stays old new h
-no_room_stays s bytes old new (moves.At key value) h differs = absurd h
-no_room_stays s bytes old new moves.End h differs = absurd h
-no_room_stays s bytes old new moves.TooDeep h differs = absurd h
-no_room_stays s bytes old new other h differs = unchanged_stays old new h.all
+no_room_stays s bytes old new other h differs = unchanged_stays old new (search rules)
 
 -- the record that is there has no version: the answer's cause
 pub spoiled : (schema : Schema) (key bytes : List ℕ) (index : Index) (why : Move) (s : ℕ) (new : Index)
     → Told (λ pairs. value_of key pairs ≡ Some bytes) index → Decodes schema key bytes (Err why) → Hinders s index new why ⊎ IsSpoiled schema key index
-spoiled schema key bytes index moves.NoMemory s new there h = inl (record {})
-spoiled schema key bytes index (moves.Bad page rule) s new there h = inr (go index.pairs there)
-  where
-    go : (pairs : Option (List Pair)) → IfSome pairs (λ p. value_of key p ≡ Some bytes)
-        → IfSome pairs (λ p. (found : List ℕ) × (value_of key p ≡ Some found) × ((version : Version) → IsRecordOf schema version key found → ⊥))
-    go None told = record {}
-    go (Some pairs) told = (bytes, told, h)
-spoiled schema key bytes index other s new there h = absurd h
+spoiled schema key bytes index (moves.Bad page rule) s new there h = inr (told_only _ _ index.pairs there (λ pairs found. (bytes, found, h)))
+spoiled schema key bytes index other s new there h = search rules
 
 pub same_rows : (state : WorldState) → RowsStay state state
 same_rows state =
@@ -136,18 +96,11 @@ same_rows state =
       later = store_stays state.paged;
     }
 
--- where the key wasn't found
-pub not_there : (key : List ℕ) (old new : Index) → AreKept old.pairs new.pairs → Told (λ pairs. value_of key pairs ≡ None) old → IsThere false key new
-not_there key old new kept none =
-    told_kept _ old new kept (told_only (λ pairs. value_of key pairs ≡ None) (λ pairs. is_some (value_of key pairs) ≡ false) old none
-    (λ pairs is. ap is_some is))
-
 -- ---- the next step of a record that is being changed
 
 pub stage_at : (s : ℕ) (state : WorldState) (change : RecordChange) (p : IsChangingRecord s state change) (stage : RecordStage) → change.stage ≡ stage
     → StageHolds stage p.schema change.edit change.key p.session (state.indexes (clustered_index change.table))
-stage_at s state change p stage at =
-    subst (λ st. StageHolds st p.schema change.edit change.key p.session (state.indexes (clustered_index change.table))) at p.stage
+stage_at s state change p stage is = rw is at p.stage
 
 module _ (s : ℕ) (old new : WorldState) (change : RecordChange) (p : IsChangingRecord s old change) where
   -- what is known of the record at its next stage
@@ -157,16 +110,11 @@ module _ (s : ℕ) (old new : WorldState) (change : RecordChange) (p : IsChangin
   changing_after stage aside holds =
       record {
         schema = p.schema;
-        table = record { there = ap (λ (state : WorldState). slice_get state.schemas change.table) aside.rest ∙ p.table.there; storable = p.table.storable };
+        table = record { there = rw aside.rest p.table.there; storable = p.table.storable };
         fits = p.fits;
         session = aside.after;
         work = p.work;
-        has_work =
-            record {
-              session_is = aside.is;
-              work_is = aside.readied.work ∙ ap (λ (x : Session). x.work) (one_session old s aside.before p.session aside.was p.has_work.session_is)
-                  ∙ p.has_work.work_is;
-            };
+        has_work = record { session_is = aside.is; work_is = cc (aside.was, aside.readied.work, p.has_work.session_is, p.has_work.work_is) };
         listed = listed_on s old new p.work (ap (λ (state : WorldState). state.txns) aside.rest) aside.others p.listed;
         small = p.small;
         stage = holds;
@@ -176,20 +124,34 @@ module _ (s : ℕ) (old new : WorldState) (change : RecordChange) (p : IsChangin
   goes_on : (was stage : RecordStage) (aside : StepsAside s old new) → change.stage ≡ was
       → StageHolds stage p.schema change.edit change.key aside.after (new.indexes (clustered_index change.table)) → record_steps stage < record_steps was
       → GoesOnWithRecord s old new change (record change { stage = stage })
-  goes_on was stage aside at holds nears =
+  goes_on was stage aside is holds nears =
       record {
         aside = aside;
         table_is = refl;
         edit_is = refl;
         key_is = refl;
         holds = changing_after stage aside holds;
-        nears = subst (λ st. record_steps stage < record_steps st) (sym at) nears;
+        nears = rw is nears;
       }
 
   -- the session has other rooms
   abbrev readied : (after : Session) → IsReadied p.session after → new ≡ record (with_session s after old) { paged = new.paged } → StoreGoes old.paged new.paged
       → StepsAside s old new
-  readied after = readied_in_pages s p.session after old new p.has_work.session_is
+  readied after other is later =
+      rw is (record {
+        pairs = λ index. same_pairs (old.indexes index).pairs;
+        places = λ index. refl;
+        versions = same_versions old.versions;
+        before = p.session;
+        after = after;
+        was = p.has_work.session_is;
+        is = set_here old.sessions s p.session after p.has_work.session_is;
+        readied = other;
+        others = λ t differs. set_other old.sessions s t after differs;
+        count = length-set old.sessions s after;
+        rest = refl;
+        later = later;
+      })
 
   -- the history has room for the entry
   pub entered : change.stage ≡ Enter → new ≡ with_room s p.session old → GoesOnWithRecord s old new change (record change { stage = Room })
@@ -209,12 +171,10 @@ module _ (s : ℕ) (old new : WorldState) (change : RecordChange) (p : IsChangin
   -- a call that hinders leaves what is known
   pub hindered : (why : Move) → RowsStay old new → HindersRecord s change p.schema old new why → ChangesRecord s old new change (Hindered change why)
   hindered why stay because =
-      let i = clustered_index change.table in
       let aside = aside_of_stay p.has_work.session_is stay in (
         refl,
         aside,
-        changing_after change.stage aside
-            (stage_kept change.stage p.schema change.edit change.key p.session (old.indexes i) (new.indexes i) (stay.pairs i) p.stage),
+        changing_after change.stage aside (stage_kept change.stage _ _ _ _ _ _ (stay.pairs (clustered_index change.table)) p.stage),
         p.schema,
         p.table,
         because,
@@ -224,22 +184,20 @@ module _ (s : ℕ) (old new : WorldState) (change : RecordChange) (p : IsChangin
   lacks_row : (edit : RowEdit) → change.edit ≡ edit → RowsStay old new
       → LacksRow edit p.schema change.key (old.indexes (clustered_index change.table)) moves.End → ChangesRecord s old new change (Hindered change moves.End)
   lacks_row edit edit_is stay lacks =
-      hindered moves.End stay
-      (inr (inr (inr (subst (λ e. LacksRow e p.schema change.key (old.indexes (clustered_index change.table)) moves.End) (sym edit_is) lacks))))
+      hindered moves.End stay (inr (inr (inr (rw edit_is lacks))))
 
   -- nothing is there
   missed : (edit : RowEdit) → change.stage ≡ Find → change.edit ≡ edit → RowsStay old new
       → Told (λ pairs. value_of change.key pairs ≡ None) (old.indexes (clustered_index change.table)) → ChangesRecord s old new change (when_missed edit change)
   missed (Put row) at edit_is stay none =
-      let i = clustered_index change.table in
-      goes_on Find Insert (aside_of_stay p.has_work.session_is stay) at
-      (stage_at s old change p Find at, subst IsPut (sym edit_is) (record {}), not_there change.key (old.indexes i) (new.indexes i) (stay.pairs i) none)
-      (omega arith)
+      goes_on Find Insert (aside_of_stay p.has_work.session_is stay) at (
+        stage_at s old change p Find at,
+        rw edit_is (record {}),
+        told_kept _ _ _ (stay.pairs (clustered_index change.table))
+            (told_only _ _ (old.indexes (clustered_index change.table)).pairs none (λ pairs is. ap is_some is)),
+      ) (omega arith)
   missed (Remove value) at edit_is stay none =
-      let i = clustered_index change.table in
-      lacks_row (Remove value) edit_is stay
-      (told_only (λ pairs. value_of change.key pairs ≡ None) (λ pairs. HasNoRow p.schema change.key (value_of change.key pairs)) (old.indexes i) none
-      (λ pairs is. rw is (record {})))
+      lacks_row (Remove value) edit_is stay (told_only _ _ (old.indexes (clustered_index change.table)).pairs none (λ pairs is. rw is (record {})))
 
   -- a version is there
   found : (edit : RowEdit) (before : Version) (bytes : List ℕ) → change.stage ≡ Find → change.edit ≡ edit → RowsStay old new
@@ -248,30 +206,21 @@ module _ (s : ℕ) (old new : WorldState) (change : RecordChange) (p : IsChangin
   found edit before bytes at edit_is stay there code = on edit edit_is
     where
       former : IsFormer p.schema change.key bytes before (new.indexes (clustered_index change.table))
-      former =
-          let i = clustered_index change.table in
-          record { there = told_kept _ (old.indexes i) (new.indexes i) (stay.pairs i) there; code_is = code }
+      former = record { there = told_kept _ _ _ (stay.pairs (clustered_index change.table)) there; code_is = code }
 
       finds : FindsRow change.edit before → ChangesRecord s old new change (Went (record change { stage = Replace before bytes }))
       finds row =
           goes_on Find (Replace before bytes) (aside_of_stay p.has_work.session_is stay) at (stage_at s old change p Find at, row, former) (omega arith)
 
-      by_mark : (value : Value) (marked : Bool) → change.edit ≡ Remove value → before.marked ≡ marked
-          → ChangesRecord s old new change (cond marked (Hindered change moves.End) (Went (record change { stage = Replace before bytes })))
-      by_mark value true removes is =
-          lacks_row (Remove value) removes stay
-          (told_only (λ pairs. value_of change.key pairs ≡ Some bytes) (λ pairs. HasNoRow p.schema change.key (value_of change.key pairs))
-          (old.indexes (clustered_index change.table)) there (λ pairs found_is. subst (HasNoRow p.schema change.key) (sym found_is) (before, code, is)))
-      by_mark value false removes is = finds (subst (λ e. FindsRow e before) (sym removes) is)
-
       on : (e : RowEdit) → change.edit ≡ e → ChangesRecord s old new change (when_found e before bytes change)
-      on (Put row) puts = finds (subst (λ e. FindsRow e before) (sym puts) (record {}))
-      on (Remove value) removes = by_mark value before.marked removes refl
+      on (Put row) puts = finds (rw puts (record {}))
+      on (Remove value) removes =
+          cond_both before.marked _ _ (ChangesRecord s old new change)
+          (λ is. lacks_row (Remove value) removes stay
+          (told_only _ _ (old.indexes (clustered_index change.table)).pairs there (λ pairs found_is. rw found_is (before, code, is))))
+          (λ is. finds (rw removes is))
 
   -- ---- the record is looked up
-
-  there_still : RowsStay old new → slice_get new.schemas change.table ≡ Some p.schema
-  there_still stay = ap (λ (state : WorldState). slice_get state.schemas change.table) stay.rest ∙ p.table.there
 
   pub looked_up : (before : Version) (read : List ℕ) → change.stage ≡ Find
       → Calls (clustered_index change.table) (λ b a. Fetches s change.key read b a moves.Done) old new
@@ -279,7 +228,7 @@ module _ (s : ℕ) (old new : WorldState) (change : RecordChange) (p : IsChangin
       → ChangesRecord s old new change (when_found change.edit before read change)
   looked_up before read at c decodes =
       let stay = stays_if c (c.index_is.here.1.pairs, c.index_is.here.1.place) in
-      found change.edit before read at refl stay c.index_is.here.0 (decodes p.schema (there_still stay))
+      found change.edit before read at refl stay c.index_is.here.0 (decodes p.schema (rw stay.rest p.table.there))
 
   pub not_decoded : (why : Move) (read : List ℕ) → Calls (clustered_index change.table) (λ b a. Fetches s change.key read b a moves.Done) old new
       → ((schema : Schema) → slice_get new.schemas change.table ≡ Some schema → Decodes schema change.key read (Err why))
@@ -288,7 +237,7 @@ module _ (s : ℕ) (old new : WorldState) (change : RecordChange) (p : IsChangin
       let i = clustered_index change.table in
       let stay = stays_if c (c.index_is.here.1.pairs, c.index_is.here.1.place) in
       hindered why stay (⊎_elim (λ h. inl h) (λ h. inr (inr (inl h)))
-      (spoiled p.schema change.key read (old.indexes i) why s (new.indexes i) c.index_is.here.0 (decodes p.schema (there_still stay))))
+      (spoiled p.schema change.key read (old.indexes i) why s (new.indexes i) c.index_is.here.0 (decodes p.schema (rw stay.rest p.table.there))))
 
   pub looked_up_none : (read : List ℕ) → change.stage ≡ Find → Calls (clustered_index change.table) (λ b a. Fetches s change.key read b a moves.End) old new
       → ChangesRecord s old new change (when_missed change.edit change)
@@ -314,17 +263,16 @@ module _ (s : ℕ) (undo : Undo) (old mid : WorldState) (logged : IsLogged s und
   logged_elsewhere : (t : ℕ) → t ≢ s → slice_get mid.sessions t ≡ slice_get old.sessions t
   logged_elsewhere t differs = ap (λ (state : WorldState). slice_get state.sessions t) logged.rest ∙ set_other old.sessions s t logged_session differs
 
-  recorded : (change : Change) (rows table : ℕ) (key bytes : List ℕ) (new : WorldState) (step : Index → Index → Type 0) (holder : Option ℕ)
+  recorded : (change : Change) (rows table : ℕ) (key bytes : List ℕ) {new : WorldState} {step : Index → Index → Type 0} {holder : Option ℕ}
       → Enters s change rows logged_session logged_work mid new → InIndex (clustered_index table) step old mid
       → HasGone (λ before after. after ≡ with_value key (Some bytes) before) holder (old.indexes (clustered_index table)) (mid.indexes (clustered_index table))
       → Records s change rows table key bytes undo old new
-  recorded change rows table key bytes new step holder enters index_is gone =
+  recorded change rows table key bytes enters index_is gone =
       let now : Work = record logged_work { id = id_for logged.work.id mid.txns.next; own = logged.work.own + 1 } in
-      let places = places_if index_is gone.place in
       rw (enters.rest, logged.rest) (record {
         here = gone.pairs;
         elsewhere = λ other differs. (index_is.elsewhere other differs).pairs;
-        places = places;
+        places = places_if index_is gone.place;
         work = record {
           session = logged.session;
           work = logged.work;
@@ -353,51 +301,26 @@ module _ (s : ℕ) (undo : Undo) (old mid : WorldState) (logged : IsLogged s und
         later = logged.later;
       })
 
--- where the pair was not put, no undo record has come
-not_brought : (actor : ℕ) (undo : Undo) (answer : Move) (old new : WorldState) → answer ≢ moves.Done → Brings actor (Some undo) (is_done answer) old new
-    → StaysBeside old new
-not_brought actor undo moves.Done old new differs h = absurd (differs refl)
-not_brought actor undo other old new differs h = h
-
 -- ---- the call that changes the record
 
 key_fits : (schema : Schema) (edit : RowEdit) (key : List ℕ) → IsStorable schema → FitsEdit schema edit key → length key ≤ 33
 key_fits schema (Put row) key storable fits = short_key schema row key storable fits.key_is
 key_fits schema (Remove value) key storable fits =
-    let is : length key ≡ key_width fits.column.kind = ap length fits.spelled ∙ length-key_code fits.column.kind value fits.has_key.0 in
-    let width : key_width fits.column.kind ≡ key_width storable.column.kind =
-    ap (λ (c : Column). key_width c.kind) (one_found fits.column storable.column fits.primary storable.primary) in
-    omega (arith, is, width, storable.short)
+    let width = ap (λ (c : Column). key_width c.kind) (one_found fits.column storable.column fits.primary storable.primary) in
+    omega (arith, ap length fits.spelled ∙ length-key_code fits.column.kind value fits.has_key.0, width, storable.short)
 
--- a version is made at these stages alone
-abbrev pub Makes : RecordStage → Type 0
-Makes Insert = Unit {0}
-Makes (Replace before bytes) = Unit {0}
-Makes other = ⊥
-
--- its row is one of the table, and has the key
+-- the row of the version that is made is one of the table, and has the key
 pub version_made : (schema : Schema) (edit : RowEdit) (key : List ℕ) (session : Session) (index : Index) (stage : RecordStage) → FitsEdit schema edit key
-    → StageHolds stage schema edit key session index → Makes stage → (version : Version) (writer pointer : ℕ)
+    → StageHolds stage schema edit key session index → record_steps stage ≡ 1 → (version : Version) (writer pointer : ℕ)
     → version ≡ version_by edit (row_found stage) writer pointer → IsRowOf schema.columns version.row × IsKeyOf schema version.row key
 version_made schema (Put row) key session index stage fits holds makes version writer pointer is = rw is (fits.fits.columns, fits.key_is)
-version_made schema (Remove value) key session index Insert fits holds makes version writer pointer is = absurd holds.1
 version_made schema (Remove value) key session index (Replace before bytes) fits holds makes version writer pointer is =
     rw is (holds.2.code_is.record_is.fits, holds.2.code_is.record_is.key_is)
-version_made schema (Remove value) key session index other fits holds makes version writer pointer is = absurd makes
+version_made schema (Remove value) key session index other fits holds makes version writer pointer is = absurd (search rules)
 
 pub value_short : (schema : Schema) (version : Version) (key value : List ℕ) → IsStorable schema
     → IsRowOf schema.columns version.row × IsKeyOf schema version.row key → value ≡ version_code schema version → length value ≤ 1024
 value_short schema version key value storable fits is = short_value schema version key value storable (record { fits = fits.0; key_is = fits.1; value_is = is })
-
-pub value_of_row : (schema : Schema) (edit : RowEdit) (row row' : List Value) (version : Version) (value : List ℕ) (writer writer' pointer pointer' : ℕ)
-    → value ≡ version_code schema version → version ≡ version_by edit row writer pointer → row ≡ row' → writer ≡ writer' → pointer ≡ pointer'
-    → value ≡ version_code schema (version_by edit row' writer' pointer')
-value_of_row schema edit row row' version value writer writer' pointer pointer' is version_is rows writers pointers =
-    rw (← rows, ← writers, ← pointers, ← version_is) is
-
--- the room that the call asks for the undo record
-former_room : (key value room : ℕ) → key ≤ 33 → value ≤ 1024 → 1098 ≤ room → 7 + key + value ≤ room
-former_room key value room short_key short_value enough = omega arith
 
 module _ {s : ℕ} {old : WorldState} {change : RecordChange} (p : IsChangingRecord s old change) where
   abbrev index : ℕ
@@ -417,9 +340,9 @@ module _ {s : ℕ} {old : WorldState} {change : RecordChange} (p : IsChangingRec
     session = p.session;
     work = p.work;
     has_work = p.has_work;
-    room = rw key_is
-        (former_room (length change.key) (length undo.value) p.session.undo_room
-        (key_fits p.schema change.edit change.key p.table.storable p.fits) small room.undo);
+    room =
+        let enough : 1098 ≤ p.session.undo_room = room.undo in
+        omega (arith, key_fits p.schema change.edit change.key p.table.storable p.fits, small, enough, ap length key_is);
   }
 
   pub may_log_new : (undo : Undo) → HasRoom p.session → undo ≡ undo_of_new change.table change.key → MayLog s undo old
@@ -442,7 +365,7 @@ module _ {s : ℕ} {old : WorldState} {change : RecordChange} (p : IsChangingRec
       let work = one_work s logged.session p.session logged.work p.work old logged.has_work p.has_work in
       let listed =
       listed_on s old mid logged.work (ap (λ (state : WorldState). state.txns) logged.rest) (logged_elsewhere s undo old mid logged)
-      (subst (λ w. IsListed s w old) (sym work) p.listed) in (
+      (rw work p.listed) in (
         logged_session s undo old mid logged,
         logged_work s undo old mid logged,
         logged_here s undo old mid logged,
@@ -455,38 +378,31 @@ module _ {s : ℕ} {old : WorldState} {change : RecordChange} (p : IsChangingRec
   EntersIt mid new =
       (session : Session) (work : Work) → HasWork s session work mid → Enters s (change_of change.table change.edit) (rows_put change.edit) session work mid new
 
-  abbrev Inserting : Undo → List ℕ → WorldState → Move → Type 0
-  Inserting undo value new move =
-      Changes index s (Some undo) (λ before after answer. InsertsWith (Some undo) s change.key value before after answer) old new move
-
-  abbrev Replacing : Undo → List ℕ → WorldState → Move → Type 0
-  Replacing undo value new move =
-      Changes index s (Some undo) (λ before after answer. ReplacesWith (Some undo) s change.key value before after answer) old new move
+  abbrev Calling : (Option Undo → ℕ → List ℕ → List ℕ → Index → Index → Move → Type 0) → Undo → List ℕ → WorldState → Move → Type 0
+  Calling call undo value new move = Changes index s (Some undo) (λ before after answer. call (Some undo) s change.key value before after answer) old new move
 
   pub inserted : (mid new : WorldState) (value : List ℕ) (undo : Undo) → change.stage ≡ Insert
       → value ≡ version_code p.schema (version_by change.edit [] (id_for p.work.id old.txns.next) 0) → undo ≡ undo_of_new change.table change.key
-      → Inserting undo value mid moves.Done → EntersIt mid new → ChangesRecord s old new change (Recorded None)
+      → Calling InsertsWith undo value mid moves.Done → EntersIt mid new → ChangesRecord s old new change (Recorded None)
   inserted mid new value undo at value_is undo_is c enters =
       let holds = stage_at s old change p Insert at in
-      let logged : IsLogged s undo old mid = c.beside in
-      let all =
-      recorded s undo old mid logged (change_of change.table change.edit) (rows_put change.edit) change.table change.key value new _ _
-      (enters _ _ (logged_here s undo old mid logged)) c.index_is c.index_is.here.2 in
-      let first : PutsFirst s old new change p.schema =
-      record { session = p.session; work = p.work; had = p.has_work; is_put = holds.1; absent = holds.2; records = rw (← undo_is, ← value_is) all } in
-      (p.schema, p.table, inl (first, refl))
+      let all = recorded s undo old mid c.beside _ _ change.table _ value (enters _ _ (logged_here s undo old mid c.beside)) c.index_is c.index_is.here.2 in (
+        p.schema,
+        p.table,
+        inl (
+          record { session = p.session; work = p.work; had = p.has_work; is_put = holds.1; absent = holds.2; records = rw (← undo_is, ← value_is) all },
+          refl,
+        ),
+      )
 
   pub replaced : (mid new : WorldState) (before : Version) (bytes value : List ℕ) (undo : Undo) (found : Option (List Value))
       → change.stage ≡ Replace before bytes
       → value ≡ version_code p.schema (version_by change.edit before.row (id_for p.work.id old.txns.next) p.session.next_pointer)
       → undo ≡ undo_of_former change.table change.key bytes → found ≡ row_shown before.marked before.row → p.session.next_pointer < 2 ^ 64
-      → Replacing undo value mid moves.Done → EntersIt mid new → ChangesRecord s old new change (Recorded found)
+      → Calling ReplacesWith undo value mid moves.Done → EntersIt mid new → ChangesRecord s old new change (Recorded found)
   replaced mid new before bytes value undo found at value_is undo_is found_is small c enters =
       let holds = stage_at s old change p (Replace before bytes) at in
-      let logged : IsLogged s undo old mid = c.beside in
-      let all =
-      recorded s undo old mid logged (change_of change.table change.edit) (rows_put change.edit) change.table change.key value new _ _
-      (enters _ _ (logged_here s undo old mid logged)) c.index_is c.index_is.here.1 in
+      let all = recorded s undo old mid c.beside _ _ change.table _ value (enters _ _ (logged_here s undo old mid c.beside)) c.index_is c.index_is.here.1 in
       let over : PutsOver s old new change p.schema before =
       record {
         session = p.session;
@@ -503,30 +419,34 @@ module _ {s : ℕ} {old : WorldState} {change : RecordChange} (p : IsChangingRec
 
   -- where the call was not done
   hindered_by : (new : WorldState) (undo : Undo) (answer : Move) (call : Index → Index → Move → Type 0) → Changes index s (Some undo) call old new answer
-      → answer ≢ moves.Done → HasStayed (old.indexes index) (new.indexes index) → Hinders s (old.indexes index) (new.indexes index) answer
+      → answer ≢ moves.Done → IsLeft s (old.indexes index) (new.indexes index) × Hinders s (old.indexes index) (new.indexes index) answer
       → ChangesRecord s old new change (Hindered change answer)
-  hindered_by new undo answer call c differs kept hinders =
+  hindered_by new undo answer call c differs left =
       hindered s old new change p answer
-      (stays_if (record { index_is = c.index_is; beside = not_brought s undo answer old new differs c.beside }) kept) (inl hinders)
+      (stays_if (record { index_is = c.index_is; beside = beside answer differs c.beside }) left.0.0) (inl left.1)
+    where
+      -- no undo record has come
+      beside : (move : Move) → move ≢ moves.Done → Brings s (Some undo) (is_done move) old new → StaysBeside old new
+      beside moves.Done not_done h = absurd (not_done refl)
+      beside other not_done h = h
 
-  pub insert_hindered : (new : WorldState) (value : List ℕ) (undo : Undo) (answer : Move) → change.stage ≡ Insert → Inserting undo value new answer
+  pub insert_hindered : (new : WorldState) (value : List ℕ) (undo : Undo) (answer : Move) → change.stage ≡ Insert → Calling InsertsWith undo value new answer
       → answer ≢ moves.Done → ChangesRecord s old new change (Hindered change answer)
   insert_hindered new value undo answer at c differs =
-      let here = c.index_is.here in
       hindered_by new undo answer _ c differs
-      (insert_leaves (Some undo) s change.key value (old.indexes index) (new.indexes index) answer here differs).0
-      (insert_hinders (Some undo) s change.key value (old.indexes index) (new.indexes index) answer (stage_at s old change p Insert at).2 here differs)
+      (insert_left (Some undo) s change.key value _ _ answer (stage_at s old change p Insert at).2 c.index_is.here differs)
 
   pub replace_hindered : (new : WorldState) (before : Version) (bytes value : List ℕ) (undo : Undo) (answer : Move) → change.stage ≡ Replace before bytes
-      → Replacing undo value new answer → answer ≢ moves.Done → ChangesRecord s old new change (Hindered change answer)
+      → Calling ReplacesWith undo value new answer → answer ≢ moves.Done → ChangesRecord s old new change (Hindered change answer)
   replace_hindered new before bytes value undo answer at c differs =
       let here = c.index_is.here in
       let there =
-      told_only (λ pairs. value_of change.key pairs ≡ Some bytes) (λ pairs. is_some (value_of change.key pairs) ≡ true) (old.indexes index)
-      (stage_at s old change p (Replace before bytes) at).2.there (λ pairs is. ap is_some is) in
-      hindered_by new undo answer _ c differs
-      (replace_leaves (Some undo) s change.key value (old.indexes index) (new.indexes index) answer here differs).0
-      (replace_hinders (Some undo) s change.key value (old.indexes index) (new.indexes index) answer there here differs)
+      told_only _ (λ pairs. is_some (value_of change.key pairs) ≡ true) (old.indexes index).pairs (stage_at s old change p (Replace before bytes) at).2.there
+      (λ pairs is. ap is_some is) in
+      hindered_by new undo answer _ c differs (
+        replace_leaves (Some undo) s change.key value _ _ answer here differs,
+        replace_hinders (Some undo) s change.key value _ _ answer there here differs,
+      )
 
 -- ---- an entry that is being put
 
@@ -535,13 +455,13 @@ pub entry_hindered : (actor : ℕ) (value : List ℕ) (old new : WorldState) (pu
     → PutsEntry actor old new put (reached.Hindered put move)
 entry_hindered actor value old new put move is phase_is call not_done =
     let absent : IsThere false put.entry (old.indexes put.index) = rw phase_is at is.phase in
-    let kept = (insert_leaves None actor put.entry value (old.indexes put.index) (new.indexes put.index) move call.index_is.here not_done).0 in (
+    let left = insert_left None actor put.entry value _ _ move absent call.index_is.here not_done in (
       refl,
-      change_stays_if call kept,
+      change_stays_if call left.0.0,
       record {
         index_is = rw (ap (λ (w : WorldState). w.schemas) call.beside.rest) is.index_is;
         short = is.short;
-        phase = rw phase_is (told_kept _ (old.indexes put.index) (new.indexes put.index) kept.0 absent);
+        phase = rw phase_is (told_kept _ (old.indexes put.index).pairs _ left.0.0.0 absent);
       },
-      insert_hinders None actor put.entry value (old.indexes put.index) (new.indexes put.index) move absent call.index_is.here not_done,
+      left.1,
     )

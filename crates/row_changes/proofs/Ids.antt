@@ -1,28 +1,13 @@
 -- A transaction is given its id, and its change is entered.
-use Rattle.std.proofs.Common.{◌≡◌, ◌≢◌, ℕ, ◌+◌, ◌==◌, false, List, ◌∷◌, length, Option, Some, None, refl, sym, ap, subst, ◌∙◌, eq-eqb}
-use Rattle.std.proofs.lemmas.{List.length-map, List.length-set, Bool.cond-true, Bool.cond-false, Bool.ne_eqb, Option.slice_get-map}
+use Rattle.std.proofs.Common.{◌≡◌, ◌≢◌, ℕ, ◌+◌, ◌==◌, false, Option, Some, None, refl, sym, ap, ◌∙◌, eq-eqb}
+use Rattle.std.proofs.lemmas.{List.length-map, List.length-set, Bool.cond-false, Bool.ne_eqb, Option.slice_get-map}
 use Rattle.std.specs.Prelude.{slice_get, option_map}
 use Rattle.inno_db.specs.declared.change.Change.{Change}
-use Rattle.inno_model.specs.declared.event.Event.TheVariants.{Changed}
 use Rattle.store_api.specs.declared.answers.Standing.{Standing}
-use Rattle.txn_table.specs.Txns.{Txns, with_id}
-use Rattle.world.specs.State.{WorldState, Session, Work, HasWork, txn_of, id_of, standing_of}
+use Rattle.world.specs.State.{WorldState, Session, Work, HasWork, standing_of}
 use Rattle.world.specs.Sessions.{of_txn, change_txn, work_with_id, identified, change_added}
-use Rattle.row_changes.specs.{Records.IsListed, Records.id_for, Records.txns_with_id, Entering.GivesId, Entering.Enters}
+use Rattle.row_changes.specs.{Records.IsListed, Records.id_for, Entering.GivesId, Entering.Enters}
 use Rattle.row_changes.proofs.Sessions.{one_found, set_here, set_other}
-
-pub id_given : (own next : ℕ) → own ≢ 0 → id_for own next ≡ own
-id_given own next differs = cond-false (own == 0) next own (ne_eqb own 0 differs)
-
-pub id_new : (own next : ℕ) → own ≡ 0 → id_for own next ≡ next
-id_new own next is = cond-true (own == 0) next own (eq-eqb own 0 is)
-
-pub txns_new : (work : Work) (txns : Txns) → work.id ≡ 0
-    → txns_with_id work txns ≡ record txns { open_txns = with_id work.txn txns.next txns.open_txns; next = txns.next + 1 }
-txns_new work txns is = cond-true (work.id == 0) _ _ (eq-eqb work.id 0 is)
-
-pub txns_same : (work : Work) (txns : Txns) → work.id ≢ 0 → txns_with_id work txns ≡ txns
-txns_same work txns differs = cond-false (work.id == 0) _ _ (ne_eqb work.id 0 differs)
 
 -- ---- sessions of which one's transaction is changed
 
@@ -31,10 +16,6 @@ other_kept : (txn : ℕ) (f : Session → Session) (session : Session) (work : O
     → ((other : Work) → work ≡ Some other → other.txn ≢ txn) → of_txn txn f session work ≡ session
 other_kept txn f session None is differs = refl
 other_kept txn f session (Some other) is differs = cond-false (other.txn == txn) (f session) session (ne_eqb other.txn txn (differs other refl))
-
-mine_changed : (txn : ℕ) (f : Session → Session) (session : Session) (work : Work) → session.work ≡ Some work → work.txn ≡ txn
-    → of_txn txn f session session.work ≡ f session
-mine_changed txn f session work is same = ap (λ w. of_txn txn f session w) is ∙ cond-true (work.txn == txn) (f session) session (eq-eqb work.txn txn same)
 
 found_kept : (g : Session → Session) (found : Option Session) → ((session : Session) → found ≡ Some session → g session ≡ session) → option_map g found ≡ found
 found_kept g None same = refl
@@ -51,8 +32,7 @@ changed_elsewhere s t work f state listed differs =
 pub changed_here : (s : ℕ) (session : Session) (work : Work) (f : Session → Session) (state : WorldState) → HasWork s session work state
     → slice_get (change_txn work.txn f state.sessions) s ≡ Some (f session)
 changed_here s session work f state has =
-    slice_get-map (λ x. of_txn work.txn f x x.work) state.sessions s ∙ ap (option_map (λ x. of_txn work.txn f x x.work)) has.session_is
-    ∙ ap Some (mine_changed work.txn f session work has.work_is refl)
+    slice_get-map (λ x. of_txn work.txn f x x.work) state.sessions s ∙ rw (has.session_is, has.work_is, eq-eqb work.txn work.txn refl) refl
 
 -- ---- the id
 
@@ -60,28 +40,21 @@ pub gives_new_id : (s : ℕ) (session : Session) (work : Work) (old new : WorldS
     → new ≡ identified work.txn old → GivesId s session work old new
 gives_new_id s session work old new has listed none is =
     let f = λ (x : Session). record x { work = work_with_id old.txns.next x.work } in
-    let sessions = ap (λ (state : WorldState). state.sessions) is in
     record {
-      now = ap (λ (xs : List Session). slice_get xs s) sessions ∙ changed_here s session work f old has
-          ∙ ap (λ w. Some (record session { work = w }))
-          (ap (work_with_id old.txns.next) has.work_is ∙ ap (λ id. Some (record work { id = id })) (sym (id_new work.id old.txns.next none)));
-      others = λ t differs. ap (λ (xs : List Session). slice_get xs t) sessions ∙ changed_elsewhere s t work f old listed differs;
-      count = ap length sessions ∙ length-map old.sessions (λ session. of_txn work.txn f session session.work);
-      rest =
-          is ∙ ap (λ (xs : List Session). record old
-          { sessions = xs; txns = record old.txns { open_txns = with_id work.txn old.txns.next old.txns.open_txns; next = old.txns.next + 1 } })
-          (sym sessions) ∙ ap (λ (txns : Txns). record old { sessions = new.sessions; txns = txns }) (sym (txns_new work old.txns none));
+      now = rw (is, eq-eqb work.id 0 none) (changed_here s session work f old has
+          ∙ ap (λ w. Some (record session { work = work_with_id old.txns.next w })) has.work_is);
+      others = λ t differs. rw is (changed_elsewhere s t work f old listed differs);
+      count = rw is (length-map old.sessions (λ session. of_txn work.txn f session session.work));
+      rest = rw (is, eq-eqb work.id 0 none) refl;
     }
 
 pub keeps_id : (s : ℕ) (session : Session) (work : Work) (state : WorldState) → HasWork s session work state → work.id ≢ 0 → GivesId s session work state state
 keeps_id s session work state has given =
     record {
-      now =
-          has.session_is ∙ ap (λ w. Some (record session { work = w }))
-          (has.work_is ∙ ap (λ id. Some (record work { id = id })) (sym (id_given work.id state.txns.next given)));
+      now = rw (ne_eqb work.id 0 given) (has.session_is ∙ ap (λ w. Some (record session { work = w })) has.work_is);
       others = λ t differs. refl;
       count = refl;
-      rest = ap (λ txns. record state { txns = txns }) (sym (txns_same work state.txns given));
+      rest = rw (ne_eqb work.id 0 given) refl;
     }
 
 -- ---- the entry
@@ -94,39 +67,29 @@ entered_change s change rows session work old mid new gives added =
     let session1 = record session { work = Some work1 } in
     let is = added session1 work1 (record { session_is = gives.now; work_is = refl }) in
     let after = record session1 { can_change = false; work = Some (record work1 { own = work1.own + 1 }) } in
-    let sessions = ap (λ (state : WorldState). state.sessions) is in
     record {
-      now = ap (λ (xs : List Session). slice_get xs s) sessions ∙ set_here mid.sessions s session1 after gives.now;
-      others = λ t differs. ap (λ (xs : List Session). slice_get xs t) sessions ∙ set_other mid.sessions s t after differs ∙ gives.others t differs;
-      count = ap length sessions ∙ length-set mid.sessions s after ∙ gives.count;
-      rest = is ∙ ap (λ (xs : List Session). record mid { past = Changed s change ∷ mid.past; rows = mid.rows + rows; sessions = xs }) (sym sessions)
-          ∙ ap (λ (state : WorldState). record state { past = Changed s change ∷ state.past; rows = state.rows + rows; sessions = new.sessions }) gives.rest;
+      now = rw is (set_here mid.sessions s session1 after gives.now);
+      others = λ t differs. rw is (set_other mid.sessions s t after differs ∙ gives.others t differs);
+      count = rw is (length-set mid.sessions s after ∙ gives.count);
+      rest = rw (is, gives.rest) refl;
     }
 
 -- the work of a session that has it
 pub one_work : (s : ℕ) (a b : Session) (v w : Work) (state : WorldState) → HasWork s a v state → HasWork s b w state → v ≡ w
 one_work s a b v w state first second = cc
 
-pub now_has : (s : ℕ) (session : Session) (work : Work) (old new : WorldState) → GivesId s session work old new
-    → HasWork s (record session { work = Some (record work { id = id_for work.id old.txns.next }) }) (record work { id = id_for work.id old.txns.next }) new
-now_has s session work old new gives = record { session_is = gives.now; work_is = refl }
-
 -- what a session tells of its transaction
-pub told_txn : (s : ℕ) (session : Session) (work : Work) (state : WorldState) (standing : Standing) → HasWork s session work state
-    → standing ≡ standing_of session → standing.txn ≡ Some work.txn
-told_txn s session work state standing has is = ap (λ (x : Standing). x.txn) is ∙ ap txn_of has.work_is
-
-pub told_id : (s : ℕ) (session : Session) (work : Work) (state : WorldState) (standing : Standing) → HasWork s session work state
-    → standing ≡ standing_of session → standing.id ≡ work.id
-told_id s session work state standing has is = ap (λ (x : Standing). x.id) is ∙ ap id_of has.work_is
+pub told : (s : ℕ) (session : Session) (work : Work) (state : WorldState) (standing : Standing) → HasWork s session work state
+    → standing ≡ standing_of session → (standing.txn ≡ Some work.txn) × (standing.id ≡ work.id)
+told s session work state standing has is = rw (is, has.work_is) (refl, refl)
 
 -- the transaction that was told of is given its id
 pub gives_told : (s : ℕ) (x session : Session) (w work : Work) (old new : WorldState) (standing : Standing) (txn : ℕ) → HasWork s x w old
     → IsListed s w old → HasWork s session work old → standing ≡ standing_of x → standing.txn ≡ Some txn → standing.id ≡ 0
     → new ≡ identified txn old → GivesId s session work old new
-gives_told s x session w work old new standing txn has listed also is told none given =
+gives_told s x session w work old new standing txn has listed also is txn_told none given =
     let same = one_work s x session w work old has also in
-    let listed' = subst (λ k. IsListed s k old) same listed in
-    let txn_is = one_found txn w.txn told (told_txn s x w old standing has is) ∙ ap (λ (k : Work). k.txn) same in
-    let id_is = ap (λ (k : Work). k.id) (sym same) ∙ sym (told_id s x w old standing has is) ∙ none in
-    gives_new_id s session work old new also listed' id_is (given ∙ ap (λ t. identified t old) txn_is)
+    let tells = told s x w old standing has is in
+    let txn_is = one_found txn w.txn txn_told tells.0 ∙ ap (λ (k : Work). k.txn) same in
+    let id_is = ap (λ (k : Work). k.id) (sym same) ∙ sym tells.1 ∙ none in
+    gives_new_id s session work old new also (rw same at listed) id_is (given ∙ ap (λ t. identified t old) txn_is)

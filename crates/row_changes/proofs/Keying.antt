@@ -1,30 +1,29 @@
 -- What one key says of a place while a change goes over into the keys, and what stays known meanwhile.
 use Rattle.std.proofs.Common.{◌≡◌, ◌≢◌, ⊎_elim, ◌∙◌, sym, ap, subst, refl, ℕ, zero, suc, ◌+◌, ◌<◌, ◌≤◌, ◌^◌, ◌==◌, Bool, true, false, cond, List, ◌∷◌, length}
-use Rattle.std.proofs.Common.{Option, None, Some, slice_get, arith, ◌-◌, ◌*◌}
-use Rattle.std.specs.Prelude.{◌&&◌, IfSome, IfOk, Result, Ok, Err}
+use Rattle.std.proofs.Common.{Option, None, Some, slice_get, arith, rules, ◌-◌, ◌*◌}
+use Rattle.std.specs.Prelude.{◌&&◌, IfSome}
 use Rattle.std.proofs.lemmas.{Bool.cases_eq, Bool.eqb-true, Option.slice_get_within, Option.slice_get_cases, Option.get_or_from_slice_get}
 use Rattle.inno_types.specs.{declared.value.Value.Value, declared.value.Key.Key, declared.value.Schema.Schema}
 use Rattle.inno_db.specs.Database.{key_of}
-use Rattle.store_api.specs.{declared.NoMemory.NoMemory, declared.moves.Move.Move}
+use Rattle.store_api.specs.{declared.moves.Move.Move}
 use Rattle.store_api.specs.declared.answers.Version.{Version as Coded}
-use Rattle.entries.specs.{Pairs.Pair, Index.Index}
+use Rattle.entries.specs.{Index.Index}
 use Rattle.row_versions.specs.{declared.place.Place.Place, declared.version.Version.Version}
 use Rattle.row_versions.specs.Chains.{Chains, versions_at, is_same_place, newest}
 use Rattle.row_codec.specs.Rows.{version_code}
-use Rattle.law_stored_rows.specs.{Edits.key_index, Edits.Puts, Edits.clustered_index, Entries.value_in, Entries.entry_of, Entries.TellAlike, Records.shown}
-use Rattle.law_stored_rows.specs.{Tables.Said, Tables.AreCodedAs, Tables.SaysNow, FittingRecords.IsEntryOf, Storable.IsStorable}
+use Rattle.law_stored_rows.specs.{Edits.key_index, Edits.clustered_index, Entries.value_in, Entries.entry_of, Entries.TellAlike, Records.shown}
+use Rattle.law_stored_rows.specs.{Tables.Said, Tables.AreCodedAs, Tables.SaysNow, Storable.IsStorable}
 use Rattle.law_stored_rows.specs.Steps.{PutsEntry as PutsStored}
-use Rattle.row_changes.specs.{Told.HasRows, declared.entry_put.PutPhase.TheVariants.Look, Edits.IsRowFor, Edits.IsKeyAt, declared.entry_put.PutPhase.PutPhase}
+use Rattle.row_changes.specs.{Told.HasRows, Told.AreRowsAs, declared.entry_put.PutPhase.TheVariants.Look, Edits.IsRowFor, declared.entry_put.PutPhase.PutPhase}
 use Rattle.row_changes.specs.{declared.entry_put.EntryPut.EntryPut, declared.keys_change.KeysChange.KeysChange, declared.key_entries.KeyEntries.KeyEntries}
-use Rattle.row_changes.specs.declared.reached.Reached.TheVariants.{Hindered, Done}
+use Rattle.row_changes.specs.{declared.reached.Reached.TheVariants.Hindered, Pairs.Hinders, Pairs.RowsStay, Pairs.PutsPair}
 use Rattle.row_changes.specs.Keys.{StaysBesideKeys, gone, SaySoFar, said_next, keys_next, without_row, keys_steps, HasRowsSoFar, ChangesKeys, IsEntering}
 use Rattle.row_changes.specs.Keys.{IsChangingKeys, GoesOnWithKeys, value_stays, AreEntries, StayBetween, IsEntryIn, IsEntryFor}
-use Rattle.row_changes.specs.Pairs.{Hinders, RowsStay, PutsPair}
 use Rattle.row_changes.specs.Entries.{marked, unmarked, PutsEntry, GoesOnPutting, HindersEntry, put_steps}
 use Rattle.law_stored_rows.proofs.{Pairs.no_key, Values.same_place, Values.same_value, Steps.old_marked, Steps.new_put, Steps.first_put, Coding.short_entries}
 use Rattle.law_stored_rows.proofs.{Coding.value_in-kind, Keys.now_says, Keys.others_say, Keys.lag_says, Keys.said_alike, Keys.change_over}
 use Rattle.law_stored_rows.proofs.Entries.{value_again, without_row as tells_no_row}
-use Rattle.row_changes.proofs.{Sessions.one_found, Changing.same_rows, Pushed.at_primary, Pushed.plain, Pushed.code_of, Pushed.table_kept}
+use Rattle.row_changes.proofs.{Sessions.one_found, Pushed.at_primary, Pushed.plain, Pushed.code_of, Pushed.table_kept}
 use Rattle.row_changes.proofs.Telling.{stays_told, rows_again, coded_again, put_told, put_pairs}
 use Rattle.world.specs.{State.IsIndex, State.WorldState, Told.pairs_of, Told.IsTold}
 use Rattle.store_api.specs.declared.moves.Move.TheVariants as moves
@@ -55,43 +54,22 @@ say_more chains place done older said so =
     record {
       lag = so.lag;
       first =
-          λ which below. ⊎_elim (λ e. subst (λ w. said place.table w place.key ≡ versions_at place chains) (sym e) so.here)
-          (λ differs. so.first which (omega (arith, below, differs))) (cases_eq which done);
+          λ which below. ⊎_elim (λ e. rw e so.here) (λ differs. so.first which (omega (arith, below, differs))) (cases_eq which done);
       here = so.later (done + 1) (omega arith);
       later = λ which above. so.later which (omega arith);
     }
 
 alike_if : (a b : Bool) (column : ℕ) (was now : List Version) → (a ≡ true → b ≡ true → TellAlike column was now) → TellAlike column was (cond (a && b) now was)
 alike_if true true column was now alike = alike refl refl
-alike_if true false column was now alike = λ value. refl
-alike_if false b column was now alike = λ value. refl
+alike_if a b column was now alike = λ value. refl
 
 -- a key whose value stays tells the same
 stays_alike : (column : ℕ) (before after : Option (List Value)) (version : Version) (older : List Version) → newest older ≡ before
     → version.row ≡ after → value_stays column before after ≡ true → TellAlike column older (version ∷ older)
 stays_alike column None None version older was is stays = tells_no_row column version older is was
-stays_alike column None (Some after) version older was is stays = absurd (cc)
-stays_alike column (Some before) None version older was is stays = absurd (cc)
 stays_alike column (Some before) (Some after) version older was is stays =
     value_again column before version older after was is (same_value (value_in column before) (value_in column after) stays)
-
-puts_entry : (schemas : List Schema) (old new : ℕ → List Pair) (table which : ℕ) (schema : Schema) (row : List Value) (writer : ℕ)
-    (primary entry : List ℕ) (now : Option (List ℕ)) → slice_get schemas table ≡ Some schema → writer < 2 ^ 64 → IsRowFor schema row primary
-    → (is : IsEntryIn schema which row primary entry) → Puts old new (key_index table which) entry now → PutsStored schemas old new table schema which
-    is.key.column (plain row writer) now
-puts_entry schemas old new table which schema row writer primary entry now there small fits is puts =
-    record {
-      there = there;
-      key = is.key;
-      key_is = is.key_is;
-      column_is = refl;
-      indexed = is.indexed;
-      indexed_is = is.indexed_is;
-      primary = primary;
-      bytes = version_code schema (plain row writer);
-      code_is = code_of schema row primary writer small fits;
-      puts = rw is.spelled at puts;
-    }
+stays_alike column before after version older was is stays = absurd (cc)
 
 so_far_kept : (chains : Chains) (place : Place) (done : ℕ) (next older : List Version) (old new : WorldState) → RowsStay old new
     → HasRowsSoFar chains place done next older old → HasRowsSoFar chains place done next older new
@@ -132,11 +110,8 @@ beside_stay old new stay = record {
 }
 
 -- what hinders the putting of an entry
-untold : (P : List Pair → Type 0) (pairs : Option (List Pair)) → pairs ≡ None → IfSome pairs P
-untold P pairs is = rw is (record {})
-
 put_hinders : (actor : ℕ) (entry : List ℕ) (old new : Index) (why : Move) → Hinders actor old new why → HindersEntry actor entry old new why
-put_hinders actor entry old new moves.End h = untold _ old.pairs h
+put_hinders actor entry old new moves.End h = rw h (record {})
 put_hinders actor entry old new other h = h
 
 some_key : (schema : Schema) (which : ℕ) → which < length schema.keys → (key : Key) × (slice_get schema.keys which ≡ Some key)
@@ -146,20 +121,13 @@ some_step : (phase : PutPhase) → 0 < put_steps phase
 some_step Look = omega arith
 some_step other = omega arith
 
--- its row is one of the table's at the place
-key_of_row : (schema : Schema) (value : Value) (row : List Value) (key : List ℕ) → IsKeyAt schema value key → IsRowFor schema row key
-    → key_of schema row ≡ value
-key_of_row schema value row key at fits = at_primary schema value key _ (plain row 0) at (code_of schema row key 0 (omega arith) fits)
-
 -- an entry of a row is short
 short_entry : (schema : Schema) (which : ℕ) (row : Option (List Value)) (primary entry : List ℕ) → IsStorable schema
     → IfSome row (λ r. IsRowFor schema r primary) → IsEntryFor schema which row primary (Some entry) → length entry ≤ 67
 short_entry schema which None primary entry storable fits is = absurd is
 short_entry schema which (Some row) primary entry storable fits is =
     let within : which < length schema.keys = slice_get_within schema.keys which is.key is.key_is in
-    let all = short_entries schema storable which is.key within in
-    let ShortFor : Key → Type 0 = λ k. (r : List Value) (bytes : List ℕ) → IsEntryOf schema k r bytes → length bytes ≤ 67 in
-    let short : ShortFor is.key = subst ShortFor (get_or_from_slice_get schema.keys which is.key is.key is.key_is) all in
+    let short = rw (get_or_from_slice_get schema.keys which is.key is.key is.key_is) at (short_entries schema storable which is.key within) in
     short row entry (record {
       column = is.indexed;
       there = is.indexed_is;
@@ -182,9 +150,9 @@ module _ (chains : Chains) (old new : WorldState) (change : KeysChange) (p : IsC
   abbrev SaySo : ℕ → List Version → WorldState → Type 0
   SaySo done next state = HasRowsSoFar chains place done next p.older state
 
-  -- of these pairs the keys say so much of the place
-  abbrev SayOf : (ℕ → List Pair) → ℕ → List Version → Type 0
-  SayOf pairs done next = (said : Said) × AreCodedAs old.schemas pairs old.versions.kept_at chains said × SaySoFar chains place done next p.older said
+  -- the keys say so much of the place before the step
+  abbrev SayOf : ℕ → List Version → Type 0
+  SayOf done next = (said : Said) × AreRowsAs chains said old × SaySoFar chains place done next p.older said
 
   few : (which : ℕ) → which < keys → which < 4
   few which within = let most = p.table.storable.few in omega arith
@@ -192,16 +160,14 @@ module _ (chains : Chains) (old new : WorldState) (change : KeysChange) (p : IsC
   -- ---- what keys say
 
   -- a key whose entries stay is done
-  pass_one : (pairs : ℕ → List Pair) (done : ℕ)
-      → ((key : Key) → slice_get p.schema.keys done ≡ Some key → TellAlike key.column p.older (p.pushed.version ∷ p.older))
-      → SayOf pairs done p.older → SayOf pairs (done + 1) p.older
-  pass_one pairs done alike says = (
+  pass_one : (done : ℕ) → ((key : Key) → slice_get p.schema.keys done ≡ Some key → TellAlike key.column p.older (p.pushed.version ∷ p.older))
+      → SayOf done p.older → SayOf (done + 1) p.older
+  pass_one done alike says = (
     says_of says.0 place done (versions_at place chains),
-    said_alike old.schemas pairs old.versions.kept_at chains says.0 (says_of says.0 place done (versions_at place chains)) says.1
+    said_alike _ _ _ _ _ _ says.1
         (λ table which s k s_there k_there value. alike_if (which == done) (is_same_place place (record { table = table; key = value })) k.column
-        (says.0 table which value) (versions_at place chains) (λ at same. here table which s k s_there k_there value at same)),
-    say_more chains place done p.older (says_of says.0 place done (versions_at place chains))
-        (say_here chains place done p.older (versions_at place chains) p.older says.0 says.2),
+        (says.0 table which value) (versions_at place chains) (here table which s k s_there k_there value)),
+    say_more chains place done p.older _ (say_here chains place done p.older (versions_at place chains) p.older says.0 says.2),
   )
     where
       here : (table which : ℕ) (s : Schema) (k : Key) → slice_get old.schemas table ≡ Some s → slice_get s.keys which ≡ Some k → (value : Value)
@@ -212,68 +178,74 @@ module _ (chains : Chains) (old new : WorldState) (change : KeysChange) (p : IsC
           let Alike : Place → Type 0 =
           λ q. slice_get old.schemas q.table ≡ Some s → TellAlike k.column (says.0 q.table which q.key) (versions_at place chains) in
           let at_place : Alike place = λ s_is v.
-          let k_is : slice_get p.schema.keys done ≡ Some k =
-          ap (λ (x : Schema). slice_get x.keys done) (one_found p.schema s p.table.there s_is) ∙ ap (slice_get s.keys) (sym number) ∙ k_there in
-          ap (λ (w : ℕ). entry_of k.column v (says.0 place.table w place.key)) number ∙ ap (entry_of k.column v) says.2.here ∙ alike k k_is v ∙ ap
-          (entry_of k.column v) (sym p.pushed.versions) in
+          let k_is : slice_get p.schema.keys done ≡ Some k = rw (one_found p.schema s p.table.there s_is, ← number) k_there in
+          rw (number, says.2.here) (alike k k_is v ∙ ap (entry_of k.column v) (sym p.pushed.versions)) in
           subst Alike (same_place place (record { table = table; key = value }) same) at_place s_there
 
   -- so many of them
-  pass : (pairs : ℕ → List Pair) (n done : ℕ)
-      → ((which : ℕ) (key : Key) → done ≤ which → which < done + n → slice_get p.schema.keys which ≡ Some key → TellAlike key.column p.older
-      (p.pushed.version ∷ p.older)) → SayOf pairs done p.older → SayOf pairs (done + n) p.older
-  pass pairs zero done alike says = let same : done ≡ done + 0 = omega arith in subst (λ (d : ℕ). SayOf pairs d p.older) same says
-  pass pairs (suc n) done alike says =
-      let one : SayOf pairs (done + 1) p.older = pass_one pairs done (λ key k_is. alike done key (omega arith) (omega arith) k_is) says in
-      let same : done + 1 + n ≡ done + suc n = omega arith in
-      subst (λ (d : ℕ). SayOf pairs d p.older) same
-      (pass pairs n (done + 1) (λ which key from below k_is. alike which key (omega arith) (omega arith) k_is) one)
-
-  -- an entry of a row of the place has changed, so its key says something else
-  entry_here : (pairs : ℕ → List Pair) (done : ℕ) (next now : List Version) (row : List Value) → IsRowFor p.schema row change.key
-      → ((was : Said) → AreCodedAs old.schemas (pairs_of old) old.versions.kept_at chains was → was change.table done (key_of p.schema row) ≡ next
-      → SaysNow was (says_of was place done now) (record { table = change.table; key = key_of p.schema row }) done now
-      → AreCodedAs old.schemas pairs old.versions.kept_at chains (says_of was place done now))
-      → SayOf (pairs_of old) done next → SayOf pairs done now
-  entry_here pairs done next now row fits law says =
-      let key = key_of_row p.schema p.value row change.key p.at fits in (
-        says_of says.0 place done now,
-        law says.0 says.1 (ap (says.0 change.table done) key ∙ says.2.here)
-            (subst (λ (k : Value). SaysNow says.0 (says_of says.0 place done now) (record { table = change.table; key = k }) done now) (sym key)
-            (λ t w v. refl)),
-        say_here chains place done next now p.older says.0 says.2,
-      )
+  pass : (n done to : ℕ) → done + n ≡ to
+      → ((which : ℕ) (key : Key) → done ≤ which → which < to → slice_get p.schema.keys which ≡ Some key → TellAlike key.column p.older
+      (p.pushed.version ∷ p.older)) → SayOf done p.older → SayOf to p.older
+  pass zero done to same alike says = let all : to ≡ done = omega (arith, same) in rw all says
+  pass (suc n) done to same alike says =
+      pass n (done + 1) to (omega (arith, same)) (λ which key from. alike which key (omega arith))
+      (pass_one done (λ key. alike done key (omega arith) (omega (arith, same))) says)
 
   -- the next key says what is there, and is done
   so_far_done : (done : ℕ) (next : List Version) (state : WorldState) → next ≡ versions_at place chains → SaySo done next state
       → SaySo (done + 1) p.older state
   so_far_done done next state is rows told =
       let now = rows told in
-      (now.0, now.1, say_more chains place done p.older now.0 (subst (λ (n : List Version). SaySoFar chains place done n p.older now.0) is now.2))
+      (now.0, now.1, say_more chains place done p.older now.0 (rw is at now.2))
 
-  -- a pair has changed: what it makes of what keys say, where told
-  so_far_put : (done : ℕ) (next now : List Version) (index : ℕ) (key : List ℕ) (value : Option (List ℕ)) (puts : PutsPair index key value old new)
-      → (IsTold new → SayOf (pairs_of old) done next → SayOf (pairs_of new) done now) → SaySo done next old → SaySo done now new
-  so_far_put done next now index key value puts step rows told =
-      let says = step told (rows (put_told index key value old new puts told)) in (
-        says.0,
-        coded_again old.schemas new.schemas (pairs_of new) (pairs_of new) old.versions.kept_at new.versions.kept_at chains says.0
-            (ap (λ (state : WorldState). state.schemas) puts.rest) refl (puts.versions.kept told.versions) says.1,
-        says.2,
+  -- whatever the keys said, this one says something else of the row's place, and the pairs are as it says
+  abbrev MovesOn : ℕ → List Version → List Version → List Value → Type 0
+  MovesOn done next now row =
+      (was : Said) → AreRowsAs chains was old → was change.table done (key_of p.schema row) ≡ next
+      → SaysNow was (says_of was place done now) (record { table = change.table; key = key_of p.schema row }) done now
+      → AreCodedAs old.schemas (pairs_of new) old.versions.kept_at chains (says_of was place done now)
+
+  -- an entry of a row of the place has changed, so its key says something else, where told
+  entry_put : (done : ℕ) (next now : List Version) (row : List Value) (entry : List ℕ) (value : Option (List ℕ))
+      → PutsPair (key_index change.table done) entry value old new → IsRowFor p.schema row change.key
+      → (IsTold new → MovesOn done next now row) → SaySo done next old → SaySo done now new
+  entry_put done next now row entry value puts fits law rows told =
+      let says = rows (put_told (key_index change.table done) entry value old new puts told) in
+      let home = at_primary p.schema p.value change.key _ (plain row 0) p.at (code_of p.schema row change.key 0 (omega arith) fits) in (
+        says_of says.0 place done now,
+        coded_again _ _ _ _ _ _ _ _ (ap (λ (state : WorldState). state.schemas) puts.rest) refl (puts.versions.kept told.versions)
+            (law told says.0 says.1 (ap (says.0 change.table done) home ∙ says.2.here) (rw home (λ t w v. refl))),
+        say_here chains place done next now p.older says.0 says.2,
       )
+
+  -- the entry of a row of the place has been put
+  puts_entry : (which : ℕ) (row : List Value) (writer : ℕ) (entry : List ℕ) (now : Option (List ℕ)) → writer < 2 ^ 64 → IsRowFor p.schema row change.key
+      → (is : IsEntryIn p.schema which row change.key entry) → PutsPair (key_index change.table which) entry now old new → IsTold new
+      → PutsStored old.schemas (pairs_of old) (pairs_of new) change.table p.schema which is.key.column (plain row writer) now
+  puts_entry which row writer entry now small fits is puts told =
+      record {
+        there = p.table.there;
+        key = is.key;
+        key_is = is.key_is;
+        column_is = refl;
+        indexed = is.indexed;
+        indexed_is = is.indexed_is;
+        primary = change.key;
+        bytes = version_code p.schema (plain row writer);
+        code_is = code_of p.schema row change.key writer small fits;
+        puts = rw is.spelled at (put_pairs (key_index change.table which) entry now old new puts told);
+      }
 
   -- the keys from this one up to the other are passed over
   rows_passed : (to : ℕ) → change.put ≡ None → change.which ≤ to → StayBetween p.schema change.which to change.before change.after → SaySo to p.older old
   rows_passed to none from stay told =
-      let same : change.which + (to - change.which) ≡ to = omega arith in
-      let waiting : SaySo change.which p.older old =
-      subst (λ (put : Option EntryPut). SaySo change.which (said_next put change.before p.older) old) none p.rows in
-      subst (λ (d : ℕ). SayOf (pairs_of old) d p.older) same (pass (pairs_of old) (to - change.which) change.which
+      let waiting : SaySo change.which p.older old = rw none at p.rows in
+      pass (to - change.which) change.which to (omega arith)
       (λ which key from' below is. stays_alike key.column change.before change.after p.pushed.version p.older (p.was told) p.pushed.is
-      (stay which key from' (subst (λ (d : ℕ). which < d) same below) is)) (waiting told))
+      (stay which key from' below is)) (waiting told)
 
   -- all keys say what is there
-  over : change.put ≡ None → StayBetween p.schema change.which keys change.before change.after → HasRows chains old
+  pub over : change.put ≡ None → StayBetween p.schema change.which keys change.before change.after → HasRows chains old
   over none stay told =
       let says = rows_passed keys none p.within stay told in
       change_over old.schemas (pairs_of old) old.versions.kept_at chains place says.0 says.1 says.2.lag
@@ -295,9 +267,7 @@ module _ (chains : Chains) (old new : WorldState) (change : KeysChange) (p : IsC
         before_is = refl;
         after_is = refl;
         holds = changing_next chains old new change which put p (ap (λ (state : WorldState). state.schemas) stays.rest) stays.told within entering rows;
-        nears =
-            λ schema there. subst (λ (s : Schema). keys_steps (length s.keys - which) put < keys_steps (length s.keys - change.which) change.put)
-            (one_found p.schema schema p.table.there there) nears;
+        nears = λ schema there. rw (one_found schema p.schema there p.table.there) nears;
       }
 
   changing_kept : RowsStay old new → IfSome change.put (IsEntering p.schema change.table change.which change.after change.key new)
@@ -307,11 +277,11 @@ module _ (chains : Chains) (old new : WorldState) (change : KeysChange) (p : IsC
       entering (so_far_kept chains place change.which (said_next change.put change.before p.older) p.older old new stay p.rows)
 
   -- an entry has changed, and the index of a key holds no records
-  beside_put : (index which : ℕ) (key : List ℕ) (value : Option (List ℕ)) → which < keys → index ≡ key_index change.table which
-      → PutsPair index key value old new → StaysBesideKeys old new
-  beside_put index which key value within is puts = record {
-    told = put_told index key value old new puts;
-    records = λ table. puts.elsewhere (clustered_index table) (λ same. no_key table change.table which (few which within) (sym (same ∙ is)));
+  beside_put : (which : ℕ) (key : List ℕ) (value : Option (List ℕ)) → which < keys → PutsPair (key_index change.table which) key value old new
+      → StaysBesideKeys old new
+  beside_put which key value within puts = record {
+    told = put_told (key_index change.table which) key value old new puts;
+    records = λ table. puts.elsewhere (clustered_index table) (λ same. no_key table change.table which (few which within) (sym same));
     places = puts.places;
     versions = puts.versions;
     rest = puts.rest;
@@ -327,33 +297,33 @@ module _ (chains : Chains) (old new : WorldState) (change : KeysChange) (p : IsC
     refl,
     stay,
     changing_kept stay (rw none (record {})),
-    record { which = which; from = from; entry = entry; cause = subst (λ (i : ℕ). HindersEntry actor entry (old.indexes i) (new.indexes i) why) is because },
+    record { which = which; from = from; entry = entry; cause = rw is at because },
   )
 
   waiting_steps : change.put ≡ None → keys_steps (keys - change.which) change.put ≡ 4 * (keys - change.which)
   waiting_steps none = ap (keys_steps (keys - change.which)) none
 
   -- the new row's entry is put next
-  put_next : (index : ℕ) (entries : KeyEntries) (entry : List ℕ) → change.put ≡ None → index ≡ key_index change.table entries.which
-      → AreEntries p.schema change.which change.before change.after change.key entries
+  put_next : (entries : KeyEntries) (entry : List ℕ) → change.put ≡ None → AreEntries p.schema change.which change.before change.after change.key entries
       → IsEntryFor p.schema entries.which change.after change.key (Some entry) → StaysBesideKeys old new
-      → SaySo entries.which (without_row change.before p.older) new → GoesOnWithKeys chains old new change (keys_next change index entries.which (Some entry))
-  put_next index entries entry none is all new_entry stays rows =
+      → SaySo entries.which (without_row change.before p.older) new → GoesOnWithKeys chains old new change
+      (keys_next change (key_index change.table entries.which) entries.which (Some entry))
+  put_next entries entry none all new_entry stays rows =
       let within = all.within in
       let from = all.first.from_there in
       let waits = waiting_steps none in
-      let number : IsIndex new.schemas index =
+      let number : IsIndex new.schemas (key_index change.table entries.which) =
       record {
         table = change.table;
         which = 1 + entries.which;
-        number = is;
+        number = refl;
         schema = p.schema;
-        there = ap (λ (state : WorldState). slice_get state.schemas change.table) stays.rest ∙ p.table.there;
+        there = rw stays.rest p.table.there;
         key = omega (arith, within);
         few = (let f = few entries.which within in omega arith);
       } in
-      goes_on entries.which (Some (record { index = index; entry = entry; phase = Look })) stays (omega (arith, within)) (record {
-        index_is = is;
+      goes_on entries.which (Some (record { index = key_index change.table entries.which; entry = entry; phase = Look })) stays (omega (arith, within)) (record {
+        index_is = refl;
         entry_is = new_entry;
         within = within;
         putting =
@@ -365,38 +335,29 @@ module _ (chains : Chains) (old new : WorldState) (change : KeysChange) (p : IsC
       }) rows (omega (arith, waits, within, from))
 
   -- nothing else is left to do in a key where no row is any more
-  pub marked_on : (index : ℕ) (entries : KeyEntries) (entry : List ℕ) → change.put ≡ None → index ≡ key_index change.table entries.which
-      → AreEntries p.schema change.which change.before change.after change.key entries → entries.old ≡ Some entry → PutsPair index entry (Some marked) old new
-      → GoesOnWithKeys chains old new change (keys_next change index entries.which entries.new)
-  marked_on index entries entry none is all old_is puts =
-      go change.before change.after entries.new refl refl
-      (subst (λ (e : Option (List ℕ)). IsEntryFor p.schema entries.which change.before change.key e) old_is all.old_is) all.new_is
+  pub marked_on : (entries : KeyEntries) (entry : List ℕ) → change.put ≡ None
+      → AreEntries p.schema change.which change.before change.after change.key entries → entries.old ≡ Some entry
+      → PutsPair (key_index change.table entries.which) entry (Some marked) old new
+      → GoesOnWithKeys chains old new change (keys_next change (key_index change.table entries.which) entries.which entries.new)
+  marked_on entries entry none all old_is puts =
+      go change.before change.after entries.new refl refl (rw old_is at all.old_is) all.new_is
     where
-      here : PutsPair (key_index change.table entries.which) entry (Some marked) old new
-      here = subst (λ (i : ℕ). PutsPair i entry (Some marked) old new) is puts
-
       stays : StaysBesideKeys old new
-      stays = beside_put index entries.which entry (Some marked) all.within is puts
+      stays = beside_put entries.which entry (Some marked) all.within puts
 
       -- once the old row's entry is marked
       gone_now : (row : List Value) → change.before ≡ Some row → IsEntryIn p.schema entries.which row change.key entry → (version : Version)
           → version.row ≡ None → SaySo entries.which (version ∷ p.older) new
       gone_now row was e version no_row =
-          let fits : IsRowFor p.schema row change.key = subst (λ (o : Option (List Value)). IfSome o (λ r. IsRowFor p.schema r change.key)) was p.before in
-          so_far_put entries.which p.older (version ∷ p.older) (key_index change.table entries.which) entry (Some marked) here
-          (λ told. entry_here (pairs_of new) entries.which p.older (version ∷ p.older) row fits
-          (λ said are said_is now. old_marked old.schemas (pairs_of old) (pairs_of new) old.versions.kept_at chains said
-          (says_of said place entries.which (version ∷ p.older)) change.table p.schema entries.which e.key.column (plain row 0) are version p.older
-          (puts_entry old.schemas (pairs_of old) (pairs_of new) change.table entries.which p.schema row 0 change.key entry (Some marked) p.table.there
-          (omega arith) fits e (put_pairs (key_index change.table entries.which) entry (Some marked) old new here told))
-          said_is (p.was (stays.told told) ∙ was) no_row now)) (rows_passed entries.which none all.first.from_there all.first.stay)
+          let fits : IsRowFor p.schema row change.key = rw was at p.before in
+          entry_put entries.which p.older (version ∷ p.older) row entry (Some marked) puts fits
+          (λ told said are said_is now. old_marked _ _ _ _ _ said _ _ _ _ _ (plain row 0) are version p.older
+          (puts_entry entries.which row 0 entry (Some marked) (omega arith) fits e puts told)
+          said_is (p.was (stays.told told) ∙ was) no_row now) (rows_passed entries.which none all.first.from_there all.first.stay)
 
       go : (before after : Option (List Value)) (next : Option (List ℕ)) → change.before ≡ before → change.after ≡ after
           → IsEntryFor p.schema entries.which before change.key (Some entry) → IsEntryFor p.schema entries.which after change.key next
-          → GoesOnWithKeys chains old new change (keys_next change index entries.which next)
-      go None after next was now e new_e = absurd e
-      go (Some row) None (Some later) was now e new_e = absurd new_e
-      go (Some row) (Some later) None was now e new_e = absurd new_e
+          → GoesOnWithKeys chains old new change (keys_next change (key_index change.table entries.which) entries.which next)
       go (Some row) None None was now e new_e =
           let within = all.within in
           let from = all.first.from_there in
@@ -405,41 +366,36 @@ module _ (chains : Chains) (old new : WorldState) (change : KeysChange) (p : IsC
           (so_far_done entries.which (p.pushed.version ∷ p.older) new (sym p.pushed.versions) (gone_now row was e p.pushed.version (p.pushed.is ∙ now)))
           (omega (arith, waits, within, from))
       go (Some row) (Some later) (Some bytes) was now e new_e =
-          put_next index entries bytes none is all (rw now new_e) stays
-          (subst (λ (o : Option (List Value)). SaySo entries.which (without_row o p.older) new) (sym was) (gone_now row was e gone refl))
+          put_next entries bytes none all (rw now new_e) stays (rw was (gone_now row was e gone refl))
+      go before after next was now e new_e = absurd (search rules)
 
   -- there is no old entry
-  pub nothing_marked : (index : ℕ) (entries : KeyEntries) → change.put ≡ None → index ≡ key_index change.table entries.which
+  pub nothing_marked : (entries : KeyEntries) → change.put ≡ None
       → AreEntries p.schema change.which change.before change.after change.key entries → entries.old ≡ None → RowsStay old new
-      → GoesOnWithKeys chains old new change (keys_next change index entries.which entries.new)
-  nothing_marked index entries none is all old_is stay =
-      go change.before change.after entries.new refl refl
-      (subst (λ (e : Option (List ℕ)). IsEntryFor p.schema entries.which change.before change.key e) old_is all.old_is) all.new_is
+      → GoesOnWithKeys chains old new change (keys_next change (key_index change.table entries.which) entries.which entries.new)
+  nothing_marked entries none all old_is stay =
+      go change.before change.after entries.new refl refl (rw old_is at all.old_is) all.new_is
     where
       go : (before after : Option (List Value)) (next : Option (List ℕ)) → change.before ≡ before → change.after ≡ after
           → IsEntryFor p.schema entries.which before change.key None → IsEntryFor p.schema entries.which after change.key next
-          → GoesOnWithKeys chains old new change (keys_next change index entries.which next)
-      go (Some row) after next was now e new_e = absurd e
-      go None None (Some later) was now e new_e = absurd new_e
-      go None (Some later) None was now e new_e = absurd new_e
+          → GoesOnWithKeys chains old new change (keys_next change (key_index change.table entries.which) entries.which next)
       go None None None was now e new_e =
           let key = some_key p.schema entries.which all.within in
-          let differs : value_stays key.0.column None None ≡ false =
-          ap (λ o. value_stays key.0.column None o) (sym now) ∙ ap (λ o. value_stays key.0.column o change.after) (sym was) ∙ all.first.changes key.0 key.1 in
+          let differs : value_stays key.0.column None None ≡ false = rw (was, now) at (all.first.changes key.0 key.1) in
           absurd (cc)
       go None (Some later) (Some bytes) was now e new_e =
-          put_next index entries bytes none is all (rw now new_e) (beside_stay old new stay)
-          (subst (λ (o : Option (List Value)). SaySo entries.which (without_row o p.older) new) (sym was)
-          (so_far_kept chains place entries.which p.older p.older old new stay (rows_passed entries.which none all.first.from_there all.first.stay)))
+          put_next entries bytes none all (rw now new_e) (beside_stay old new stay)
+          (rw was (so_far_kept chains place entries.which p.older p.older old new stay (rows_passed entries.which none all.first.from_there all.first.stay)))
+      go before after next was now e new_e = absurd (search rules)
 
   -- ---- the new entry
 
   module _ (put : EntryPut) (put_is : change.put ≡ Some put) where
     entering : IsEntering p.schema change.table change.which change.after change.key old put
-    entering = subst (λ (o : Option EntryPut). IfSome o (IsEntering p.schema change.table change.which change.after change.key old)) put_is p.put
+    entering = rw put_is at p.put
 
     waiting : SaySo change.which (without_row change.before p.older) old
-    waiting = subst (λ (o : Option EntryPut). SaySo change.which (said_next o change.before p.older) old) put_is p.rows
+    waiting = rw put_is at p.rows
 
     steps : keys_steps (keys - change.which) change.put ≡ 4 * ((keys - change.which) - 1) + put_steps put.phase
     steps = ap (keys_steps (keys - change.which)) put_is
@@ -459,77 +415,47 @@ module _ (chains : Chains) (old new : WorldState) (change : KeysChange) (p : IsC
         (omega (arith, steps, within, some_step put.phase))
       where
         here : PutsPair (key_index change.table change.which) put.entry (Some unmarked) old new
-        here = subst (λ (i : ℕ). PutsPair i put.entry (Some unmarked) old new) entering.index_is puts
+        here = rw entering.index_is at puts
 
         stays : StaysBesideKeys old new
-        stays = beside_put put.index change.which put.entry (Some unmarked) entering.within entering.index_is puts
+        stays = beside_put change.which put.entry (Some unmarked) entering.within here
+
+        coded : List Value → Coded
+        coded row = plain row p.pushed.version.writer
+
+        now_said : List Value → List Version
+        now_said row = shown (coded row) ∷ p.older
 
         rows : (before after : Option (List Value)) → change.before ≡ before → change.after ≡ after
             → IsEntryFor p.schema change.which after change.key (Some put.entry) → SaySo (change.which + 1) p.older new
         rows before None was now entry = absurd entry
         rows before (Some row) was now entry =
-            so_far_done change.which now_said new (ap (λ (v : Version). v ∷ p.older) shown_is ∙ sym p.pushed.versions)
-            (so_far_put change.which (without_row before p.older) now_said (key_index change.table change.which) put.entry (Some unmarked) here
-            (λ told. entry_here (pairs_of new) change.which (without_row before p.older) now_said row fits (step before was told))
-            (subst (λ (o : Option (List Value)). SaySo change.which (without_row o p.older) old) was waiting))
+            let fits : IsRowFor p.schema row change.key = rw now at p.after in
+            let shown_is : shown (coded row) ≡ p.pushed.version =
+            ap (λ r. let v : Version = record { writer = p.pushed.version.writer; row = r } in v) (sym (p.pushed.is ∙ now)) in
+            so_far_done change.which (now_said row) new (ap (λ (v : Version). v ∷ p.older) shown_is ∙ sym p.pushed.versions)
+            (entry_put change.which (without_row before p.older) (now_said row) row put.entry (Some unmarked) here fits
+            (λ told. step before was told (puts_entry change.which row p.pushed.version.writer put.entry (Some unmarked) p.pushed.small fits entry here told))
+            (rw was at waiting))
           where
-            coded : Coded
-            coded = plain row p.pushed.version.writer
-
-            now_said : List Version
-            now_said = shown coded ∷ p.older
-
-            shown_is : shown coded ≡ p.pushed.version
-            shown_is = ap (λ (r : Option (List Value)). let v : Version = record { writer = p.pushed.version.writer; row = r } in v) (sym (p.pushed.is ∙ now))
-
-            fits : IsRowFor p.schema row change.key
-            fits = subst (λ (o : Option (List Value)). IfSome o (λ r. IsRowFor p.schema r change.key)) now p.after
-
-            changed : IsTold new
-                → PutsStored old.schemas (pairs_of old) (pairs_of new) change.table p.schema change.which entry.key.column coded (Some unmarked)
-            changed told =
-                puts_entry old.schemas (pairs_of old) (pairs_of new) change.table change.which p.schema row p.pushed.version.writer change.key put.entry
-                (Some unmarked) p.table.there p.pushed.small fits entry
-                (put_pairs (key_index change.table change.which) put.entry (Some unmarked) old new here told)
-
-            step : (was_row : Option (List Value)) → change.before ≡ was_row → IsTold new → (said : Said)
-                → AreCodedAs old.schemas (pairs_of old) old.versions.kept_at chains said
-                → said change.table change.which (key_of p.schema row) ≡ without_row was_row p.older
-                → SaysNow said (says_of said place change.which now_said) (record { table = change.table; key = key_of p.schema row }) change.which now_said
-                → AreCodedAs old.schemas (pairs_of new) old.versions.kept_at chains (says_of said place change.which now_said)
-            step None none told said are said_is =
-                first_put old.schemas (pairs_of old) (pairs_of new) old.versions.kept_at chains said (says_of said place change.which now_said) change.table
-                p.schema change.which entry.key.column coded are p.older (changed told) refl said_is (p.was (stays.told told) ∙ none)
-            step (Some was_row) some told said are said_is =
-                new_put old.schemas (pairs_of old) (pairs_of new) old.versions.kept_at chains said (says_of said place change.which now_said) change.table
-                p.schema change.which entry.key.column coded are gone p.older (changed told) refl said_is refl
+            step : (was_row : Option (List Value)) → change.before ≡ was_row → IsTold new
+                → PutsStored old.schemas (pairs_of old) (pairs_of new) change.table p.schema change.which entry.key.column (coded row) (Some unmarked)
+                → MovesOn change.which (without_row was_row p.older) (now_said row) row
+            step None none told changed said are said_is =
+                first_put _ _ _ _ _ said _ _ _ _ _ (coded row) are p.older changed refl said_is (p.was (stays.told told) ∙ none)
+            step (Some was_row) some told changed said are said_is =
+                new_put _ _ _ _ _ said _ _ _ _ _ (coded row) are gone p.older changed refl said_is refl
 
     pub put_waits : (actor : ℕ) (same : EntryPut) (why : Move) → PutsEntry actor old new put (Hindered same why)
         → ChangesKeys actor chains old new change (Hindered (record change { put = Some same }) why)
     put_waits actor same why h = (
       ap (λ (o : Option EntryPut). let c : KeysChange = record change { put = o } in c) (ap Some h.0 ∙ sym put_is),
       h.1,
-      changing_kept h.1
-          (rw put_is (record { index_is = entering.index_is; entry_is = entering.entry_is; within = entering.within; putting = h.2 })),
+      changing_kept h.1 (rw put_is (record { index_is = entering.index_is; entry_is = entering.entry_is; within = entering.within; putting = h.2 })),
       record {
         which = change.which;
         from = omega arith;
         entry = put.entry;
-        cause =
-            put_hinders actor put.entry (old.indexes (key_index change.table change.which)) (new.indexes (key_index change.table change.which)) why
-            (subst (λ (i : ℕ). Hinders actor (old.indexes i) (new.indexes i) why) entering.index_is h.3);
+        cause = put_hinders actor put.entry _ _ why (rw entering.index_is at h.3);
       },
     )
-
--- ---- the end
-
-pub all_passed : (actor : ℕ) (chains : Chains) (state : WorldState) (change : KeysChange) (p : IsChangingKeys chains state change) → change.put ≡ None
-    → StayBetween p.schema change.which (length p.schema.keys) change.before change.after → ChangesKeys actor chains state state change Done
-all_passed actor chains state change p none stay = (same_rows state, over chains state state change p none stay)
-
--- ---- what was looked up
-
-pub for_its_schema : (result : Result (Option KeyEntries) NoMemory) (P : Schema → Option KeyEntries → Type 0) (found : Option Schema) (schema : Schema)
-    → found ≡ Some schema → IfOk result (P schema) → IfOk result (λ r. (s : Schema) → found ≡ Some s → P s r)
-for_its_schema (Ok r) P found schema is holds = λ s also. subst (λ (x : Schema). P x r) (one_found schema s is also) holds
-for_its_schema (Err e) P found schema is holds = record {}

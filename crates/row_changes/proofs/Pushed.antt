@@ -1,5 +1,5 @@
 -- A version that was recorded is the newest of its place, and the keys come next: the whole change of a row.
-use Rattle.std.proofs.Common.{◌≡◌, ◌≢◌, ◌∙◌, sym, ap, subst, refl, ℕ, ◌-◌, ◌^◌, ◌<◌, ◌==◌, Bool, true, false, cond, List, [], Option, None, Some, slice_get}
+use Rattle.std.proofs.Common.{◌≡◌, ◌≢◌, ◌∙◌, sym, ap, subst, refl, ℕ, ◌-◌, ◌^◌, ◌<◌, ◌==◌, Bool, true, false, List, [], Option, None, Some, slice_get}
 use Rattle.std.proofs.Common.{arith, ⊎_elim, inl, inr, ◌⊎◌}
 use Rattle.std.specs.Prelude.{IfSome, IsTrue, is_some}
 use Rattle.inno_types.specs.{declared.value.Value.Value, declared.value.Schema.Schema}
@@ -8,7 +8,7 @@ use Rattle.store_api.specs.{declared.answers.Undo.Undo, declared.moves.Move.Move
 use Rattle.store_api.specs.declared.answers.Version.{Version as Coded}
 use Rattle.entries.specs.Pairs.{Pair, value_of}
 use Rattle.row_versions.specs.{declared.kept.Kept.Kept, declared.version.Version.Version, Chains.Chains, Chains.Pushes, Chains.versions_at, Chains.newest}
-use Rattle.row_versions.specs.Versions.{Versions, Stays}
+use Rattle.row_versions.specs.Versions.{Versions}
 use Rattle.row_codec.specs.Rows.{version_code}
 use Rattle.law_stored_rows.specs.{Edits.clustered_index, Edits.Puts, Records.IsCodeOf, Records.shown, Records.row_shown, Records.KeepsMore}
 use Rattle.law_stored_rows.specs.Tables.{AreCodedAs, AreCoded, what_is_there, place_in}
@@ -20,13 +20,13 @@ use Rattle.row_changes.specs.{declared.reached.Reached.TheVariants.Went, declare
 use Rattle.row_changes.specs.{declared.reached.Reached.TheVariants.Hindered, declared.reached.Reached.Reached, declared.row_change.RowChange.TheVariants.Keys}
 use Rattle.row_changes.specs.{declared.record_change.RecordStage.RecordStage, Records.IsChangingRecord, declared.row_change.RowChange.TheVariants.Record}
 use Rattle.row_changes.specs.{declared.record_change.RecordChange.RecordChange, declared.record_change.RecordStage.TheVariants.Enter, Records.undo_of_former}
-use Rattle.row_changes.specs.{Keys.IsChangingKeys, Records.undo_of_new, Records.id_for, Records.GoesOnWithRecord, Records.ChangesRecord, Records.record_steps}
+use Rattle.row_changes.specs.{Keys.IsChangingKeys, Records.id_for, Records.GoesOnWithRecord, Records.ChangesRecord, Records.record_steps}
 use Rattle.row_changes.specs.Edits.{version_by, IsRowFor, IsKeyAt, FitsEdit, IsPut}
 use Rattle.row_changes.specs.Rows.{primary_of, PushesEdit, IsChangingRow, row_after, place_of, ChangesRow}
-use Rattle.std.proofs.lemmas.Bool.{cases_eq}
+use Rattle.std.proofs.lemmas.Bool.{cases_eq, cond_both}
 use Rattle.world.specs.{State.WorldState, State.Session, State.Work, State.HasWork, Indexes.KeepsVersion, Told.pairs_of, Told.IsTold}
 use Rattle.row_changes.proofs.{Sessions.one_found, Sessions.one_session, Ids.one_work}
-use Rattle.row_changes.proofs.Telling.{HasPut, told_if, rows_if, coded_again, pairs_told, puts_pairs, tells}
+use Rattle.row_changes.proofs.Telling.{HasPut, told_if, rows_if, pairs_told, puts_pairs, tells}
 use Rattle.row_changes.specs.declared.record_change.RecordReached.TheVariants as records
 
 -- ---- the version and its place
@@ -95,11 +95,7 @@ after_fits schema (Put row) key fits = fits
 after_fits schema (Remove value) key fits = record {}
 
 pub small_id : (own next : ℕ) → own < 2 ^ 64 → next < 2 ^ 64 - 1 → id_for own next < 2 ^ 64
-small_id own next small few = go (own == 0)
-  where
-    go : (b : Bool) → cond b next own < 2 ^ 64
-    go true = omega arith
-    go false = small
+small_id own next small few = cond_both (own == 0) next own (λ n. n < 2 ^ 64) (λ new. omega arith) (λ own_one. small)
 
 -- ---- the rows
 
@@ -110,9 +106,7 @@ module _ (schemas : List Schema) (old new : ℕ → List Pair) (before after : C
       → Pushes before after (place_in table schema (version_by edit former writer pointer).row) (shown (version_by edit former writer pointer))
   pushes_version former pointer bytes code =
       let home = at_primary schema (primary_of schema edit) key bytes (version_by edit former writer pointer) (key_at schema edit key fits) code in
-      let Pushed : Value → Version → Type 0 = λ k v. Pushes before after (record { table = table; key = k }) v in
-      subst (λ (v : Version). Pushed (key_of schema (version_by edit former writer pointer).row) v) (sym (version_shown edit former writer pointer))
-      (subst (λ (k : Value). Pushed k (record { writer = writer; row = row_after edit })) (sym home) pushes)
+      rw (version_shown edit former writer pointer, home) pushes
 
   pub first_rows : (kept : ℕ → Option Kept) → IsPut edit → value_of key (old (clustered_index table)) ≡ None
       → Puts old new (clustered_index table) key (Some (version_code schema (version_by edit [] writer 0))) → AreCoded schemas old kept before
@@ -165,14 +159,13 @@ kept_more schemas pointer undo old new k told other found is =
 module _ {s : ℕ} {old new : WorldState} {change : RecordChange} {former : Coded} (p : IsChangingRecord s old change)
     (o : PutsOver s old new change p.schema former) where
   pub kept_over : KeepsVersion old.schemas o.session.next_pointer (undo_of_former change.table change.key o.bytes) old.versions new.versions
-  kept_over =
-      subst (λ (x : Session). KeepsVersion old.schemas x.next_pointer (undo_of_former change.table change.key o.bytes) old.versions new.versions)
-      (one_session old s o.records.work.session o.session o.records.work.had.session_is o.had.session_is) o.records.work.versions
+  kept_over = rw (one_session old s o.records.work.session o.session o.records.work.had.session_is o.had.session_is) at o.records.work.versions
 
   pub kept_code : IsCodeOf p.schema change.key o.bytes kept_over.version
   kept_code =
-      subst (λ (x : Schema). IsCodeOf x change.key o.bytes kept_over.version) (one_found kept_over.kept.schema p.schema kept_over.kept.there p.table.there)
-      (record { record_is = kept_over.kept.record_is; numbers = kept_over.kept.small })
+      let code : IsCodeOf kept_over.kept.schema change.key o.bytes kept_over.version =
+      record { record_is = kept_over.kept.record_is; numbers = kept_over.kept.small } in
+      rw (one_found kept_over.kept.schema p.schema kept_over.kept.there p.table.there) at code
 
 module _ (s : ℕ) (chains pushed : Chains) (old new : WorldState) (change : RecordChange) (p : IsChangingRecord s old change) (rows : HasRows chains old)
     (push : PushesEdit s change old chains pushed) where
@@ -195,11 +188,7 @@ module _ (s : ℕ) (chains pushed : Chains) (old new : WorldState) (change : Rec
 
   pushes : Pushes chains pushed (place_of p.schema change) pushed_version
   pushes =
-      let schema = one_found push.schema p.schema push.there p.table.there in
-      let work = one_work s push.session p.session push.work p.work old push.has_work p.has_work in
-      subst (λ (w : Work). Pushes chains pushed (place_of p.schema change) (record { writer = id_for w.id old.txns.next; row = row_after change.edit })) work
-      (subst (λ (x : Schema). Pushes chains pushed (place_of x change) (record { writer = id_for push.work.id old.txns.next; row = row_after change.edit }))
-      schema push.pushes)
+      rw (one_found p.schema push.schema p.table.there push.there, one_work s p.session push.session p.work push.work old p.has_work push.has_work) push.pushes
 
   small : writer < 2 ^ 64
   small = small_id p.work.id old.txns.next p.small p.listed.few
@@ -208,13 +197,15 @@ module _ (s : ℕ) (chains pushed : Chains) (old new : WorldState) (change : Rec
   at = key_at p.schema change.edit change.key p.fits
 
   -- the keys come next
-  keys_next : (before : Option (List Value)) → new.schemas ≡ old.schemas → IfSome before (λ row. IsRowFor p.schema row change.key)
-      → (IsTold new → newest (versions_at (place_of p.schema change) chains) ≡ before)
-      → (IsTold new → AreCodedAs new.schemas (pairs_of new) new.versions.kept_at pushed (what_is_there chains)) → IsChangingKeys pushed new (taken before)
-  keys_next before same fits was coded =
+  keys_next : (before : Option (List Value)) (former : List Value) (pointer : ℕ) (undo : Undo) {session : Session} {work : Work} → HasWork s session work old
+      → RecordsEdit s change p.schema former (id_for work.id old.txns.next) pointer undo old new → (IsTrue new.versions.told → IsTrue old.versions.told)
+      → IfSome before (λ row. IsRowFor p.schema row change.key) → (IsTold old → newest (versions_at (place_of p.schema change) chains) ≡ before)
+      → (IsTrue new.versions.told → IsTold old → Puts (pairs_of old) (pairs_of new) index change.key (Some (written former pointer))
+      → AreCodedAs old.schemas (pairs_of new) new.versions.kept_at pushed (what_is_there chains)) → IsChangingKeys pushed new (taken before)
+  keys_next before former pointer undo {session} {work} had records tells_on fits was coded =
       record {
         schema = p.schema;
-        table = table_kept change.table p.schema old new same p.table;
+        table = table_kept change.table p.schema old new (ap (λ (state : WorldState). state.schemas) records.rest) p.table;
         value = primary_of p.schema change.edit;
         at = at;
         before = fits;
@@ -229,10 +220,10 @@ module _ (s : ℕ) (chains pushed : Chains) (old new : WorldState) (change : Rec
               is = refl;
               small = small;
             };
-        was = was;
+        was = λ told. was (was_told told);
         rows = λ told. (
           what_is_there chains,
-          coded told,
+          rw records.rest (coded told.versions (was_told told) (puts_pairs index change.key (Some (written former pointer)) old new stands told)),
           record {
             lag = lag_stays chains pushed (place_of p.schema change) (what_is_there chains)
                 (pushed_elsewhere chains pushed (place_of p.schema change) pushed_version pushes) (λ t w v apart. refl);
@@ -242,75 +233,39 @@ module _ (s : ℕ) (chains pushed : Chains) (old new : WorldState) (change : Rec
           },
         );
       }
+    where
+      stands : HasPut index change.key (Some (written former pointer)) old new
+      stands = rw (one_work s p.session session p.work work old p.has_work had) (records.here, records.elsewhere)
 
-  -- the record has been written
-  puts : (former : List Value) (pointer : ℕ) (undo : Undo) (session : Session) (work : Work) → HasWork s session work old
-      → RecordsEdit s change p.schema former (id_for work.id old.txns.next) pointer undo old new
-      → HasPut index change.key (Some (written former pointer)) old new
-  puts former pointer undo session work had records =
-      subst (λ (w : Work). HasPut index change.key (Some (version_code p.schema (version_by change.edit former (id_for w.id old.txns.next) pointer))) old new)
-      (one_work s session p.session work p.work old had p.has_work) (records.here, records.elsewhere)
+      was_told : IsTold new → IsTold old
+      was_told told = record { pairs = pairs_told index change.key (Some (written former pointer)) old new stands told; versions = tells_on told.versions }
 
   first_keys : (f : PutsFirst s old new change p.schema) → IsChangingKeys pushed new (taken None)
   first_keys f =
-      keys_next None same (record {})
-      (λ told. ap newest (absent old.schemas (pairs_of old) old.versions.kept_at chains change.table p.schema at.column (primary_of p.schema change.edit)
-      (rows (was_told told)).clustered p.table.there at.primary
-      (λ has. subst (λ (k : List ℕ). value_of k (pairs_of old index) ≡ None) at.spelled (nothing told))))
-      (λ told. coded_again old.schemas new.schemas (pairs_of new) (pairs_of new) old.versions.kept_at new.versions.kept_at pushed (what_is_there chains) same
-      refl (kept.kept told.versions)
-      (first_rows old.schemas (pairs_of old) (pairs_of new) chains pushed change.table p.schema change.edit change.key p.table.there p.fits writer small pushes
-      old.versions.kept_at f.is_put (nothing told) (puts_pairs index change.key (Some (written [] 0)) old new stands told) (rows (was_told told))))
+      keys_next None [] 0 _ f.had f.records f.records.work.versions.told (record {})
+      (λ told. ap newest (absent _ _ _ _ change.table p.schema at.column (primary_of p.schema change.edit) (rows told).clustered p.table.there at.primary
+      (λ has. rw (← at.spelled) (nothing told))))
+      (λ now told puts. rw (f.records.work.versions.kept now)
+      (first_rows _ _ _ _ _ change.table p.schema change.edit change.key p.table.there p.fits writer small pushes _ f.is_put (nothing told) puts (rows told)))
     where
-      stands : HasPut index change.key (Some (written [] 0)) old new
-      stands = puts [] 0 (undo_of_new change.table change.key) f.session f.work f.had f.records
-
-      same : new.schemas ≡ old.schemas
-      same = ap (λ (state : WorldState). state.schemas) f.records.rest
-
-      kept : Stays old.versions new.versions
-      kept = f.records.work.versions
-
-      was_told : IsTold new → IsTold old
-      was_told told = record { pairs = pairs_told index change.key (Some (written [] 0)) old new stands told; versions = kept.told told.versions }
-
-      nothing : IsTold new → value_of change.key (pairs_of old index) ≡ None
-      nothing told =
-          none_of (value_of change.key (pairs_of old index))
-          (tells (λ pairs. is_some (value_of change.key pairs) ≡ false) (old.indexes index).pairs f.absent ((was_told told).pairs index))
+      nothing : IsTold old → value_of change.key (pairs_of old index) ≡ None
+      nothing told = none_of _ (tells (λ pairs. is_some (value_of change.key pairs) ≡ false) (old.indexes index).pairs f.absent (told.pairs index))
 
   next_keys : (former : Coded) (o : PutsOver s old new change p.schema former) → IsChangingKeys pushed new (taken (row_shown former.marked former.row))
   next_keys former o =
-      keys_next (row_shown former.marked former.row) same (shown_fits p.schema change.key o.bytes former.marked former o.was.code_is)
+      keys_next (row_shown former.marked former.row) former.row o.session.next_pointer _ o.had o.records (kept_over p o).told
+      (shown_fits p.schema change.key o.bytes former.marked former o.was.code_is)
       (λ told. ap (λ (k : Value). newest (versions_at (record { table = change.table; key = k }) chains))
       (sym (at_primary p.schema (primary_of p.schema change.edit) change.key o.bytes former at o.was.code_is))
-      ∙ ap newest (decoded old.schemas (pairs_of old) old.versions.kept_at chains change.table p.schema change.key o.bytes former
-      (rows (was_told told)).clustered p.table.there (there told) o.was.code_is).0)
-      (λ told. coded_again old.schemas new.schemas (pairs_of new) (pairs_of new) new.versions.kept_at new.versions.kept_at pushed (what_is_there chains) same
-      refl refl
-      (next_rows old.schemas (pairs_of old) (pairs_of new) chains pushed change.table p.schema change.edit change.key p.table.there p.fits writer small pushes
-      new.versions.kept_at former o.session.next_pointer (record { version = (kept_over p o).version; bytes = o.bytes }) (there told) o.was.code_is
-      (kept_code p o) o.leads
-      o.small ((kept_over p o).here told.versions) (puts_pairs index change.key (Some (written former.row o.session.next_pointer)) old new stands told)
-      (coded_still old.schemas (pairs_of old) old.versions.kept_at new.versions.kept_at chains (what_is_there chains)
-      (kept_more old.schemas o.session.next_pointer (undo_of_former change.table change.key o.bytes) old.versions new.versions (kept_over p o) told.versions)
-      (rows (was_told told)))))
+      ∙ ap newest (decoded _ _ _ _ change.table p.schema change.key o.bytes former (rows told).clustered p.table.there (there told) o.was.code_is).0)
+      (λ now told puts.
+      next_rows _ _ _ _ _ change.table p.schema change.edit change.key p.table.there p.fits writer small pushes _ former o.session.next_pointer (record { version = (kept_over p o).version; bytes = o.bytes }) (there told) o.was.code_is
+      (kept_code p o) o.leads o.small ((kept_over p o).here now) puts
+      (coded_still _ _ _ _ _ _ (kept_more old.schemas o.session.next_pointer (undo_of_former change.table change.key o.bytes) old.versions new.versions (kept_over p o) now)
+      (rows told)))
     where
-      stands : HasPut index change.key (Some (written former.row o.session.next_pointer)) old new
-      stands = puts former.row o.session.next_pointer (undo_of_former change.table change.key o.bytes) o.session o.work o.had o.records
-
-      same : new.schemas ≡ old.schemas
-      same = ap (λ (state : WorldState). state.schemas) o.records.rest
-
-      was_told : IsTold new → IsTold old
-      was_told told =
-          record {
-            pairs = pairs_told index change.key (Some (written former.row o.session.next_pointer)) old new stands told;
-            versions = (kept_over p o).told told.versions;
-          }
-
-      there : IsTold new → value_of change.key (pairs_of old index) ≡ Some o.bytes
-      there told = tells (λ pairs. value_of change.key pairs ≡ Some o.bytes) (old.indexes index).pairs o.was.there ((was_told told).pairs index)
+      there : IsTold old → value_of change.key (pairs_of old index) ≡ Some o.bytes
+      there told = tells (λ pairs. value_of change.key pairs ≡ Some o.bytes) (old.indexes index).pairs o.was.there (told.pairs index)
 
   recorded_keys : (before after : Option (List Value)) (key : List ℕ) → key ≡ change.key → after ≡ row_after change.edit
       → ChangesRecord s old new change (records.Recorded before)
@@ -323,8 +278,8 @@ module _ (s : ℕ) (chains pushed : Chains) (old new : WorldState) (change : Rec
 
 -- ---- a step that is made where the change lies
 
-module _ (s : ℕ) (chains : Chains) (old new : WorldState) (mine : RowChange) (change : RecordChange) (key : List ℕ) (after : Option (List Value))
-    (at : mine ≡ Record change key after) (p : IsChangingRow s chains old mine) where
+module _ (s : ℕ) (chains : Chains) {old : WorldState} (new : WorldState) {mine : RowChange} {change : RecordChange} {key : List ℕ}
+    {after : Option (List Value)} (at : mine ≡ Record change key after) (p : IsChangingRow s chains old mine) where
   at_record : (reached : Reached RowChange)
       → (IsChangingRow s chains old (Record change key after) → ChangesRow s chains old new (Record change key after) reached)
       → ChangesRow s chains old new mine reached
@@ -341,8 +296,7 @@ module _ (s : ℕ) (chains : Chains) (old new : WorldState) (mine : RowChange) (
       → keys ≡ record { table = change.table; key = key; before = before; after = after; which = 0; put = None }
       → ChangesRecord s old new change (records.Recorded before) → ChangesRow s chains old new mine (Went (Keys keys))
   record_recorded before keys keys_is h =
-      subst (λ (k : KeysChange). ChangesRow s chains old new mine (Went (Keys k))) (sym keys_is)
-      (at_record (Went (Keys (record { table = change.table; key = key; before = before; after = after; which = 0; put = None }))) (λ is. (
+      rw keys_is (at_record (Went (Keys (record { table = change.table; key = key; before = before; after = after; which = 0; put = None }))) (λ is. (
         (h, λ pushed push. recorded_keys s chains pushed old new change is.0 is.1 push before after key is.2 is.3 h, refl, is.2),
         λ schema there. let some = some_record_step change.stage in omega arith,
       )))

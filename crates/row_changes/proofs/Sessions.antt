@@ -1,5 +1,5 @@
 -- Lists of sessions in which one is another now.
-use Rattle.std.proofs.Common.{◌≡◌, ◌≢◌, ℕ, zero, suc, List, [], ◌∷◌, length, Option, Some, None, refl, sym, ap, ◌∙◌}
+use Rattle.std.proofs.Common.{◌≡◌, ◌≢◌, ℕ, zero, suc, List, [], ◌∷◌, Option, Some, None, refl, ap}
 use Rattle.std.specs.Prelude.{slice_get, slice_set}
 use Rattle.entries.specs.Index.{AreKept}
 use Rattle.row_versions.specs.Versions.{Versions, Stays}
@@ -43,12 +43,10 @@ aside_of_stay {s} {session} {old} {new} there stay =
       before = session;
       after = session;
       was = there;
-      is = ap (λ (state : WorldState). slice_get state.sessions s) stay.rest ∙ there;
+      is = rw stay.rest there;
       readied = record { setting = refl; work = refl; can_reply = refl; can_ack = refl };
-      others = λ t differs. ap (λ (state : WorldState). slice_get state.sessions t) stay.rest;
-      count = ap (λ (state : WorldState). length state.sessions) stay.rest;
-      rest =
-          stay.rest ∙ ap (λ (sessions : List Session). record old { indexes = new.indexes; versions = new.versions; paged = new.paged; sessions = sessions })
-          (sym (ap (λ (state : WorldState). state.sessions) stay.rest));
+      others = λ t differs. rw stay.rest refl;
+      count = rw stay.rest refl;
+      rest = rw stay.rest refl;
       later = stay.later;
     }

@@ -1,7 +1,7 @@
 -- What stays told of pairs and versions.
-use Rattle.std.proofs.Common.{◌≡◌, ◌≢◌, ⊎_elim, ◌∙◌, sym, ap, subst, refl, ℕ, ◌==◌, List, Option, None, Some}
+use Rattle.std.proofs.Common.{◌≡◌, ◌≢◌, rules, ⊎_elim, ap, refl, ℕ, List, Option, None, Some}
 use Rattle.std.specs.Prelude.{IfSome, IsSome}
-use Rattle.std.proofs.lemmas.{Bool.cases_eq, Bool.cond-true, Bool.cond-false, Bool.Decides.eqb_tells}
+use Rattle.std.proofs.lemmas.{Bool.cases_eq, Bool.Decides.eqb_tells}
 use Rattle.inno_types.specs.declared.value.Schema.{Schema}
 use Rattle.entries.specs.{Pairs.Pair, Index.Goes, Index.AreKept}
 use Rattle.row_versions.specs.{declared.kept.Kept.Kept, Versions.Stays, Chains.Chains}
@@ -11,15 +11,13 @@ use Rattle.row_changes.specs.{Pairs.RowsStay, Pairs.PutsPair, Told.AreRowsAs}
 
 -- what is told was told before
 pub told_before : (step : List Pair → List Pair → Type 0) (old new : Option (List Pair)) → Goes step old new → IsSome new → IsSome old
-told_before step old None goes told = absurd (cc)
-told_before step None (Some new) goes told = absurd goes
 told_before step (Some old) (Some new) goes told = refl
+told_before step old new goes told = absurd (search rules)
 
 pub went : (f : List Pair → List Pair) (old new : Option (List Pair)) → Goes (λ before after. after ≡ f before) old new → IsSome new
     → pairs_in new ≡ f (pairs_in old)
-went f old None goes told = absurd (cc)
-went f None (Some new) goes told = absurd goes
 went f (Some old) (Some new) goes told = goes
+went f old new goes told = absurd (search rules)
 
 -- ---- while no pair changes
 
@@ -40,8 +38,7 @@ same_pairs_of old new stay told = λ d i. went (λ pairs. pairs) (old.indexes i)
 pub coded_again : (schemas others : List Schema) (pairs now : ℕ → List Pair) (kept found : ℕ → Option Kept) (chains : Chains) (said : Said)
     → others ≡ schemas → now ≡ pairs → found ≡ kept → AreCodedAs schemas pairs kept chains said → AreCodedAs others now found chains said
 coded_again schemas others pairs now kept found chains said tables rows versions is =
-    subst (λ s. AreCodedAs s now found chains said) (sym tables)
-    (subst (λ p. AreCodedAs schemas p found chains said) (sym rows) (subst (λ k. AreCodedAs schemas pairs k chains said) (sym versions) is))
+    rw (tables, rows, versions) is
 
 -- rows of which no pair and no version has changed
 pub rows_if : (old new : WorldState) (chains : Chains) (said : Said) → new.schemas ≡ old.schemas
@@ -65,17 +62,14 @@ HasPut index key value old new =
 pub pairs_told : (index : ℕ) (key : List ℕ) (value : Option (List ℕ)) (old new : WorldState) → HasPut index key value old new → IsTold new → (i : ℕ)
     → IsSome (old.indexes i).pairs
 pairs_told index key value old new puts told i =
-    ⊎_elim (λ e. subst (λ k. IsSome (old.indexes k).pairs) (sym e)
-    (told_before (λ before after. after ≡ with_value key value before) (old.indexes index).pairs (new.indexes index).pairs puts.0 (told.pairs index)))
-    (λ differs. told_before (λ before after. after ≡ before) (old.indexes i).pairs (new.indexes i).pairs (puts.1 i differs) (told.pairs i)) (cases_eq i index)
+    ⊎_elim (λ e. rw e (told_before (λ before after. after ≡ with_value key value before) _ (new.indexes index).pairs puts.0 (told.pairs index)))
+    (λ differs. told_before (λ before after. after ≡ before) _ (new.indexes i).pairs (puts.1 i differs) (told.pairs i)) (cases_eq i index)
 
 pub puts_pairs : (index : ℕ) (key : List ℕ) (value : Option (List ℕ)) (old new : WorldState) → HasPut index key value old new → IsTold new
     → Puts (pairs_of old) (pairs_of new) index key value
 puts_pairs index key value old new puts told i =
-    ⊎_elim (λ t. ap (pairs_of new) t.1 ∙ went (with_value key value) (old.indexes index).pairs (new.indexes index).pairs puts.0 (told.pairs index)
-    ∙ sym (cond-true (i == index) (with_value key value (pairs_of old index)) (pairs_of old i) t.0))
-    (λ f. went (λ pairs. pairs) (old.indexes i).pairs (new.indexes i).pairs (puts.1 i f.1) (told.pairs i)
-    ∙ sym (cond-false (i == index) (with_value key value (pairs_of old index)) (pairs_of old i) f.0)) (eqb_tells i index)
+    ⊎_elim (λ t. rw (t.0, t.1) (went (with_value key value) (old.indexes index).pairs (new.indexes index).pairs puts.0 (told.pairs index)))
+    (λ f. rw f.0 (went (λ pairs. pairs) (old.indexes i).pairs (new.indexes i).pairs (puts.1 i f.1) (told.pairs i))) (eqb_tells i index)
 
 pub put_told : (index : ℕ) (key : List ℕ) (value : Option (List ℕ)) (old new : WorldState) → PutsPair index key value old new → IsTold new → IsTold old
 put_told index key value old new puts told =

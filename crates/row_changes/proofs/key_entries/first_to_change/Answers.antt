@@ -1,25 +1,15 @@
-use Rattle.std.proofs.Common.{◌≡◌, length, get_or, sym, ap, ◌∙◌, arith, ⊎_elim, ℕ, ◌+◌, ◌<◌, true, false, List, Option, Some, slice_get}
+use Rattle.std.proofs.Common.{◌≡◌, length, get_or, sym, ap, ◌∙◌, arith, ⊎_elim, true, false, Some, slice_get}
 use Rattle.std.proofs.lemmas.{Bool.cases_eq, Option.slice_get_within, Option.slice_get-get_or}
-use Rattle.inno_types.specs.{declared.value.Value.Value, declared.value.Key.Key, declared.value.Schema.Schema}
-use Rattle.row_changes.specs.Keys.{value_stays, StayBetween}
+use Rattle.row_changes.specs.Keys.{value_stays}
 use Rattle.row_changes.proofs.Sessions.{one_found}
 use Rattle.row_changes.proofs.key_entries.first_to_change.Goals as goal
 
-item_there : {X : Type 0} (all xs : List X) (i : ℕ) (default : X) → xs ≡ all → i < length xs → slice_get all i ≡ Some (get_or xs i default)
-item_there {X} all xs i default same within = ap (λ (l : List X). slice_get l i) (sym same) ∙ slice_get-get_or xs i default within
-
-more_stay : (schema : Schema) (from which : ℕ) (before after : Option (List Value)) (key : Key) → StayBetween schema from which before after
-    → slice_get schema.keys which ≡ Some key → value_stays key.column before after ≡ true → StayBetween schema from (which + 1) before after
-more_stay schema from which before after key stay there stays w k from_there below is =
-    ⊎_elim (λ e. ap (λ (x : Key). value_stays x.column before after) (one_found k key (ap (slice_get schema.keys) (sym e) ∙ is) there) ∙ stays)
-    (λ differs. stay w k from_there (omega (arith, below, differs)) is) (cases_eq w which)
-
 pub loop-which-preserved : goal.loop-which-preserved
-loop-which-preserved c =
-    more_stay c.args.schema.now c.args.from c.loop-which.which c.args.before.now c.args.after.now
-    (get_or c.as_slice-keys.result.now c.loop-which.which c.index-keys-which.result) c.loop-which.invariant
-    (item_there c.args.schema.now.keys c.as_slice-keys.result.now c.loop-which.which c.index-keys-which.result c.as_slice-keys.ensures c.loop-which-test.true)
-    (sym c.value_stays.ensures ∙ c.if-not-value_stays.false)
+loop-which-preserved c = λ w k from_there below is.
+    let there : slice_get c.args.schema.now.keys c.loop-which.which ≡ Some (get_or c.as_slice-keys.result.now c.loop-which.which c.index-keys-which.result) =
+    rw (← c.as_slice-keys.ensures) (slice_get-get_or c.as_slice-keys.result.now c.loop-which.which c.index-keys-which.result c.loop-which-test.true) in
+    ⊎_elim (λ e. rw (one_found k (get_or c.as_slice-keys.result.now c.loop-which.which c.index-keys-which.result) is (ap (slice_get c.args.schema.now.keys) e ∙ there)) (sym c.value_stays.ensures ∙ c.if-not-value_stays.false))
+    (λ differs. c.loop-which.invariant w k from_there (omega (arith, below, differs)) is) (cases_eq w c.loop-which.which)
 
 pub returns : goal.returns
 returns c =

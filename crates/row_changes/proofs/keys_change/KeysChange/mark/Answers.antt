@@ -1,24 +1,19 @@
-use Rattle.std.proofs.Common.{sym, subst, refl, Some}
-use Rattle.row_changes.specs.Keys.{ChangesKeys}
+use Rattle.std.proofs.Common.{refl, Some}
 use Rattle.row_changes.proofs.{Keying.marked_on, Keying.mark_hindered, Awaited.key_awaits}
 use Rattle.row_changes.proofs.keys_change.KeysChange.mark.Goals as goal
 
 abbrev pub returns-in-Ok-clause-changes : goal.returns-in-Ok-clause-changes
 returns-in-Ok-clause-changes g c = λ chains p.
-    subst (ChangesKeys c.args.actor chains (g.W.World.state c.args.world.now) (g.W.World.state c.step.new.world) c.args.self.now) (sym c.next.ensures)
-    (marked_on chains _ _ c.args.self.now p c.args.mark.index (record { which = c.args.which; old = Some c.args.mark.entry; new = c.args.new })
-    c.args.mark.entry
-    c.requires.none c.requires.index (c.requires.entries p.schema p.table.there) refl
-    c.in-Ok.ensures.marks)
+    rw (c.next.ensures, c.requires.index)
+    (marked_on _ _ _ _ p (record { which = c.args.which; old = Some c.args.mark.entry; new = c.args.new }) c.args.mark.entry c.requires.none
+    (c.requires.entries p.schema p.table.there) refl (rw c.requires.index at c.in-Ok.ensures.marks))
 
 abbrev pub returns-clause-changes : goal.returns-clause-changes
 returns-clause-changes g c = λ chains p.
     let h = c.in-Err.ensures.marks in
-    mark_hindered chains _ _ c.args.self.now p c.args.actor c.args.mark.index c.args.which c.args.mark.entry c.in-Err.why c.requires.none
-    (c.requires.entries p.schema p.table.there).first.from_there c.requires.index h.0 h.2
+    mark_hindered _ _ _ _ p _ _ _ _ _ c.requires.none (c.requires.entries p.schema p.table.there).first.from_there c.requires.index h.0 h.2
 
 pub returns-clause-awaits : goal.returns-clause-awaits
 returns-clause-awaits g c =
     let p = c.requires.changing.1 in
-    key_awaits c.args.actor c.args.mark.index c.args.which _ _ c.args.self.now c.requires.changing.0 p
-    (c.requires.entries p.schema p.table.there).within c.requires.index c.step.ensures.awaits
+    key_awaits _ _ _ _ _ _ _ p (c.requires.entries p.schema p.table.there).within c.requires.index c.step.ensures.awaits

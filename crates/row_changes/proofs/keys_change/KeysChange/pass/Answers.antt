@@ -1,12 +1,11 @@
-use Rattle.row_changes.proofs.Keying.{all_passed}
+use Rattle.row_changes.proofs.{Changing.same_rows, Keying.over}
 use Rattle.row_changes.proofs.keys_change.KeysChange.pass.Goals as goal
 
 abbrev pub take_over-requires-clause-entries : goal.take_over-requires-clause-entries
 take_over-requires-clause-entries g c = λ schema there.
-    let found = rw c.in-Ok-Some.field-0-is at c.in-Ok-Some.ensures in
-    found schema there
+    (rw c.in-Ok-Some.field-0-is at c.in-Ok-Some.ensures) schema there
 
 abbrev pub returns-in-Ok-None-clause-changes : goal.returns-in-Ok-None-clause-changes
 returns-in-Ok-None-clause-changes g c = λ chains p.
     let found = rw c.in-Ok-None.field-0-is at c.in-Ok-None.ensures in
-    all_passed c.args.actor chains _ c.args.self.now p c.requires.none (found p.schema p.table.there)
+    (same_rows _, over chains _ (g.W.World.state c.args.world.now) c.args.self.now p c.requires.none (found p.schema p.table.there))

@@ -1,10 +1,7 @@
-use Rattle.std.proofs.Common.{sym, subst}
-use Rattle.row_changes.specs.Keys.{ChangesKeys}
 use Rattle.row_changes.proofs.{Changing.same_rows, Keying.nothing_marked}
 use Rattle.row_changes.proofs.keys_change.KeysChange.take_over.Goals as goal
 
 abbrev pub returns-in-None-clause-changes : goal.returns-in-None-clause-changes
 returns-in-None-clause-changes g c = λ chains p.
-    subst (ChangesKeys c.args.actor chains (g.W.World.state c.args.world.now) (g.W.World.state c.args.world.now) c.args.self.now) (sym c.next.ensures)
-    (nothing_marked chains _ _ c.args.self.now p c.index_of_key-index.result c.args.entries c.requires.none c.index_of_key-index.ensures
-    (c.requires.entries p.schema p.table.there) c.in-None.is (same_rows _))
+    rw (c.next.ensures, c.index_of_key-index.ensures)
+    (nothing_marked chains _ _ c.args.self.now p c.args.entries c.requires.none (c.requires.entries p.schema p.table.there) c.in-None.is (same_rows _))

@@ -1,5 +1,4 @@
-use Rattle.std.proofs.Common.{sym, subst, ap}
-use Rattle.row_changes.specs.Records.{ChangesRecord}
+use Rattle.std.proofs.Common.{ap}
 use Rattle.row_changes.proofs.{Changing.entered, Awaited.awaits_same}
 use Rattle.world.specs.State.{WorldState}
 use Rattle.row_changes.proofs.record_change.RecordChange.enter.Goals as goal
@@ -7,7 +6,7 @@ use Rattle.row_changes.proofs.record_change.RecordChange.enter.Goals as goal
 abbrev pub returns-in-Ok-clause-changes : goal.returns-in-Ok-clause-changes
 returns-in-Ok-clause-changes g c =
     let p = c.requires.changing in
-    subst (ChangesRecord c.args.s (g.W.World.state c.args.world.now) (g.W.World.state c.event_room.new.self) c.args.self.now) (sym c.then.ensures)
+    rw c.then.ensures
     (entered _ _ _ _ p c.requires.stage (c.in-Ok.ensures.ok p.session p.has_work.session_is))
 
 pub returns-in-Ok-clause-awaits : goal.returns-in-Ok-clause-awaits

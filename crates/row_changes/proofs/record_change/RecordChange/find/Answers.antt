@@ -1,13 +1,13 @@
-use Rattle.std.proofs.Common.{sym, subst, inl}
-use Rattle.std.specs.Prelude.{Ok, Err}
-use Rattle.row_changes.specs.Records.{Decodes, ChangesRecord}
+use Rattle.std.proofs.Common.{subst, inl}
+use Rattle.std.specs.Prelude.{Err}
+use Rattle.row_changes.specs.Records.{Decodes}
 use Rattle.row_changes.proofs.Awaited.{stays_if, fetch_keeps, fetch_delays, delay_hinders}
 use Rattle.row_changes.proofs.Changing.{looked_up, looked_up_none, not_decoded, hindered}
 use Rattle.row_changes.proofs.record_change.RecordChange.find.Goals as goal
 
 abbrev pub returns-in-End-clause-changes : goal.returns-in-End-clause-changes
 returns-in-End-clause-changes g c =
-    subst (ChangesRecord c.args.s (g.W.World.state c.args.world.now) (g.W.World.state c.fetch.new.self) c.args.self.now) (sym c.missed.ensures)
+    rw c.missed.ensures
     (looked_up_none _ _ _ _ c.requires.changing c.fetch.new.into.items c.requires.stage (rw c.index.ensures at (rw c.in-End.is at c.fetch.ensures.answer)))
 
 abbrev pub returns-in_default-fetch-clause-changes : goal.returns-in_default-fetch-clause-changes
@@ -19,15 +19,12 @@ returns-in_default-fetch-clause-changes g c =
 
 abbrev pub returns-in-Ok-decoded-clause-changes : goal.returns-in-Ok-decoded-clause-changes
 returns-in-Ok-decoded-clause-changes g c =
-    let decoded = rw c.in-Ok-decoded.is at c.decoded.ensures in
-    let next =
-    looked_up _ _ _ _ c.requires.changing _ c.fetch.new.into.items c.requires.stage (rw c.index.ensures at (rw c.in-Done.is at c.fetch.ensures.answer))
-    (λ schema there. subst (λ value. Decodes schema c.args.self.now.key value (Ok c.in-Ok-decoded.before)) c.deref.ensures.value (decoded schema there)) in
-    subst (ChangesRecord c.args.s (g.W.World.state c.args.world.now) (g.W.World.state c.fetch.new.self) c.args.self.now) (sym c.found.ensures)
-    (rw c.from_vec.ensures next)
+    rw (c.found.ensures, c.from_vec.ensures)
+    (looked_up _ _ _ _ c.requires.changing _ c.fetch.new.into.items c.requires.stage (rw c.index.ensures at (rw c.in-Done.is at c.fetch.ensures.answer))
+    (λ schema there. rw c.deref.ensures.value at ((rw c.in-Ok-decoded.is at c.decoded.ensures) schema there)))
 
 abbrev pub returns-in-Err-clause-changes : goal.returns-in-Err-clause-changes
 returns-in-Err-clause-changes g c =
-    let decoded = rw c.in-Err.is at c.decoded.ensures in
     not_decoded _ _ _ _ c.requires.changing _ c.fetch.new.into.items (rw c.index.ensures at (rw c.in-Done.is at c.fetch.ensures.answer))
-    (λ schema there. subst (λ value. Decodes schema c.args.self.now.key value (Err c.in-Err.why)) c.deref.ensures.value (decoded schema there))
+    (λ schema there. subst (λ value. Decodes schema c.args.self.now.key value (Err c.in-Err.why)) c.deref.ensures.value
+    ((rw c.in-Err.is at c.decoded.ensures) schema there))

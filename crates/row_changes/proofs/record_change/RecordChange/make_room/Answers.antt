@@ -1,12 +1,11 @@
-use Rattle.std.proofs.Common.{sym, subst, inl, inr}
-use Rattle.row_changes.specs.Records.{ChangesRecord}
+use Rattle.std.proofs.Common.{inl, inr}
 use Rattle.row_changes.proofs.Changing.{room_made, hindered, no_room_stays}
 use Rattle.row_changes.proofs.record_change.RecordChange.make_room.Goals as goal
 
 abbrev pub returns-in-Done-clause-changes : goal.returns-in-Done-clause-changes
 returns-in-Done-clause-changes g c =
     let p = c.requires.changing in
-    subst (ChangesRecord c.args.s (g.W.World.state c.args.world.now) (g.W.World.state c.undo_room.new.self) c.args.self.now) (sym c.then.ensures)
+    rw c.then.ensures
     (room_made _ _ _ _ p c.requires.stage (rw c.in-Done.is at c.undo_room.ensures))
 
 abbrev pub returns-in_default-clause-changes : goal.returns-in_default-clause-changes

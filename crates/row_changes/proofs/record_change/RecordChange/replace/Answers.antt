@@ -1,16 +1,16 @@
-use Rattle.std.proofs.Common.{ap, ◌<◌, ◌^◌, Some, arith}
+use Rattle.std.proofs.Common.{ap, ◌∙◌, ◌<◌, ◌^◌, Some, arith}
 use Rattle.std.proofs.lemmas.Option.{slice_get_within}
 use Rattle.row_changes.proofs.Awaited.{entered_awaits, replace_with_here}
-use Rattle.row_changes.proofs.Changing.{stage_at, lacks_memory, rows_index, value_of_row, value_short, version_made, may_log_former, may_enter, replaced}
-use Rattle.row_changes.proofs.Changing.{replace_hindered}
-use Rattle.row_changes.specs.Records.{row_found}
+use Rattle.row_changes.proofs.Changing.{stage_at, lacks_memory, rows_index, value_short, version_made, may_log_former, may_enter, replaced, replace_hindered}
+use Rattle.row_changes.specs.Records.{row_found, record_steps}
+use Rattle.row_codec.specs.Rows.{version_code}
 use Rattle.law_stored_rows.specs.Edits.{clustered_index}
 use Rattle.row_changes.proofs.record_change.RecordChange.replace.Goals as goal
 
 abbrev pub coded-requires : goal.coded-requires
 coded-requires g c =
     let p = c.requires.changing in
-    (p.schema, p.table.there, (version_made _ _ _ _ _ _ p.fits p.stage (rw c.requires.stage.2 (record {})) _ _ _ c.in-Ok-version.ensures).0)
+    (p.schema, p.table.there, (version_made _ _ _ _ _ _ p.fits p.stage (ap record_steps c.requires.stage.2) _ _ _ c.in-Ok-version.ensures).0)
 
 abbrev pub replace-requires-clause-index : goal.replace-requires-clause-index
 replace-requires-clause-index g c = rows_index c.requires.changing _ c.index.ensures
@@ -18,7 +18,7 @@ replace-requires-clause-index g c = rows_index c.requires.changing _ c.index.ens
 abbrev pub replace-requires-clause-value : goal.replace-requires-clause-value
 replace-requires-clause-value g c =
     let p = c.requires.changing in
-    value_short p.schema _ _ _ p.table.storable (version_made _ _ _ _ _ _ p.fits p.stage (rw c.requires.stage.2 (record {})) _ _ _ c.in-Ok-version.ensures)
+    value_short p.schema _ _ _ p.table.storable (version_made _ _ _ _ _ _ p.fits p.stage (ap record_steps c.requires.stage.2) _ _ _ c.in-Ok-version.ensures)
     (c.in-Ok-coded.ensures p.schema p.table.there)
 
 abbrev pub replace-requires-clause-undo : goal.replace-requires-clause-undo
@@ -34,14 +34,14 @@ enter-requires g c =
 abbrev pub returns-in-Done-clause-changes : goal.returns-in-Done-clause-changes
 returns-in-Done-clause-changes g c =
     let p = c.requires.changing in
-    let at = c.requires.stage.2 in
-    let told = c.in-Ok.ensures _ _ at in
+    let stage = c.requires.stage.2 in
+    let told = c.in-Ok.ensures _ _ stage in
     let pointer_is = c.next_pointer-pointer.ensures p.session p.has_work.session_is in
     let small : p.session.next_pointer < 2 ^ 64 = omega (arith, pointer_is) in
     let value =
-    value_of_row p.schema _ _ _ _ _ _ _ _ _ (c.in-Ok-coded.ensures p.schema p.table.there) c.in-Ok-version.ensures (ap row_found at)
-    (c.writer_of-writer.ensures p.session p.work p.has_work) pointer_is in
-    replaced p _ _ _ _ _ _ _ at value told.1 told.0 small (rw c.index.ensures at (rw c.in-Done.is at c.replace.ensures))
+    rw (ap row_found stage, c.writer_of-writer.ensures p.session p.work p.has_work, pointer_is) at
+    (c.in-Ok-coded.ensures p.schema p.table.there ∙ ap (version_code p.schema) c.in-Ok-version.ensures) in
+    replaced p _ _ _ _ _ _ _ stage value told.1 told.0 small (rw c.index.ensures at (rw c.in-Done.is at c.replace.ensures))
     (rw c.take_edit.ensures at c.enter.ensures)
 
 abbrev pub returns-in_default-replace-clause-changes : goal.returns-in_default-replace-clause-changes
@@ -55,18 +55,13 @@ abbrev pub returns-in_default-clause-changes : goal.returns-in_default-clause-ch
 returns-in_default-clause-changes g c = lacks_memory c.args.s _ c.args.self.now c.requires.changing
 
 abbrev pub next_pointer-pointer-requires : goal.next_pointer-pointer-requires
-next_pointer-pointer-requires g c =
-    let p = c.requires.changing in
-    slice_get_within _ c.args.s p.session p.has_work.session_is
+next_pointer-pointer-requires g c = slice_get_within _ c.args.s c.requires.changing.session c.requires.changing.has_work.session_is
 
 pub returns-in-Done-clause-awaits : goal.returns-in-Done-clause-awaits
 returns-in-Done-clause-awaits g c =
     let p = c.requires.changing in
     let may = may_enter p _ _ (stage_at _ _ _ p _ c.requires.stage.2).0 (rw c.in-Done.is at c.replace.ensures).beside in
     let call = (rw c.index.ensures at c.replace.ensures).index_is in
-    let index = clustered_index c.args.self.now.table in
-    let old = g.W.World.state c.args.world.now in
-    let mid = g.W.World.state c.replace.new.self in
-    entered_awaits c.args.s index _ old mid _ _ _ may.0 may.1 call
-    (replace_with_here (Some c.in-Ok.undo) c.args.s c.args.self.now.key _ (old.indexes index) (mid.indexes index) c.replace.result call.here)
+    entered_awaits c.args.s (clustered_index c.args.self.now.table) _ (g.W.World.state c.args.world.now) _ _ _ _ may.0 may.1 call
+    (replace_with_here (Some c.in-Ok.undo) c.args.s c.args.self.now.key _ _ _ c.replace.result call.here)
     ((rw c.take_edit.ensures at c.enter.ensures) may.0 may.1 may.2)

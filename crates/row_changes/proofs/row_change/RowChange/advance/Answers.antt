@@ -1,26 +1,19 @@
-use Rattle.std.proofs.Common.{sym, subst}
-use Rattle.row_changes.specs.{declared.row_change.RowChange.RowChange, declared.reached.Reached.TheVariants.Went, Rows.ChangesRow}
 use Rattle.row_changes.proofs.{Pushed.record_went, Pushed.record_recorded, Pushed.record_waits, Awaited.record_awaits_at}
 use Rattle.row_changes.proofs.row_change.RowChange.advance.Goals as goal
 
 abbrev pub returns-in-Went-clause-changes : goal.returns-in-Went-clause-changes
 returns-in-Went-clause-changes g c =
-    λ chains p. record_went c.args.s chains _ _ c.args.self.now c.in-Record.change c.in-Record.key c.in-Record.after c.in-Record.is p c.step.new.self
-    c.in-Went.ensures.changes
+    λ chains p. record_went c.args.s chains _ c.in-Record.is p c.step.new.self c.in-Went.ensures.changes
 
 abbrev pub returns-in-Recorded-clause-changes : goal.returns-in-Recorded-clause-changes
 returns-in-Recorded-clause-changes g c = λ chains p.
-    subst (λ (next : RowChange). ChangesRow c.args.s chains (g.W.World.state c.args.world.now) (g.W.World.state c.step.new.world) c.args.self.now (Went next))
-    (sym c.replace.ensures.after)
-    (record_recorded c.args.s chains _ _ c.args.self.now c.in-Record.change c.in-Record.key c.in-Record.after c.in-Record.is p c.in-Recorded.before
-    c.keys_of-next.result c.keys_of-next.ensures c.in-Recorded.ensures.changes)
+    rw c.replace.ensures.after
+    (record_recorded c.args.s chains _ c.in-Record.is p c.in-Recorded.before c.keys_of-next.result c.keys_of-next.ensures c.in-Recorded.ensures.changes)
 
 pub returns-in-Recorded-clause-awaits : goal.returns-in-Recorded-clause-awaits
 returns-in-Recorded-clause-awaits g c =
-    record_awaits_at c.requires.0 c.args.s _ _ c.args.self.now c.in-Record.change c.in-Record.key c.in-Record.after c.in-Record.is c.requires.1
-    c.in-Recorded.ensures.awaits
+    record_awaits_at _ _ _ _ _ _ _ _ c.in-Record.is c.requires.1 c.in-Recorded.ensures.awaits
 
 abbrev pub returns-in-Hindered-clause-changes : goal.returns-in-Hindered-clause-changes
 returns-in-Hindered-clause-changes g c =
-    λ chains p. record_waits c.args.s chains _ _ c.args.self.now c.in-Record.change c.in-Record.key c.in-Record.after c.in-Record.is p c.step.new.self
-    c.in-Hindered.why c.in-Hindered.ensures.changes
+    λ chains p. record_waits c.args.s chains _ c.in-Record.is p c.step.new.self c.in-Hindered.why c.in-Hindered.ensures.changes
