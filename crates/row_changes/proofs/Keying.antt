@@ -312,7 +312,8 @@ module _ (chains : Chains) (old new : WorldState) (change : KeysChange) (p : IsC
       let within = all.within in
       let from = all.first.from_there in
       let waits = waiting_steps none in
-      let number : IsIndex new.schemas (key_index change.table entries.which) =
+      let index = key_index change.table entries.which in
+      let number : IsIndex new.schemas index =
       record {
         table = change.table;
         which = 1 + entries.which;
@@ -322,7 +323,7 @@ module _ (chains : Chains) (old new : WorldState) (change : KeysChange) (p : IsC
         key = omega (arith, within);
         few = (let f = few entries.which within in omega arith);
       } in
-      goes_on entries.which (Some (record { index = key_index change.table entries.which; entry = entry; phase = Look })) stays (omega (arith, within)) (record {
+      goes_on entries.which (Some (record { index = index; entry = entry; phase = Look })) stays (omega (arith, within)) (record {
         index_is = refl;
         entry_is = new_entry;
         within = within;

@@ -259,9 +259,10 @@ module _ (s : ℕ) (chains pushed : Chains) (old new : WorldState) (change : Rec
       (sym (at_primary p.schema (primary_of p.schema change.edit) change.key o.bytes former at o.was.code_is))
       ∙ ap newest (decoded _ _ _ _ change.table p.schema change.key o.bytes former (rows told).clustered p.table.there (there told) o.was.code_is).0)
       (λ now told puts.
-      next_rows _ _ _ _ _ change.table p.schema change.edit change.key p.table.there p.fits writer small pushes _ former o.session.next_pointer (record { version = (kept_over p o).version; bytes = o.bytes }) (there told) o.was.code_is
+      next_rows _ _ _ _ _ change.table p.schema change.edit change.key p.table.there p.fits writer small pushes _ former o.session.next_pointer
+      (record { version = (kept_over p o).version; bytes = o.bytes }) (there told) o.was.code_is
       (kept_code p o) o.leads o.small ((kept_over p o).here now) puts
-      (coded_still _ _ _ _ _ _ (kept_more old.schemas o.session.next_pointer (undo_of_former change.table change.key o.bytes) old.versions new.versions (kept_over p o) now)
+      (coded_still _ _ _ _ _ _ (kept_more _ o.session.next_pointer (undo_of_former change.table change.key o.bytes) _ _ (kept_over p o) now)
       (rows told)))
     where
       there : IsTold old → value_of change.key (pairs_of old index) ≡ Some o.bytes

@@ -6,9 +6,10 @@ use Rattle.row_changes.proofs.key_entries.first_to_change.Goals as goal
 
 pub loop-which-preserved : goal.loop-which-preserved
 loop-which-preserved c = λ w k from_there below is.
-    let there : slice_get c.args.schema.now.keys c.loop-which.which ≡ Some (get_or c.as_slice-keys.result.now c.loop-which.which c.index-keys-which.result) =
+    let key = get_or c.as_slice-keys.result.now c.loop-which.which c.index-keys-which.result in
+    let there : slice_get c.args.schema.now.keys c.loop-which.which ≡ Some key =
     rw (← c.as_slice-keys.ensures) (slice_get-get_or c.as_slice-keys.result.now c.loop-which.which c.index-keys-which.result c.loop-which-test.true) in
-    ⊎_elim (λ e. rw (one_found k (get_or c.as_slice-keys.result.now c.loop-which.which c.index-keys-which.result) is (ap (slice_get c.args.schema.now.keys) e ∙ there)) (sym c.value_stays.ensures ∙ c.if-not-value_stays.false))
+    ⊎_elim (λ e. rw (one_found k key is (ap (slice_get c.args.schema.now.keys) e ∙ there)) (sym c.value_stays.ensures ∙ c.if-not-value_stays.false))
     (λ differs. c.loop-which.invariant w k from_there (omega (arith, below, differs)) is) (cases_eq w c.loop-which.which)
 
 pub returns : goal.returns

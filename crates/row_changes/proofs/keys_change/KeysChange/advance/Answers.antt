@@ -8,7 +8,7 @@ abbrev pub returns-in-Done-clause-changes : goal.returns-in-Done-clause-changes
 returns-in-Done-clause-changes g c = λ chains p. put_done _ _ _ _ p _ c.in-Some.is c.in-Done.ensures.puts
 
 abbrev pub returns-in-Hindered-clause-changes : goal.returns-in-Hindered-clause-changes
-returns-in-Hindered-clause-changes g c = λ chains p. put_waits _ _ _ _ p _ c.in-Some.is c.args.actor c.step.new.self c.in-Hindered.why c.in-Hindered.ensures.puts
+returns-in-Hindered-clause-changes g c = λ chains p. put_waits _ _ _ _ p _ c.in-Some.is c.args.actor _ c.in-Hindered.why c.in-Hindered.ensures.puts
 
 pub returns-in-Went-clause-awaits : goal.returns-in-Went-clause-awaits
 returns-in-Went-clause-awaits g c = put_awaits _ _ _ _ _ _ c.in-Some.is c.requires.1 c.in-Went.ensures.awaits

@@ -7,4 +7,4 @@ use Rattle.row_changes.proofs.keys_change.KeysChange.entries.Goals as goal
 abbrev pub returns-in-Some : goal.returns-in-Some
 returns-in-Some g c =
     IfOk-weaker c.next_entries.result _ _
-    (λ r holds schema there. rw (one_found schema c.in-Some.schema.now there (sym c.schema.ensures ∙ ap option_copied c.in-Some.is)) holds) c.next_entries.ensures
+    (λ r holds s there. rw (one_found s c.in-Some.schema.now there (sym c.schema.ensures ∙ ap option_copied c.in-Some.is)) holds) c.next_entries.ensures
