@@ -18,8 +18,8 @@ use Rattle.row_changes.specs.declared.entry_put.PutPhase.TheVariants as puts
 
 phase_kept : (phase : PutPhase) (entry : List ℕ) (old new : Index) → AreKept old.pairs new.pairs → PutPhaseHolds phase entry old → PutPhaseHolds phase entry new
 phase_kept puts.Look entry old new kept is = is
-phase_kept puts.Unmark entry old new kept is = told_kept (λ pairs. is_some (value_of entry pairs) ≡ true) old new kept is
-phase_kept puts.Insert entry old new kept is = told_kept (λ pairs. is_some (value_of entry pairs) ≡ false) old new kept is
+phase_kept puts.Unmark entry old new kept is = told_kept (λ pairs. is_some (value_of entry pairs) ≡ true) old.pairs new.pairs kept is
+phase_kept puts.Insert entry old new kept is = told_kept (λ pairs. is_some (value_of entry pairs) ≡ false) old.pairs new.pairs kept is
 
 some_kept : (P Q : EntryPut → Type 0) (put : Option EntryPut) → ((x : EntryPut) → P x → Q x) → IfSome put P → IfSome put Q
 some_kept P Q None each is = record {}

@@ -34,7 +34,7 @@ use Rattle.row_changes.specs.declared.reached.Reached.TheVariants as reached
 use Rattle.row_changes.specs.declared.entry_put.PutPhase.TheVariants as phases
 
 -- what is told of pairs stays told, if pairs are told still
-told_kept : (P : List Pair → Type 0) (old new : Option (List Pair)) → AreKept old new → IfSome old P → IfSome new P
+pub told_kept : (P : List Pair → Type 0) (old new : Option (List Pair)) → AreKept old new → IfSome old P → IfSome new P
 told_kept P (Some old) (Some new) kept told = rw kept told
 told_kept P old new kept told = search rules
 

@@ -1,5 +1,6 @@
 -- The steps of a taking back: how each leaves what is known, those that deal with the record, and with the entries of a key.
-use Rattle.std.proofs.Common.{◌≡◌, ◌≢◌, ◌⊎◌, inl, inr, ℕ, ◌+◌, ◌<◌, Bool, true, false, List, [], ◌∷◌, Option, Some, refl, sym, ap, subst, ◌∙◌, arith, length, rules}
+use Rattle.std.proofs.Common.{◌≡◌, ◌≢◌, ◌⊎◌, inl, inr, ℕ, ◌+◌, ◌<◌, Bool, true, false, List, [], ◌∷◌, Option, Some, refl, sym, ap, subst, ◌∙◌, arith}
+use Rattle.std.proofs.Common.{length, rules}
 use Rattle.std.proofs.Common.{◌≤◌, slice_get, ⊎_elim, ◌-◌, ◌*◌, cond, None, ◌^◌, ◌++◌}
 use Rattle.std.specs.Prelude.{option_map, IsTrue, ◌==◌, ◌||◌, is_some, vec_capacity, Vec}
 use Rattle.std.proofs.Math.Bool.{or-true}
@@ -329,9 +330,12 @@ module _ {chains : Chains} {place : Place} (actor : ℕ) {undo : Undo} {room : W
       whole = found_whole room.stage;
       anew = is_at;
       popped = λ told differs. absurd (differs (same (stays_told old new stays told)));
-      again = λ told gone. (stays, rw (rows_stay stays told) (⊎_elim
-          (λ (way : Stands). absurd (stands chains place undo is.schema (rows_of old) way.0 way.1 0 (IsLagging (shown way.1) before) is.tells way.2 gone))
-          (λ taken. taken) (held Find is_at (stays_told old new stays told))));
+      again = λ told gone. (
+        stays,
+        rw (rows_stay stays told) (⊎_elim
+            (λ (way : Stands). absurd (stands chains place undo is.schema (rows_of old) way.0 way.1 0 (IsLagging (shown way.1) before) is.tells way.2 gone))
+            (λ taken. taken) (held Find is_at (stays_told old new stays told))),
+      );
     }
 
     pub find_again : Fetching Done → Some read.items ≡ was_before undo → Back found new Done
@@ -486,8 +490,11 @@ module _ {chains : Chains} {place : Place} (actor : ℕ) {undo : Undo} {room : W
       go false had = record {
         fits = omega (arith, within);
         nearer = omega (arith, within);
-        holds = λ rows coded tells way. (coded, ⊎_elim (λ (was : WasThere undo is.schema before). absurd (true≢false (sym was.had ∙ had)))
-            (λ (was : WasNot undo before). passed chains rows tells was way) (what_stood tells way).1);
+        holds = λ rows coded tells way. (
+          coded,
+          ⊎_elim (λ (was : WasThere undo is.schema before). absurd (true≢false (sym was.had ∙ had)))
+              (λ (was : WasNot undo before). passed chains rows tells was way) (what_stood tells way).1,
+        );
       }
 
     follows : (stage : Stage) → which < keys → 5 * (keys - which) + 3 ≤ steps_left keys stage → steps_left keys following < steps_left keys stage
@@ -538,7 +545,8 @@ module _ {chains : Chains} {place : Place} (actor : ℕ) {undo : Undo} {room : W
           said = h.1.said;
           coded_but = h.1.coded_but;
           some = lagging_any (column_of is.schema which) _ (shown h.0) before (h.1.said which) h.2.found_is h.1.says.here;
-          holds = (comes within).holds (Put h.0 (Some (1 ∷ []))) h.0 is.tells (dropped chains (rows_of old) is.tells which true within h.1 h.2.plain h.2.found_is);
+          holds = (comes within).holds (Put h.0 (Some (1 ∷ []))) h.0 is.tells
+              (dropped chains (rows_of old) is.tells which true within h.1 h.2.plain h.2.found_is);
         })
 
     pub mark_unwritten : room.stage ≡ Mark which → Unwritten room.newest.items
@@ -655,7 +663,8 @@ module _ {chains : Chains} {place : Place} (actor : ℕ) {undo : Undo} {room : W
         look_gone is_marked =
             moved room room_leaves (Key which) following is_at old (same_rows old) (comes within).fits (λ told h.
             let gone = mark_of h.0 h.1.newest.code_is ∙ is_marked in
-            (comes within).holds (rows_of old) h.0 is.tells (clear_unless_row chains (rows_of old) is.tells gone h.1)) (follows (Key which) within (omega arith))
+            (comes within).holds (rows_of old) h.0 is.tells (clear_unless_row chains (rows_of old) is.tells gone h.1))
+            (follows (Key which) within (omega arith))
 
         abbrev OneEntry : Bool → Type 0
         OneEntry result =
@@ -746,12 +755,17 @@ module _ {chains : Chains} {place : Place} (actor : ℕ) {undo : Undo} {room : W
                 rw found.0 (known.0, known.1, record { plain = known.2; found_is = some })
             holds_by stage (inr on) =
                 let past = passed_here which is.tells.storable inside known.1.newest.code_is seen.code_is on.1 seen.rest in
-                rw on.0 (known.0, known.1, known.2, record {
-                  left = seen.rest;
-                  leads = seen.leads;
-                  fewer = (let all = ap length seen.left_is in omega (arith, all, known.3.fewer));
-                  passed = known.3.passed ∙ (ap (some_has is.schema which known.0) seen.left_is ∙ past);
-                })
+                rw on.0 (
+                  known.0,
+                  known.1,
+                  known.2,
+                  record {
+                    left = seen.rest;
+                    leads = seen.leads;
+                    fewer = (let all = ap length seen.left_is in omega (arith, all, known.3.fewer));
+                    passed = known.3.passed ∙ (ap (some_has is.schema which known.0) seen.left_is ∙ past);
+                  },
+                )
 
             -- fewer versions are left behind the one that was read
             fewer : (behind : ℕ) → after.stage ≡ Walk which behind → Looks after.stage → (versions others : List Version)
@@ -767,10 +781,13 @@ module _ {chains : Chains} {place : Place} (actor : ℕ) {undo : Undo} {room : W
 
           nears_by : (after.stage ≡ Mark which) ⊎ ((behind : ℕ) × (after.stage ≡ Walk which behind)) → Nears is.schema undo new room.stage after.stage
           nears_by (inl mark) = inl (rw (is_at, mark) (omega arith))
-          nears_by (inr (behind, walk)) = rw (is_at, walk) (inr (refl, λ told versions others from leads.
-              let was = stays_told old new stays told in
-              let kept = same.versions.kept told.versions in
-              fewer was behind walk (looked was) versions others (rw kept at from) (rw kept at leads)))
+          nears_by (inr (behind, walk)) = rw (is_at, walk) (inr (
+            refl,
+            λ told versions others from leads.
+                let was = stays_told old new stays told in
+                let kept = same.versions.kept told.versions in
+                fewer was behind walk (looked was) versions others (rw kept at from) (rw kept at leads),
+          ))
 
           pub walk_looks : Back after new result
           walk_looks =

@@ -149,7 +149,7 @@ module _ (chains : Chains) {place : Place} {undo : Undo} {schema : Schema} (rows
       let here = place_is undo schema place rows.schemas tells bytes version code in
       let column = it.key.column in
       let puts : Puts rows.pairs (with_entry which version value).pairs (key_index undo.table which)
-          (entry_code it.on.column.kind (value_in column version.row) undo.key) (entry_said column (value_in column version.row) versions)
+      (entry_code it.on.column.kind (value_in column version.row) undo.key) (entry_said column (value_in column version.row) versions)
       = rw (← it.entry_is version.row undo.key, told) (λ other. refl) in
       let was = said_but chains place said in
       let now = said_but chains place (set_said said which versions) in
@@ -265,7 +265,8 @@ module _ (chains : Chains) {place : Place} {undo : Undo} {schema : Schema} (rows
       said_alike rows.schemas put_back.pairs rows.kept after (said_but chains place said) (said_but after place said) (go is.before)
       (λ table which schema key there also value. by_test (TellAlike key.column) (is_same_place place (at table value)) _ _ _ _ (λ same other. refl)
       (λ apart other. ap (entry_said key.column other) (sym (popped_elsewhere chains after place pops (at table value) apart)))) where
-        step : (value : Option (List ℕ)) → was_before undo ≡ value → PutsRecord rows.schemas rows.pairs put_back.pairs undo.table schema undo.key bytes coded value
+        step : (value : Option (List ℕ)) → was_before undo ≡ value
+            → PutsRecord rows.schemas rows.pairs put_back.pairs undo.table schema undo.key bytes coded value
         step value now = record { there = tells.there; code_is = is.code_is; puts = rw (← now) (λ other. refl) }
 
         there : Pops chains after (place_in undo.table schema coded.row)
