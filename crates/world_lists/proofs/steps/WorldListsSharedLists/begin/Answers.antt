@@ -15,10 +15,17 @@ invariant_of-self-in_err-txn g c =
     roomed_kept c.args.session c.self.invariant c.self.view_is c.requires.joined c.in_ok-event_room.ensures.ok c.in_err-txn.ensures.err c.requires.idle
     (g.met.W.EngineWorld.tells c.self.inside.world).told
 
-pub returns-in_err-txn : goal.returns-in_err-txn
-returns-in_err-txn g c =
-    let shows = roomed_shown c.args.session c.self.invariant c.self.view_is c.requires.joined c.in_ok-event_room.ensures.ok c.in_err-txn.ensures.err in
-    record { ok = record {}; settings = record {}; err = shows.state; unset = shows.settings; rows = shows.rows }
+pub returns-in_err-txn-clause-err : goal.returns-in_err-txn-clause-err
+returns-in_err-txn-clause-err g c =
+    on_err _ (roomed_shown c.args.session c.self.invariant c.self.view_is c.requires.joined c.in_ok-event_room.ensures.ok c.in_err-txn.ensures.err).state
+
+pub returns-in_err-txn-clause-unset : goal.returns-in_err-txn-clause-unset
+returns-in_err-txn-clause-unset g c =
+    on_err _ (roomed_shown c.args.session c.self.invariant c.self.view_is c.requires.joined c.in_ok-event_room.ensures.ok c.in_err-txn.ensures.err).settings
+
+pub returns-in_err-txn-clause-rows : goal.returns-in_err-txn-clause-rows
+returns-in_err-txn-clause-rows g c =
+    (roomed_shown c.args.session c.self.invariant c.self.view_is c.requires.joined c.in_ok-event_room.ensures.ok c.in_err-txn.ensures.err).rows
 
 pub add_begin-requires : goal.add_begin-requires
 add_begin-requires g c =
