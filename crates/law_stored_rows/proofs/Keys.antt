@@ -7,11 +7,11 @@ use Rattle.inno_db.specs.Database.{key_of}
 use Rattle.store_api.specs.declared.answers.Version.{Version as Coded}
 use Rattle.key_codec.specs.Keys.{entry_code}
 use Rattle.entries.specs.Pairs.{Pair}
-use Rattle.row_versions.specs.{declared.kept.Kept.Kept, declared.place.Place.Place, declared.version.Version.Version, Chains.Chains, Chains.versions_at}
+use Rattle.row_versions.specs.{declared.kept.Kept.Kept, declared.place.Place.Place, declared.version.Version.Version, Chains.Chains}
 use Rattle.row_versions.specs.{Chains.is_same_place}
 use Rattle.law_stored_rows.specs.{Edits.clustered_index, Edits.key_index, Edits.Puts, Records.IsCodeOf}
 use Rattle.law_stored_rows.specs.Entries.{is_same_value, value_in, entry_of, HasEntries, TellAlike, TellAlikeBut}
-use Rattle.law_stored_rows.specs.Tables.{place_in, Said, AreCodedAs, AreCoded, what_is_there, LagAt, SaysNow}
+use Rattle.law_stored_rows.specs.Tables.{place_in, Said, AreCodedAs, SayTheSameBut, SaysNow}
 use Rattle.law_stored_rows.proofs.Values.{in_one_table, in_other_table, place_itself, same_place, key_there, entry_there}
 use Rattle.law_stored_rows.proofs.{Pairs.at_index, Pairs.at_others, Pairs.no_key, Pairs.other_key, Entries.entries_after, Entries.entries_alike, Tables.at}
 use Rattle.law_stored_rows.proofs.Tables.{few_of}
@@ -28,8 +28,8 @@ module _ (was now : Said) (place : Place) (which : ℕ) (versions : List Version
   pub others_say : (table key : ℕ) (value : Value) → key ≢ which → now table key value ≡ was table key value
   others_say table key value differ = rw (ne_eqb key which differ) at (says table key value)
 
-  pub lag_says : (chains : Chains) → LagAt place chains was → LagAt place chains now
-  lag_says chains lag table key value apart = says_apart table key value apart ∙ lag table key value apart
+  pub lag_says : (beside : Said) → SayTheSameBut place beside was → SayTheSameBut place beside now
+  lag_says beside lag table key value apart = says_apart table key value apart ∙ lag table key value apart
 
 -- ---- one entry of a key is changed
 
@@ -127,17 +127,18 @@ said_alike schemas indexes kept chains was now is alike = record {
   };
 }
 
--- Where keys lag at one place alone, and tell alike there, they say what is there.
-pub change_over : (schemas : List Schema) (indexes : ℕ → List Pair) (kept : ℕ → Option Kept) (chains : Chains) (place : Place) (said : Said)
-    → AreCodedAs schemas indexes kept chains said → LagAt place chains said
+-- A change of a place is over where keys tell of it what they would say then: they may be said to say that.
+pub change_over : (schemas : List Schema) (indexes : ℕ → List Pair) (kept : ℕ → Option Kept) (chains : Chains) (place : Place) (beside said over : Said)
+    → AreCodedAs schemas indexes kept chains said → SayTheSameBut place beside said → SayTheSameBut place beside over
     → ((which : ℕ) (schema : Schema) (key : Key) → slice_get schemas place.table ≡ Some schema → slice_get schema.keys which ≡ Some key
-    → TellAlike key.column (said place.table which place.key) (versions_at place chains))
-    → AreCoded schemas indexes kept chains
-change_over schemas indexes kept chains place said is lag alike =
-    said_alike schemas indexes kept chains said (what_is_there chains) is (λ table which schema k there also v.
+    → TellAlike key.column (said place.table which place.key) (over place.table which place.key))
+    → AreCodedAs schemas indexes kept chains over
+change_over schemas indexes kept chains place beside said over is lag rest alike =
+    said_alike schemas indexes kept chains said over is (λ table which schema k there also v.
     elim (cases_Bool (is_same_place place (at table v))) [
       | inl same ↦
-          let Alike : Place → Type 0 = λ p. slice_get schemas p.table ≡ Some schema → TellAlike k.column (said p.table which p.key) (versions_at p chains) in
+          let Alike : Place → Type 0 =
+          λ p. slice_get schemas p.table ≡ Some schema → TellAlike k.column (said p.table which p.key) (over p.table which p.key) in
           subst Alike (same_place place (at table v) same) (λ is_there. alike which schema k is_there also) there
-      | inr apart ↦ λ value. ap (entry_of k.column value) (lag table which v apart)
+      | inr apart ↦ λ value. ap (entry_of k.column value) (lag table which v apart ∙ sym (rest table which v apart))
     ])

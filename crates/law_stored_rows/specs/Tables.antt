@@ -58,11 +58,15 @@ what_is_there chains table which value = in_table table chains value
 abbrev pub AreCoded : List Schema → (ℕ → List Pair) → (ℕ → Option Kept) → Chains → Type 0
 AreCoded schemas indexes kept chains = AreCodedAs schemas indexes kept chains (what_is_there chains)
 
+-- Of all places but this one the keys say the same.
+abbrev pub SayTheSameBut : Place → Said → Said → Type 0
+SayTheSameBut place said now =
+    (table which : ℕ) (value : Value) → is_same_place place (record { table = table; key = value }) ≡ false
+    → now table which value ≡ said table which value
+
 -- Of all places but this one the keys say what is there.
 abbrev pub LagAt : Place → Chains → Said → Type 0
-LagAt place chains said =
-    (table which : ℕ) (value : Value) → is_same_place place (record { table = table; key = value }) ≡ false
-    → said table which value ≡ in_table table chains value
+LagAt place chains said = SayTheSameBut place (what_is_there chains) said
 
 -- Each key says of the place all values that its versions but the newest have.
 abbrev pub TellsOfOlder : Place → Chains → Said → Type 0
