@@ -1,21 +1,31 @@
 -- What a session's desk shows of it.
 use Rattle.std.proofs.Common.{◌≡◌, ◌≢◌, inl, inr, ℕ, zero, suc, ◌+◌, List, [], ◌∷◌, length, Option, None, Some, refl, sym, ap, ◌∙◌, arith}
-use Rattle.std.specs.Prelude.{◌-◌, IsSome, slice_index_or}
+use Rattle.std.specs.Prelude.{◌-◌, IsSome, slice_index_or, map}
 use Rattle.std.proofs.lemmas.Bool.Decides.{eqb_tells}
-use Rattle.std.proofs.Math.ListN.{get_or-map}
 use Rattle.inno_types.specs.declared.value.Schema.{Schema}
 use Rattle.shared_lists.specs.Tasks as tasks
-use Rattle.shared_lists.specs.State.{Places, Lists, no_places, task_of, places_before}
+use Rattle.shared_lists.specs.{Tasks.Task, State.Places, State.Lists, State.no_places, State.task_of, State.places_before}
 use Rattle.desks.specs.declared.desk.Doing.TheVariants.{Nothing, Searching, Changing, Lagging, Undoing}
 use Rattle.entries.specs.{Pairs.Pair, Index.AreKept}
 use Rattle.row_versions.specs.{Versions.Stays}
 use Rattle.world.specs.{State.WorldState, State.index_of, Told.IsTold, Told.pairs_in, Told.pairs_of}
-use Rattle.desks.specs.{declared.desk.Desk.Desk, declared.desk.Doing.Doing, Desks.fresh_desk, Desks.doing_at, declared.desk.TableSearch.TableSearch}
-use Rattle.desks.specs.{Searching.keys_left, Searching.visit_left, Searching.places_of, Searching.places_from, Shown.shown, Shown.lists_of}
+use Rattle.desks.specs.{declared.desk.Desk.Desk, declared.desk.Doing.Doing, Store.Store, Desks.desk_at, Desks.doing_at, declared.desk.TableSearch.TableSearch}
+use Rattle.desks.specs.{Searching.keys_left, Searching.visit_left, Searching.places_of, Searching.places_from, Desks.doing_in}
+use Rattle.desks.specs.Shown.{shown, task_at, task_shown, lists_of}
 
-pub task_is : (s left : ℕ) (state : WorldState) (writer : Option ℕ) (desks : List Desk)
-    → task_of s (lists_of state writer desks left).state ≡ shown state.schemas left (doing_at s desks)
-task_is s left state writer desks = get_or-map (λ (desk : Desk). shown state.schemas left desk.doing) desks s fresh_desk
+task_there : (s : ℕ) (state : WorldState) (desks : List Desk) → slice_index_or (map (task_shown state) desks) s tasks.Idle ≡ task_at state (desk_at s desks)
+task_there s state [] = refl
+task_there zero state (desk ∷ desks) = refl
+task_there (suc s) state (desk ∷ desks) = task_there s state desks
+
+pub task_is : (s : ℕ) (store : Store) → task_of s (lists_of store).state ≡ task_at store.world (desk_at s store.desks)
+task_is s store = task_there s store.world store.desks
+
+-- tables and kept versions are the same
+pub task_stays : (old new : WorldState) (desk : Option Desk) → new.schemas ≡ old.schemas → new.versions.kept_at ≡ old.versions.kept_at
+    → task_at new desk ≡ task_at old desk
+task_stays old new None schemas kept = refl
+task_stays old new (Some desk) schemas kept = rw (schemas, kept) refl
 
 pub idle_shown : (left : ℕ) (schemas : List Schema) (doing : Doing) → shown schemas left doing ≡ tasks.Idle → doing ≡ Nothing
 idle_shown left schemas Nothing is = refl
@@ -32,9 +42,8 @@ at_number n s state [] number is = refl
 at_number n zero state (desk ∷ desks) number is = ap (λ (t : ℕ). places_of t state desk.doing) (omega (arith, is))
 at_number n (suc s) state (desk ∷ desks) number is = at_number (n + 1) s state desks number (omega (arith, is))
 
-pub places_are : (s left : ℕ) (state : WorldState) (writer : Option ℕ) (desks : List Desk)
-    → places_before s (lists_of state writer desks left).state ≡ places_of s state (doing_at s desks)
-places_are s left state writer desks = at_number 0 s state desks s (omega arith)
+pub places_are : (s : ℕ) (store : Store) → places_before s (lists_of store).state ≡ places_of s store.world (doing_at s store.desks)
+places_are s store = at_number 0 s store.world store.desks s (omega arith)
 
 from_stay : (n : ℕ) (old new : WorldState) (desks : List Desk)
     → ((s number : ℕ) → number ≡ n + s → places_of number new (doing_at s desks) ≡ places_of number old (doing_at s desks))
@@ -46,8 +55,8 @@ from_stay n old new (desk ∷ desks) same =
     = from_stay (n + 1) old new desks (λ s number is. same (suc s) number (omega (arith, is))) in
     λ i. first i ∷ rest i
 
-abbrev seen_with : List Places → Lists → Lists
-seen_with places lists = record lists { state = record lists.state { places = places } }
+abbrev seen_with : List Task → List Places → Lists → Lists
+seen_with tasks places lists = record lists { state = record lists.state { tasks = tasks; places = places } }
 
 -- One session's places in indexes are others, which doesn't search.
 module _ (s : ℕ) (old new : WorldState) (past : new.past ≡ old.past) (pairs : (index : ℕ) → pairs_of new index ≡ pairs_of old index)
@@ -87,16 +96,24 @@ same_pairs old None kept some = absurd (cc)
 same_pairs None (Some new) kept some = absurd kept
 same_pairs (Some old) (Some new) kept some = kept
 
+tasks_stay : (old new : WorldState) (desks : List Desk) → new.schemas ≡ old.schemas → new.versions.kept_at ≡ old.versions.kept_at
+    → map (task_shown new) desks ≡ map (task_shown old) desks
+tasks_stay old new [] schemas kept = refl
+tasks_stay old new (desk ∷ desks) schemas kept = λ i. task_stays old new (Some desk) schemas kept i ∷ tasks_stay old new desks schemas kept i
+
 -- so callers see what they saw
-pub lists_stay : (s left : ℕ) (old new : WorldState) (writer : Option ℕ) (desks : List Desk)
-    → new ≡ record old { indexes = new.indexes; versions = new.versions; paged = new.paged }
-    → ((index : ℕ) → AreKept (old.indexes index).pairs (new.indexes index).pairs)
-    → ((t index : ℕ) → t ≢ s → (new.indexes index).place t ≡ (old.indexes index).place t) → Stays old.versions new.versions → IsTold new
-    → ((on : TableSearch) → doing_at s desks ≡ Searching on → ⊥) → lists_of new writer desks left ≡ lists_of old writer desks left
-lists_stay s left old new writer desks rest pairs places versions told not =
-    let same : places_from 0 new desks ≡ places_from 0 old desks
+pub lists_stay : (s : ℕ) (store : Store) (new : WorldState)
+    → new ≡ record store.world { indexes = new.indexes; versions = new.versions; paged = new.paged }
+    → ((index : ℕ) → AreKept (store.world.indexes index).pairs (new.indexes index).pairs)
+    → ((t index : ℕ) → t ≢ s → (new.indexes index).place t ≡ (store.world.indexes index).place t) → Stays store.world.versions new.versions → IsTold new
+    → ((on : TableSearch) → doing_at s store.desks ≡ Searching on → ⊥) → lists_of (record store { world = new }) ≡ lists_of store
+lists_stay s store new rest pairs places versions told not =
+    let old = store.world in
+    let kept : new.versions.kept_at ≡ old.versions.kept_at = versions.kept told.versions in
+    let places_same : places_from 0 new store.desks ≡ places_from 0 old store.desks
     = places_stay s old new (ap (λ (state : WorldState). state.past) rest)
-    (λ index. same_pairs (old.indexes index).pairs (new.indexes index).pairs (pairs index) (told.pairs index)) (versions.kept told.versions) places desks not
-    in
-    ap (λ (state : WorldState). seen_with (places_from 0 new desks) (lists_of state writer desks left)) rest
-    ∙ ap (λ (p : List Places). seen_with p (lists_of old writer desks left)) same
+    (λ index. same_pairs (old.indexes index).pairs (new.indexes index).pairs (pairs index) (told.pairs index)) kept places store.desks not in
+    let tasks_same : map (task_shown new) store.desks ≡ map (task_shown old) store.desks
+    = tasks_stay old new store.desks (ap (λ (state : WorldState). state.schemas) rest) kept in
+    ap (λ (state : WorldState). seen_with (map (task_shown new) store.desks) (places_from 0 new store.desks) (lists_of (record store { world = state }))) rest
+    ∙ (λ i. seen_with (tasks_same i) (places_same i) (lists_of store))

@@ -1,27 +1,27 @@
--- What holds of the lists between calls.
+-- What holds of a store between calls.
 use Rattle.std.specs.Prelude.{◌≡◌, ◌≢◌, ℕ, ◌+◌, ◌≤◌, ◌^◌, ◌==◌, Bool, true, false, List, [], ◌∷◌, length, slice_get, Option, None, Some, is_some}
 use Rattle.std.specs.FinMap.{get}
 use Rattle.sql_history.specs.Counts.{rows_in, most_rows}
-use Rattle.inno_model.specs.Past.{own, started, under_way, of_item, awaits_ack}
+use Rattle.inno_model.specs.Past.{own, started, under_way, of_item, awaits_ack, IsOpen}
 use Rattle.store_api.specs.declared.answers.Undo.{Undo}
 use Rattle.read_view.specs.Sight.{Sight as ReadSight}
 use Rattle.world.specs.State.{WorldState, Session, Work, Logged, Seen, IsSession, HasWork}
 use Rattle.law_world_agreement.specs.Agreement.{Agrees, sight_of}
 use Rattle.shared_lists.specs.Fitting.{CanBeCoded, FitsThen}
 use Rattle.law_found_rows.specs.Finding.{IsFinding, IsFindingAnew}
-use Rattle.desks.specs.declared.desk.Doing.TheVariants.{Nothing, Searching, Changing, Lagging, Undoing}
+use Rattle.desks.specs.declared.desk.Doing.TheVariants.{Searching, Changing, Lagging, Undoing}
 use Rattle.inno_db.specs.{Database.Database, declared.limits.TheConstants.MOST_TABLES, declared.change.Change.Change}
 use Rattle.inno_model.specs.{declared.event.Event.Event, declared.event.Event.TheVariants.Opened}
 use Rattle.row_versions.specs.{declared.place.Place.Place, Chains.Chains, Chains.in_model, Chains.versions_at}
 use Rattle.law_past_agreement.specs.{Rows.place_in, Agreement.IsOpenedWith}
-use Rattle.world.specs.{declared.undo_room.UndoRoom.UndoRoom, Undoing.read_into}
+use Rattle.world.specs.Undoing.{read_into}
 use Rattle.row_changes.specs.{Told.HasRows, Rows.IsChangingRow, declared.keys_change.KeysChange.KeysChange, declared.row_change.RowChange.RowChange}
 use Rattle.row_changes.specs.{declared.row_change.RowChange.TheVariants.Record, declared.row_change.RowChange.TheVariants.Keys}
 use Rattle.row_search.specs.{declared.sight.Sight.Sight, declared.sight.Sight.TheVariants.View, declared.sight.Sight.TheVariants.Newest}
-use Rattle.undo_apply.specs.{declared.work_room.WorkRoom.WorkRoom, declared.work_room.Stage.TheVariants.Find, Rooms.IsWhole, Stages.IsPuttingBack}
+use Rattle.undo_apply.specs.{declared.work_room.WorkRoom.WorkRoom, Stages.IsPuttingBack}
 use Rattle.law_logged_changes.specs.{Pointers.PointersApart, Logs.LogsAgree}
-use Rattle.desks.specs.{declared.desk.Desk.Desk, declared.desk.Doing.Doing, declared.desk.TableSearch.TableSearch, Desks.desk_at, Desks.doing_at}
-use Rattle.desks.specs.{Desks.is_quiet_doing}
+use Rattle.desks.specs.{declared.desk.Desk.Desk, declared.desk.Doing.Doing, declared.desk.TableSearch.TableSearch, Store.Store, Desks.desk_at, Desks.doing_at}
+use Rattle.desks.specs.Desks.{started_at, is_quiet_doing, HasRooms}
 
 -- each place has few versions: those of this history, and not too many older ones
 abbrev pub AreFew : Chains → List Event → Type 0
@@ -94,15 +94,19 @@ pub record IsGoingBack (chains : Chains) (state : WorldState) (w : ℕ) (undo : 
   pub putting : IsPuttingBack chains place undo room state
 
 abbrev pub RowsHeld : Chains → WorldState → ℕ → Undo → WorkRoom → Doing → Type 0
-RowsHeld chains state w undo room Nothing = HasRows chains state × (room.stage ≡ Find)
-RowsHeld chains state w undo room (Searching on) = HasRows chains state × (room.stage ≡ Find)
-RowsHeld chains state w undo room (Changing change) = IsChangingRow w chains state change × (room.stage ≡ Find) × IsLastIfTold state w change
-RowsHeld chains state w undo room Lagging = IsLagging chains state w × (room.stage ≡ Find)
+RowsHeld chains state w undo room (Changing change) = IsChangingRow w chains state change × IsLastIfTold state w change
+RowsHeld chains state w undo room Lagging = IsLagging chains state w
 RowsHeld chains state w undo room Undoing = IsGoingBack chains state w undo room
+RowsHeld chains state w undo room quiet = HasRows chains state
 
-abbrev pub RowsHeldBy : Option ℕ → Chains → WorldState → List Desk → Undo → WorkRoom → Type 0
-RowsHeldBy None chains state desks undo room = HasRows chains state × (room.stage ≡ Find)
-RowsHeldBy (Some w) chains state desks undo room = RowsHeld chains state w undo room (doing_at w desks)
+-- as the session at this desk holds them
+abbrev pub RowsHeldAt : Chains → WorldState → ℕ → Option Desk → Type 0
+RowsHeldAt chains state w None = HasRows chains state
+RowsHeldAt chains state w (Some desk) = RowsHeld chains state w (read_into desk.undo) desk.room desk.doing
+
+abbrev pub RowsHeldBy : Option ℕ → Chains → WorldState → List Desk → Type 0
+RowsHeldBy None chains state desks = HasRows chains state
+RowsHeldBy (Some w) chains state desks = RowsHeldAt chains state w (desk_at w desks)
 
 -- ---- searches
 
@@ -117,41 +121,47 @@ pub record IsOwnView (state : WorldState) (s : ℕ) (view : ReadSight) (reader :
   pub reader_is : reader ≡ work.id
 
 -- who reads by a view reads by that of its transaction; who reads the newest rows may write
-abbrev pub SightHolds : WorldState → Option ℕ → ℕ → Sight → Type 0
-SightHolds state writer s (View view reader) = IsOwnView state s view reader
-SightHolds state writer s Newest = writer ≡ Some s
+abbrev pub SightHolds : Store → ℕ → Sight → Type 0
+SightHolds store s (View view reader) = IsOwnView store.world s view reader
+SightHolds store s Newest = store.writer ≡ Some s
 
 abbrev pub FindsSince : Bool → ℕ → WorldState → Chains → TableSearch → Type 0
 FindsSince true s state chains on = IsFinding s on.schema state chains on.search
 FindsSince false s state chains on = IsFindingAnew s on.schema state chains on.search
 
 -- the search has found what it came past; where older versions were dropped since, it comes to its pair anew
-pub record IsSearchHeld (chains : Chains) (state : WorldState) (writer : Option ℕ) (cuts s : ℕ) (on : TableSearch) : Type 0 where
-  pub there : slice_get state.schemas on.search.scan.table ≡ Some on.schema
+pub record IsSearchHeld (chains : Chains) (store : Store) (s : ℕ) (on : TableSearch) : Type 0 where
+  pub there : slice_get store.world.schemas on.search.scan.table ≡ Some on.schema
   pub which : on.search.scan.which ≤ length on.schema.keys
-  pub since : on.cuts ≤ cuts
-  pub finds : FindsSince (on.cuts == cuts) s state chains on
-  pub sight : SightHolds state writer s on.search.scan.sight
+  pub since : on.cuts ≤ store.cuts
+  pub finds : FindsSince (on.cuts == store.cuts) s store.world chains on
+  pub sight : SightHolds store s on.search.scan.sight
 
-abbrev pub SearchHeld : Chains → WorldState → Option ℕ → ℕ → ℕ → Doing → Type 0
-SearchHeld chains state writer cuts s (Searching on) = IsSearchHeld chains state writer cuts s on
-SearchHeld chains state writer cuts s other = Unit {0}
+abbrev pub SearchHeld : Chains → Store → ℕ → Doing → Type 0
+SearchHeld chains store s (Searching on) = IsSearchHeld chains store s on
+SearchHeld chains store s other = Unit {0}
 
 -- ---- the whole
 
-pub record IsHeld (state : WorldState) (writer : Option ℕ) (desks : List Desk) (cuts : ℕ) (undo : UndoRoom) (room : WorkRoom) : Type 0 where
+-- Who may write has an open transaction, and who may not has no changes.
+pub record WriterAgrees (past : List Event) (writer : Option ℕ) : Type 0 where
+  pub opened : (s : ℕ) → writer ≡ Some s → IsOpen s past
+  pub clean : (s : ℕ) → writer ≢ Some s → own s past ≡ []
+
+pub record IsHeld (store : Store) : Type 0 where
   pub chains : Chains
-  pub agrees : Agrees chains writer state
-  pub fits : FitsThen state.past
-  pub rows : RowsHeldBy writer chains state desks (read_into undo) room
-  pub quiet : (s : ℕ) → writer ≢ Some s → is_quiet_doing (doing_at s desks) ≡ true
-  pub searches : (s : ℕ) → SearchHeld chains state writer cuts s (doing_at s desks)
-  pub logs : LogsAgree state
-  pub has_room : HasRoom state
-  pub started : (s : ℕ) → started s state.past ≡ (desk_at s desks).started
-  pub count : length desks ≡ length state.names
-  pub few : length state.names ≤ 68
+  pub agrees : Agrees chains store.world
+  pub fits : FitsThen store.world.past
+  pub writes : WriterAgrees store.world.past store.writer
+  pub rows : RowsHeldBy store.writer chains store.world store.desks
+  pub quiet : (s : ℕ) → store.writer ≢ Some s → is_quiet_doing (doing_at s store.desks) ≡ true
+  pub searches : (s : ℕ) → SearchHeld chains store s (doing_at s store.desks)
+  pub logs : LogsAgree store.world
+  pub has_room : HasRoom store.world
+  pub started : (s : ℕ) → started s store.world.past ≡ started_at s store.desks
+  pub rooms : (s : ℕ) (desk : Desk) → desk_at s store.desks ≡ Some desk → HasRooms desk
+  pub count : length store.desks ≡ length store.world.names
+  pub few : length store.world.names ≤ 68
   -- each older version was dropped by a change that was taken back
-  pub cut : cuts ≤ length state.past
-  pub short : AreFew chains state.past
-  pub whole : IsWhole room
+  pub cut : store.cuts ≤ length store.world.past
+  pub short : AreFew chains store.world.past

@@ -1,4 +1,5 @@
 pub mod Desks
+pub mod Store
 pub mod Undoing
 pub mod Searching
 pub mod Shown

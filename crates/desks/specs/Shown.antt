@@ -1,9 +1,8 @@
--- What statements see of a world with its desks.
+-- What statements see of a store.
 use Rattle.std.specs.Prelude.{ℕ, List, Option, Some, None, map, slice_get}
 use Rattle.inno_types.specs.declared.value.Schema.{Schema}
 use Rattle.inno_db.specs.declared.change.Change.{Change}
 use Rattle.world.specs.State.{WorldState, Session}
-use Rattle.undo_apply.specs.declared.work_room.Stage.{Stage}
 use Rattle.row_search.specs.declared.sight.Sight.{Sight}
 use Rattle.row_search.specs.declared.sight.Sight.TheVariants as sights
 use Rattle.shared_lists.specs.Tasks as tasks
@@ -13,7 +12,7 @@ use Rattle.row_changes.specs.{declared.row_change.RowChange.RowChange, declared.
 use Rattle.row_changes.specs.{declared.row_change.RowChange.TheVariants.Keys, Edits.change_of, Rows.row_steps, Rows.table_of}
 use Rattle.shared_lists.specs.{declared.answers.Reading.Reading, declared.answers.Reading.TheVariants.View, declared.answers.Reading.TheVariants.Newest}
 use Rattle.shared_lists.specs.{Tasks.Task}
-use Rattle.desks.specs.{declared.desk.Desk.Desk, declared.desk.Doing.Doing, Undoing.keys_if, Undoing.undo_left_in, Searching.places_from}
+use Rattle.desks.specs.{declared.desk.Desk.Desk, declared.desk.Doing.Doing, Store.Store, Desks.doing_in, Undoing.keys_if, Undoing.left_in, Searching.places_from}
 
 abbrev pub reading_of : Sight → Reading
 reading_of (sights.View view own) = View
@@ -33,25 +32,23 @@ shown schemas left (Changing change) = tasks.Changing (change_in change) (row_st
 shown schemas left Lagging = tasks.Lagging
 shown schemas left Undoing = tasks.Undoing left
 
-abbrev pub tasks_of : List Schema → ℕ → List Desk → List Task
-tasks_of schemas left desks = map (λ (desk : Desk). shown schemas left desk.doing) desks
+abbrev pub task_at : WorldState → Option Desk → Task
+task_at state desk = shown state.schemas (left_in state desk) (doing_in desk)
 
--- so much is left of the change that is being taken back, if one is
-abbrev pub lists_of : WorldState → Option ℕ → List Desk → ℕ → Lists
-lists_of state writer desks left =
+abbrev pub task_shown : WorldState → Desk → Task
+task_shown state desk = task_at state (Some desk)
+
+abbrev pub lists_of : Store → Lists
+lists_of store =
     record {
       state
           = record {
-            names = state.names;
-            past = state.past;
-            writer = writer;
-            tasks = tasks_of state.schemas left desks;
-            places = places_from 0 state desks;
+            names = store.world.names;
+            past = store.world.past;
+            writer = store.writer;
+            tasks = map (task_shown store.world) store.desks;
+            places = places_from 0 store.world store.desks;
           };
-      settings = map (λ (session : Session). session.setting) state.sessions;
-      rows = state.rows;
+      settings = map (λ (session : Session). session.setting) store.world.sessions;
+      rows = store.world.rows;
     }
-
--- what callers see where a change of this table is being taken back so far
-abbrev pub seen_of : ℕ → Stage → WorldState → Option ℕ → List Desk → Lists
-seen_of table stage state writer desks = lists_of state writer desks (undo_left_in table stage state)

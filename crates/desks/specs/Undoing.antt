@@ -3,6 +3,7 @@ use Rattle.std.specs.Prelude.{ℕ, zero, suc, ◌+◌, ◌*◌, ◌^◌, ◌==�
 use Rattle.inno_types.specs.declared.value.Schema.{Schema}
 use Rattle.row_versions.specs.declared.kept.Kept.{Kept}
 use Rattle.world.specs.State.{WorldState}
+use Rattle.desks.specs.declared.desk.Desk.{Desk}
 use Rattle.undo_apply.specs.{declared.work_room.Stage.Stage, declared.work_room.Stage.TheVariants.Walk, Rooms.steps_left}
 
 abbrev pub one_more : Option Kept → (ℕ → ℕ) → ℕ
@@ -29,3 +30,8 @@ most_versions = 2 ^ 63 + 2 ^ 62
 
 abbrev pub undo_left_in : ℕ → Stage → WorldState → ℕ
 undo_left_in table stage state = left_at (keys_if (slice_get state.schemas table)) most_versions state.versions.kept_at stage
+
+-- so much of the change that the session takes back
+abbrev pub left_in : WorldState → Option Desk → ℕ
+left_in state None = 0
+left_in state (Some desk) = undo_left_in desk.undo.table desk.room.stage state

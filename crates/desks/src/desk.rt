@@ -1,11 +1,15 @@
 //! What is kept of each session between its steps.
 
-ghost use Rattle.std.specs.Prelude.{◌≡◌, ◌<◌, length};
-ghost use Rattle.desks.specs.Desks.{with_doing, doing_at};
+ghost use Rattle.std.specs.Prelude.{◌≡◌, ◌<◌, length, IfOk};
+ghost use Rattle.desks.specs.Desks.{with_doing, doing_at, IsNewDesk};
 
 use inno_types::Schema;
 use row_changes::RowChange;
 use row_search::RowSearch;
+use std::alloc::Global;
+use store_api::NoMemory;
+use undo_apply::WorkRoom;
+use world::UndoRoom;
 
 /// What a session has under way with rows.
 #[derive(Drop)]
@@ -35,6 +39,23 @@ pub struct TableSearch {
 pub struct Desk {
     pub started: u32,
     pub doing: Doing,
+    /// The undo record of the change that it takes back, which takes no memory to read, and how far that has come.
+    pub undo: UndoRoom,
+    pub room: WorkRoom,
+}
+
+impl Desk {
+    /// That of a session which has started nothing.
+    pub fn new(alloc: Global) -> Result<Desk, NoMemory>
+        ensures { IfOk result IsNewDesk }
+    {
+        Ok(Desk {
+            started: 0,
+            doing: Doing::Nothing,
+            undo: UndoRoom::new(alloc)?,
+            room: WorkRoom::new(alloc)?,
+        })
+    }
 }
 
 /// Takes what a session has under way, and leaves it nothing.

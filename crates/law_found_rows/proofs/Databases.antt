@@ -46,7 +46,7 @@ module _ (schema : Schema) (table : ℕ) (row_at : Value → Option (List Value)
       All-from_recursion (IsRowOf schema.columns) (rows_of table db)
       (each_row (IsRowOf schema.columns) db table (λ key row is. let h = homes key row (sym (shows key) ∙ is) in row_fits schema row h.at.fits h.at.bits))
 
-module _ (chains : Chains) (writer : Option ℕ) (state : WorldState) (agrees : Agrees chains writer state) (table : ℕ) where
+module _ (chains : Chains) (state : WorldState) (agrees : Agrees chains state) (table : ℕ) where
   -- by the view of an open transaction
   pub view_shows : (s n : ℕ) (session : Session) (work : Work) (view : Seen) → HasWork s session work state → work.view ≡ Some view
       → view_of s state.past ≡ Some n
@@ -54,14 +54,14 @@ module _ (chains : Chains) (writer : Option ℕ) (state : WorldState) (agrees : 
       (changed (with_all_tables state.past) (seen state.past s n))
   view_shows s n session work view has is at key =
       seen_is state.past s n (at_key table key) agrees.lists.ordered
-      ∙ sym (seen_by_view chains writer state agrees s n session work view (at_key table key) has is at)
+      ∙ sym (seen_by_view chains state agrees s n session work view (at_key table key) has is at)
 
   -- without one, while one session alone has changes
   pub newest_shows : (w : ℕ) → ((u : ℕ) → u ≢ w → own u state.past ≡ [])
       → ShowsDatabase table (rows_seen sights.Newest (in_table table chains)) (changed (with_all_tables state.past) (seen state.past w (commits state.past)))
   newest_shows w alone key =
       seen_is state.past w (commits state.past) (at_key table key) agrees.lists.ordered
-      ∙ (sym (latest state.past w (at_key table key) (newest (in_table table chains key)) alone (seen_newest chains writer state agrees (at_key table key)))
+      ∙ (sym (latest state.past w (at_key table key) (newest (in_table table chains key)) alone (seen_newest chains state agrees (at_key table key)))
       ∙ sym (newest_seen (in_table table chains key)))
 
 pub homes_of : (schema : Schema) (kept : ℕ → Option Kept) (pairs : List Pair) (chains : Chains) (table : ℕ) (sight : Sight)
@@ -71,8 +71,8 @@ homes_of schema kept pairs chains table sight is value row seen = home schema ke
 
 -- ---- in a world
 
-module _ (chains : Chains) (writer : Option ℕ) (state : WorldState) (table : ℕ) (schema : Schema) (kept : ℕ → Option Kept) (pairs : List Pair)
-    (agrees : Agrees chains writer state) (clustered : IsClustered schema kept pairs (in_table table chains)) where
+module _ (chains : Chains) (state : WorldState) (table : ℕ) (schema : Schema) (kept : ℕ → Option Kept) (pairs : List Pair)
+    (agrees : Agrees chains state) (clustered : IsClustered schema kept pairs (in_table table chains)) where
   module _ (s n : ℕ) (session : Session) (work : Work) (view : Seen) (has : HasWork s session work state) (is : work.view ≡ Some view)
       (at : view_of s state.past ≡ Some n) where
     abbrev view_rows : Value → Option (List Value)
@@ -84,7 +84,7 @@ module _ (chains : Chains) (writer : Option ℕ) (state : WorldState) (table : �
     pub found_by_view : (which : ℕ) (passes : List Value → Bool) (rows : List FoundRow) → AreFound schema which view_rows passes rows → RiseByKey rows
         → map (λ (found : FoundRow). found.row) rows ≡ filter passes (rows_of table view_database)
     found_by_view =
-        found_are schema table view_rows view_database (view_shows chains writer state agrees table s n session work view has is at)
+        found_are schema table view_rows view_database (view_shows chains state agrees table s n session work view has is at)
         (homes_of schema kept pairs chains table (sights.View (sight_of view) work.id) clustered)
 
   module _ (w : ℕ) (alone : (u : ℕ) → u ≢ w → own u state.past ≡ []) where
@@ -97,5 +97,5 @@ module _ (chains : Chains) (writer : Option ℕ) (state : WorldState) (table : �
     pub found_newest : (which : ℕ) (passes : List Value → Bool) (rows : List FoundRow) → AreFound schema which newest_rows passes rows → RiseByKey rows
         → map (λ (found : FoundRow). found.row) rows ≡ filter passes (rows_of table newest_database)
     found_newest =
-        found_are schema table newest_rows newest_database (newest_shows chains writer state agrees table w alone)
+        found_are schema table newest_rows newest_database (newest_shows chains state agrees table w alone)
         (homes_of schema kept pairs chains table sights.Newest clustered)

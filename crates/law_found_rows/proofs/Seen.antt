@@ -82,20 +82,20 @@ module _ (t s : ℕ) (old new : List Event) (ordered : IsOrdered old) (differ : 
 
 -- ---- in a world
 
-pub same_rows : (before after : Chains) (writer later : Option ℕ) (old new : WorldState) (s t table : ℕ) (session session_now : Session)
+pub same_rows : (before after : Chains) (old new : WorldState) (s t table : ℕ) (session session_now : Session)
     (work work_now : Work) (view : Seen)
-    → Agrees before writer old → Agrees after later new → HasWork s session work old → HasWork s session_now work_now new
+    → Agrees before old → Agrees after new → HasWork s session work old → HasWork s session_now work_now new
     → work.view ≡ Some view → work_now.view ≡ Some view → work_now.id ≡ work.id → t ≢ s → AddsAtMostOne t old.past new.past
     → (value : Value) → rows_seen (sights.View (sight_of view) work.id) (in_table table after) value ≡ rows_seen (sights.View (sight_of view) work.id)
     (in_table table before) value
-same_rows before after writer later old new s t table session session_now work work_now view was agrees had has is is_now same_id differ adds value =
+same_rows before after old new s t table session session_now work work_now view was agrees had has is is_now same_id differ adds value =
     let v : ViewAgrees old.past s (Some (sight_of view)) =
-    subst (λ o. ViewAgrees old.past s (option_map sight_of o)) is (work_of before writer old s session work was had).view_is in
+    subst (λ o. ViewAgrees old.past s (option_map sight_of o)) is (work_of before old s session work was had).view_is in
     let n = v.0 in
     let at : view_of s old.past ≡ Some n = v.1.is-view in
     let place : Place = at_key table value in
     let at_now : view_of s new.past ≡ Some n = view_stays t s old.past new.past was.lists.ordered differ adds ∙ at in
     ap (λ id. first_seen (sees id (sight_of view)) (in_table table after value)) (sym same_id)
-    ∙ (seen_by_view after later new agrees s n session_now work_now view place has is_now at_now
+    ∙ (seen_by_view after new agrees s n session_now work_now view place has is_now at_now
     ∙ (row_stays t s old.past new.past was.lists.ordered differ n place (view_within old.past s n at) adds
-    ∙ sym (seen_by_view before writer old was s n session work view place had is at)))
+    ∙ sym (seen_by_view before old was s n session work view place had is at)))

@@ -8,7 +8,6 @@ use Rattle.row_versions.specs.Chains.{Chains}
 use Rattle.law_stored_rows.specs.Tables.{Said, what_is_there, in_table}
 use Rattle.row_changes.specs.Told.{AreRowsAs}
 use Rattle.law_logged_changes.proofs.ReadersLeft.{rows_left}
-use Rattle.undo_apply.specs.declared.work_room.WorkRoom.{WorkRoom}
 use Rattle.shared_lists.specs.Steps.{AreRowsSeen, AreNewestRows, rows_in_range}
 use Rattle.law_held_steps.specs.Newest.{plan_read, TellsTable, IsReadingNewest, AreRead, left_in}
 use Rattle.law_held_steps.proofs.Places.{none_moves, moves_then, moves_in_one, moves_nothing, leaving_moves, moves_leave, moves_told}
@@ -16,30 +15,32 @@ use Rattle.law_held_steps.proofs.Stepping.{columns_held, new_finding, few_held, 
 use Rattle.inno_types.specs.{declared.value.Schema.Schema, declared.value.Value.Value, declared.stmt.Range.Range, Ranges.is_within}
 use Rattle.sql_plan.specs.{declared.choice.Plan.Plan, Plans.whole_index, Visits.index_key}
 use Rattle.law_past_agreement.specs.{Rows.seen, DatabaseTables.with_all_tables}
-use Rattle.world.specs.{State.WorldState, Told.IsTold, Told.pairs_of, Undoing.read_into, declared.undo_room.UndoRoom.UndoRoom}
+use Rattle.world.specs.{State.WorldState, Told.IsTold, Told.pairs_of}
 use Rattle.row_search.specs.{declared.found.FoundRow.FoundRow, declared.scan.Scan.Scan, declared.search.RowSearch.RowSearch, declared.sight.Sight.Sight}
 use Rattle.row_search.specs.{declared.sight.Sight.TheVariants.Newest, FoundRows.AreFound, Ranges.lies_in, Sights.rows_seen, Steps.IsSameScan, Steps.GoesOn}
 use Rattle.row_search.specs.{Steps.Waits, Steps.Ends, Tables.ShowsRows}
 use Rattle.law_found_rows.proofs.{Finding.goes_on, Finding.waits_on, Showing.shows_coded, Showing.shows_clustered, Databases.found_newest}
-use Rattle.desks.specs.{declared.desk.Desk.Desk, Desks.is_quiet, Holding.IsHeld}
+use Rattle.desks.specs.{Store.Store, Desks.is_quiet, Holding.IsHeld}
 use Rattle.law_held_steps.specs.{Begun.IsScanOf, Begun.IsNewSearch, Moving.MovesPlaces, TakenUp.MayStep}
 use Rattle.law_held_steps.proofs.{Shows.HasSome, Shows.some_rows_by, Shows.coded_while_quiet, Nearing.steps_nearer, Nearing.nearer_in, AnyStep.some_same}
 
-module _ {state : WorldState} {writer : Option ℕ} {desks : List Desk} {cuts : ℕ} {undo : UndoRoom} {room : WorkRoom} (table : ℕ) (plan : Plan)
-    (schema : Schema) (held : IsHeld state writer desks cuts undo room) where
+module _ {store : Store} (table : ℕ) (plan : Plan) (schema : Schema) (held : IsHeld store) where
+  abbrev state : WorldState
+  state = store.world
+
   module _ (told : IsTold state) (there : slice_get state.schemas table ≡ Some schema) (le : plan.which ≤ length schema.keys) where
-    tells_by : (quiet : Bool) → is_quiet writer desks ≡ quiet → TellsTable held.chains table (plan_read quiet plan) schema state
+    tells_by : (quiet : Bool) → is_quiet store.writer store.desks ≡ quiet → TellsTable held.chains table (plan_read quiet plan) schema state
     tells_by true is = record {
       there = there;
       columns = columns_held table held told there;
       which = le;
       said = what_is_there held.chains;
-      coded = coded_while_quiet held.chains told writer desks (read_into undo) room is held.rows;
+      coded = coded_while_quiet held.chains told store.writer store.desks is held.rows;
       tells = inl refl;
       short = few_held held;
     }
     tells_by false is =
-        let rows : HasSome held.chains state = some_rows_by held.chains told writer desks (read_into undo) room held.rows in
+        let rows : HasSome held.chains state = some_rows_by held.chains told store.writer store.desks held.rows in
         record {
           there = there;
           columns = columns_held table held told there;
@@ -50,8 +51,8 @@ module _ {state : WorldState} {writer : Option ℕ} {desks : List Desk} {cuts : 
           short = few_held held;
         }
 
-    pub tells_held : TellsTable held.chains table (plan_read (is_quiet writer desks) plan) schema state
-    tells_held = tells_by (is_quiet writer desks) refl
+    pub tells_held : TellsTable held.chains table (plan_read (is_quiet store.writer store.desks) plan) schema state
+    tells_held = tells_by (is_quiet store.writer store.desks) refl
 
   module _ (rows : List FoundRow) where
     abbrev only_rows : List (List Value)
@@ -60,7 +61,7 @@ module _ {state : WorldState} {writer : Option ℕ} {desks : List Desk} {cuts : 
     seen_by : (by : Plan) → AreRead held.chains table by schema state rows → (w : ℕ) → ((u : ℕ) → u ≢ w → own u state.past ≡ [])
         → AreRowsSeen table by state.past w (commits state.past) only_rows
     seen_by by are w alone other is =
-        found_newest held.chains writer state table schema state.versions.kept_at (pairs_of state _) held.agrees (are.readable.coded.clustered.tables table
+        found_newest held.chains state table schema state.versions.kept_at (pairs_of state _) held.agrees (are.readable.coded.clustered.tables table
         schema are.readable.there) w alone by.which (λ row. is_within by.range (index_key schema by.which row)) rows are.found are.rise
         ∙ ap (λ (t : Schema). rows_in_range by t (rows_of table (changed (with_all_tables state.past) (seen state.past w (commits state.past)))))
         (some_same schema other (sym are.readable.there ∙ (ap (λ (tables : List Schema). slice_get tables table) held.agrees.lists.tables ∙ is)))
@@ -70,9 +71,9 @@ module _ {state : WorldState} {writer : Option ℕ} {desks : List Desk} {cuts : 
     newest_by true are w alone = inl (seen_by plan are w alone)
     newest_by false are w alone = inr (seen_by whole_index are w alone)
 
-    pub are_newest : AreRead held.chains table (plan_read (is_quiet writer desks) plan) schema state rows → (w : ℕ)
+    pub are_newest : AreRead held.chains table (plan_read (is_quiet store.writer store.desks) plan) schema state rows → (w : ℕ)
         → ((u : ℕ) → u ≢ w → own u state.past ≡ []) → AreNewestRows table plan state.past w only_rows
-    are_newest = newest_by (is_quiet writer desks)
+    are_newest = newest_by (is_quiet store.writer store.desks)
 
 module _ (chains : Chains) (s table : ℕ) (plan : Plan) (schema : Schema) where
   pub reading_begins : {state : WorldState} {search : RowSearch} → TellsTable chains table plan schema state → IsNewSearch table plan Newest search

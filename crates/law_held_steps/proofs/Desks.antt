@@ -1,18 +1,36 @@
--- Desks of which one has something else to do.
-use Rattle.std.proofs.Common.{◌≡◌, ◌≢◌, ◌⊎◌, inl, inr, ℕ, zero, suc, ◌<◌, List, [], ◌∷◌, length, set, refl, sym, ap, ◌∙◌, arith}
-use Rattle.std.proofs.lemmas.List.{length-set, set-get_or, get_or-set_same, get_or-set_other}
+-- Desks of which one is another.
+use Rattle.std.proofs.Common.{◌≡◌, ◌≢◌, ◌⊎◌, inl, inr, ℕ, zero, suc, ◌<◌, true, false, subst, List, [], ◌∷◌, length, Option, Some, None, option_map, refl, sym, ap, ◌∙◌, arith}
 use Rattle.row_changes.specs.declared.row_change.RowChange.{RowChange}
 use Rattle.desks.specs.{declared.desk.Desk.Desk, declared.desk.Doing.Doing, declared.desk.Doing.TheVariants.Nothing, declared.desk.Doing.TheVariants.Changing}
-use Rattle.desks.specs.{Desks.fresh_desk, Desks.desk_at, Desks.doing_at, Desks.with_doing}
+use Rattle.desks.specs.declared.desk.Doing.TheVariants.{Undoing}
+use Rattle.desks.specs.Desks.{desk_at, doing_in, doing_at, started_at, with_desk, with_doing, HasRooms, is_undoing, is_quiet_doing}
+
+pub desk_here : (s : ℕ) (change : Desk → Desk) (desks : List Desk) → desk_at s (with_desk s change desks) ≡ option_map change (desk_at s desks)
+desk_here s change [] = refl
+desk_here zero change (desk ∷ desks) = refl
+desk_here (suc s) change (desk ∷ desks) = desk_here s change desks
+
+pub desk_elsewhere : (s u : ℕ) (change : Desk → Desk) (desks : List Desk) → u ≢ s → desk_at u (with_desk s change desks) ≡ desk_at u desks
+desk_elsewhere s u change [] differs = refl
+desk_elsewhere zero zero change (desk ∷ desks) differs = absurd (differs refl)
+desk_elsewhere zero (suc u) change (desk ∷ desks) differs = refl
+desk_elsewhere (suc s) zero change (desk ∷ desks) differs = refl
+desk_elsewhere (suc s) (suc u) change (desk ∷ desks) differs = desk_elsewhere s u change desks (λ same. differs (ap suc same))
+
+pub as_many : (s : ℕ) (change : Desk → Desk) (desks : List Desk) → length (with_desk s change desks) ≡ length desks
+as_many s change [] = refl
+as_many zero change (desk ∷ desks) = refl
+as_many (suc s) change (desk ∷ desks) = ap suc (as_many s change desks)
+
+-- ---- one has something else to do
 
 pub doing_here : (s : ℕ) (doing : Doing) (desks : List Desk) → s < length desks → doing_at s (with_doing s doing desks) ≡ doing
-doing_here s doing desks within = ap (λ (desk : Desk). desk.doing) (get_or-set_same desks s (record (desk_at s desks) { doing = doing }) fresh_desk within)
-
-pub desk_elsewhere : (s u : ℕ) (doing : Doing) (desks : List Desk) → u ≢ s → desk_at u (with_doing s doing desks) ≡ desk_at u desks
-desk_elsewhere s u doing desks differs = get_or-set_other desks s u (record (desk_at s desks) { doing = doing }) fresh_desk differs
+doing_here s doing [] within = absurd (omega (arith, within))
+doing_here zero doing (desk ∷ desks) within = refl
+doing_here (suc s) doing (desk ∷ desks) within = doing_here s doing desks (omega (arith, within))
 
 pub doing_elsewhere : (s u : ℕ) (doing : Doing) (desks : List Desk) → u ≢ s → doing_at u (with_doing s doing desks) ≡ doing_at u desks
-doing_elsewhere s u doing desks differs = ap (λ (desk : Desk). desk.doing) (desk_elsewhere s u doing desks differs)
+doing_elsewhere s u doing desks differs = ap doing_in (desk_elsewhere s u (λ desk. record desk { doing = doing }) desks differs)
 
 -- a desk that isn't there has nothing
 pub doing_mine : (s : ℕ) (doing : Doing) (desks : List Desk)
@@ -22,15 +40,10 @@ doing_mine zero doing (desk ∷ desks) = inl refl
 doing_mine (suc s) doing (desk ∷ desks) = doing_mine s doing desks
 
 -- each has started what it had
-pub started_still : (s u : ℕ) (doing : Doing) (desks : List Desk) → (desk_at u (with_doing s doing desks)).started ≡ (desk_at u desks).started
-started_still s u doing [] = refl
-started_still zero zero doing (desk ∷ desks) = refl
-started_still zero (suc u) doing (desk ∷ desks) = refl
-started_still (suc s) zero doing (desk ∷ desks) = refl
-started_still (suc s) (suc u) doing (desk ∷ desks) = started_still s u doing desks
-
-pub as_many : (s : ℕ) (doing : Doing) (desks : List Desk) → length (with_doing s doing desks) ≡ length desks
-as_many s doing desks = length-set desks s (record (desk_at s desks) { doing = doing })
+pub started_still : (s : ℕ) (doing : Doing) (desks : List Desk) → started_at s (with_doing s doing desks) ≡ started_at s desks
+started_still s doing [] = refl
+started_still zero doing (desk ∷ desks) = refl
+started_still (suc s) doing (desk ∷ desks) = started_still s doing desks
 
 -- what was given before is forgotten
 pub doing_twice : (s : ℕ) (first second : Doing) (desks : List Desk) → with_doing s second (with_doing s first desks) ≡ with_doing s second desks
@@ -38,8 +51,10 @@ doing_twice s first second [] = refl
 doing_twice zero first second (desk ∷ desks) = refl
 doing_twice (suc s) first second (desk ∷ desks) = ap (λ ds. desk ∷ ds) (doing_twice s first second desks)
 
-pub doing_stays : (s : ℕ) (desks : List Desk) → doing_at s desks ≡ Nothing → with_doing s Nothing desks ≡ desks
-doing_stays s desks is = ap (λ (doing : Doing). set desks s (record (desk_at s desks) { doing = doing })) (sym is) ∙ set-get_or desks s fresh_desk
+pub doing_stays : (s : ℕ) (doing : Doing) (desks : List Desk) → doing_at s desks ≡ doing → with_doing s doing desks ≡ desks
+doing_stays s doing [] is = refl
+doing_stays zero doing (desk ∷ desks) is = ap (λ (d : Doing). record desk { doing = d } ∷ desks) (sym is)
+doing_stays (suc s) doing (desk ∷ desks) is = ap (λ ds. desk ∷ ds) (doing_stays s doing desks is)
 
 -- who has something under way has a desk
 pub busy_at_a_desk : (s : ℕ) (desks : List Desk) → (doing_at s desks ≢ Nothing) → s < length desks
@@ -50,21 +65,84 @@ busy_at_a_desk (suc s) (desk ∷ desks) busy = let below = busy_at_a_desk s desk
 pub changes_at_a_desk : (s : ℕ) {change : RowChange} (desks : List Desk) → doing_at s desks ≡ Changing change → s < length desks
 changes_at_a_desk s {change} desks is = busy_at_a_desk s desks (λ none. let e : Changing change ≡ Nothing = sym is ∙ none in cc)
 
--- The session has this to do now; the others' desks, and how many items it has started, are as they were.
+pub there : (s : ℕ) (desks : List Desk) → s < length desks → (desk : Desk) × (desk_at s desks ≡ Some desk)
+there s [] within = absurd (omega (arith, within))
+there zero (desk ∷ desks) within = (desk, refl)
+there (suc s) (desk ∷ desks) within = there s desks (omega (arith, within))
+
+-- The session has this to do now; the others' desks, how many items it has started and its rooms are as they were.
 pub record GivesDoing (s : ℕ) (doing : Doing) (old new : List Desk) : Type 0 where
-  pub here : doing_at s new ≡ doing
+  pub here : (desk : Desk) → desk_at s old ≡ Some desk → desk_at s new ≡ Some (record desk { doing = doing })
+  pub doing_is : doing_at s new ≡ doing
   pub others : (t : ℕ) → t ≢ s → desk_at t new ≡ desk_at t old
-  pub started : (desk_at s new).started ≡ (desk_at s old).started
+  pub started : started_at s new ≡ started_at s old
   pub count : length new ≡ length old
 
 pub given : (s : ℕ) (doing : Doing) (desks : List Desk) → s < length desks → GivesDoing s doing desks (with_doing s doing desks)
 given s doing desks joined = record {
-  here = doing_here s doing desks joined;
-  others = λ t differs. desk_elsewhere s t doing desks differs;
-  started = started_still s s doing desks;
-  count = as_many s doing desks;
+  here = λ desk at. desk_here s (λ d. record d { doing = doing }) desks ∙ ap (option_map (λ (d : Desk). record d { doing = doing })) at;
+  doing_is = doing_here s doing desks joined;
+  others = λ t differs. desk_elsewhere s t (λ d. record d { doing = doing }) desks differs;
+  started = started_still s doing desks;
+  count = as_many s (λ d. record d { doing = doing }) desks;
 }
 
 -- it goes on with what it does
 pub kept_on : (s : ℕ) (doing : Doing) (desks : List Desk) → doing_at s desks ≡ doing → GivesDoing s doing desks desks
-kept_on s doing desks is = record { here = is; others = λ t differs. refl; started = refl; count = refl }
+kept_on s doing desks is = record {
+  here = λ desk at. at ∙ (let same : desk.doing ≡ doing = sym (ap doing_in at) ∙ is in ap (λ (d : Doing). Some (record desk { doing = d })) same);
+  doing_is = is;
+  others = λ t differs. refl;
+  started = refl;
+  count = refl;
+}
+
+-- ---- rooms
+
+-- who takes nothing back has the rooms that it had
+pub rooms_given : (desk : Desk) (doing : Doing) → HasRooms desk → is_undoing desk.doing ≡ false → HasRooms (record desk { doing = doing })
+rooms_given desk doing has not = record { record_room = has.record_room; whole = has.whole; anew = λ is. has.anew not }
+
+pub rooms_then : (s : ℕ) (doing : Doing) (desks : List Desk) → ((desk : Desk) → desk_at s desks ≡ Some desk → HasRooms desk)
+    → is_undoing (doing_at s desks) ≡ false → (desk : Desk) → desk_at s (with_doing s doing desks) ≡ Some desk → HasRooms desk
+rooms_then s doing [] rooms not desk at = rooms desk at
+rooms_then zero doing (first ∷ desks) rooms not desk at =
+    let same : record first { doing = doing } ≡ desk = (let e : Some (record first { doing = doing }) ≡ Some desk = at in cc) in
+    subst HasRooms same (rooms_given first doing (rooms first refl) not)
+rooms_then (suc s) doing (first ∷ desks) rooms not desk at = rooms_then s doing desks rooms not desk at
+
+pub quiet_undoes_not : (doing : Doing) → is_quiet_doing doing ≡ true → is_undoing doing ≡ false
+quiet_undoes_not Undoing is = absurd (cc)
+quiet_undoes_not other is = refl
+
+-- ---- one session's desk was this, and is that now
+
+pub record IsGiven (s : ℕ) (was now : Desk) (old new : List Desk) : Type 0 where
+  pub before : desk_at s old ≡ Some was
+  pub here : desk_at s new ≡ Some now
+  pub others : (t : ℕ) → t ≢ s → desk_at t new ≡ desk_at t old
+  pub started : now.started ≡ was.started
+  pub count : length new ≡ length old
+
+pub is_given : (s : ℕ) (change : Desk → Desk) {was : Desk} (desks : List Desk) → desk_at s desks ≡ Some was → (change was).started ≡ was.started
+    → IsGiven s was (change was) desks (with_desk s change desks)
+is_given s change desks at same = record {
+  before = at;
+  here = desk_here s change desks ∙ ap (option_map change) at;
+  others = λ t differs. desk_elsewhere s t change desks differs;
+  started = same;
+  count = as_many s change desks;
+}
+
+pub given_then : {s : ℕ} {first second third : Desk} {old mid new : List Desk} → IsGiven s first second old mid → IsGiven s second third mid new
+    → IsGiven s first third old new
+given_then one two = record {
+  before = one.before;
+  here = two.here;
+  others = λ t differs. two.others t differs ∙ one.others t differs;
+  started = two.started ∙ one.started;
+  count = two.count ∙ one.count;
+}
+
+pub busy_desk : (s : ℕ) (desks : List Desk) → doing_at s desks ≢ Nothing → (desk : Desk) × (desk_at s desks ≡ Some desk)
+busy_desk s desks busy = there s desks (busy_at_a_desk s desks busy)

@@ -11,36 +11,45 @@ use Rattle.world.specs.State.{WorldState, Session, Work, IsSession, HasWork, Log
 use Rattle.law_world_agreement.specs.Agreement.{Agrees}
 use Rattle.entries.specs.Pairs.{Pair}
 use Rattle.row_changes.specs.declared.keys_change.KeysChange.{KeysChange}
-use Rattle.undo_apply.specs.declared.work_room.WorkRoom.{WorkRoom}
 use Rattle.shared_lists.specs.Fitting.{FitsThen}
-use Rattle.desks.specs.Holding.{AreFew, IsHeld, IsLast, IsLastOf, RowsHeld, SearchHeld}
+use Rattle.desks.specs.Holding.{AreFew, IsHeld, IsLast, IsLastOf, RowsHeld, RowsHeldBy, SearchHeld}
 use Rattle.inno_model.specs.{declared.event.Event.Event, declared.event.Event.TheVariants.Changed}
 use Rattle.inno_types.specs.{declared.lock.Level.Level, declared.value.Schema.Schema}
 use Rattle.row_versions.specs.{Chains.Chains, declared.place.Place.Place}
 use Rattle.law_past_agreement.specs.{Slots.fresh, Agreement.SlotAgrees, Agreement.IsIdle, Rows.place_in}
 use Rattle.law_world_agreement.proofs.{Settled.slot_if, Settled.slot_at, Opening.idle_of}
-use Rattle.world.specs.{Told.IsTold, Undoing.read_into, declared.undo_room.UndoRoom.UndoRoom}
+use Rattle.world.specs.{Told.IsTold, Undoing.read_into}
 use Rattle.row_changes.proofs.{Sessions.one_session, Ids.one_work}
 use Rattle.law_logged_changes.specs.{GoingOn.StaysOpen, GoingOn.KeepsBeside, Logs.LogsAgree}
-use Rattle.desks.specs.{declared.desk.Desk.Desk, declared.desk.Doing.Doing, Desks.with_doing, Leaves.LeavesOthers}
+use Rattle.desks.specs.{declared.desk.Desk.Desk, declared.desk.Doing.Doing, Store.Store, Leaves.Does}
+use Rattle.desks.specs.Desks.{doing_at, with_doing, is_undoing}
 use Rattle.law_held_steps.specs.{Making.LeavesLists, Leaving.is_searching}
-use Rattle.law_held_steps.proofs.{AnyStep.each, AnyStep.waits_not, AnyStep.past_grows, AnyStep.held_after, Desks.given, Left.no_search}
+use Rattle.law_held_steps.proofs.{AnyStep.each, AnyStep.waits_not, AnyStep.past_grows, AnyStep.held_after, AnyStep.rows_by_writer}
+use Rattle.law_held_steps.proofs.{Desks.GivesDoing, Desks.given, Desks.there, Desks.rooms_then, Left.no_search}
 
 -- it has started or ended no item, and no commit of its own waits for its acknowledgement that didn't
 pub record GoesOnBy (s : ℕ) (old new : List Event) : Type 0 where
   pub adds : AddsAtMostOne s old new
   pub started_is : started s new ≡ started s old
   pub under_way_is : under_way s new ≡ under_way s old
+  pub open_is : IsOpen s old → IsOpen s new
   pub awaits : awaits_ack (of_item s new) ≡ true → awaits_ack (of_item s old) ≡ true
 
 pub goes_same : {s : ℕ} {old new : List Event} → new ≡ old → GoesOnBy s old new
-goes_same {s} {old} same = subst (GoesOnBy s old) (sym same) (record { adds = inl refl; started_is = refl; under_way_is = refl; awaits = λ is. is })
+goes_same {s} {old} same = subst (GoesOnBy s old) (sym same) (record {
+  adds = inl refl;
+  started_is = refl;
+  under_way_is = refl;
+  open_is = λ is. is;
+  awaits = λ is. is;
+})
 
 pub goes_changed : {s : ℕ} {change : Change} {old new : List Event} → new ≡ Changed s change ∷ old → GoesOnBy s old new
 goes_changed {s} {change} {old} is = subst (GoesOnBy s old) (sym is) (record {
   adds = inr (Changed s change, eq-eqb s s refl, refl);
   started_is = refl;
   under_way_is = refl;
+  open_is = λ is. is;
   awaits = λ waits. absurd (waits_not s (Changed s change ∷ of_item s old) old waits refl);
 })
 
@@ -51,10 +60,10 @@ HasOpen s state = (session : Session) × (work : Work) × HasWork s session work
 open_or_not : (found : Option Level) → is_some found ≡ true → found ≡ None → ⊥
 open_or_not found is none = cc
 
-module _ {chains : Chains} {writer : Option ℕ} {state : WorldState} (agrees : Agrees chains writer state) (s : ℕ) where
+module _ {chains : Chains} {state : WorldState} (agrees : Agrees chains state) (s : ℕ) where
   work_there : IsOpen s state.past → (session : Session) → IsSession s session state → (work : Option Work) → session.work ≡ work → HasOpen s state
   work_there is_open session there None none =
-      let idle = idle_of chains writer state s session agrees there none in absurd (open_or_not (level s state.past) is_open idle.level_is)
+      let idle = idle_of chains state s session agrees there none in absurd (open_or_not (level s state.past) is_open idle.level_is)
   work_there is_open session there (Some work) is = (session, work, record { session_is = there; work_is = is })
 
   session_there : IsOpen s state.past → (found : Option Session) → slice_get state.sessions s ≡ found → HasOpen s state
@@ -82,11 +91,13 @@ same_settings (x ∷ xs) (y ∷ ys) count each =
     ap (λ s. s ∷ map (λ (session : Session). session.setting) xs) (each 0 x y refl refl)
     ∙ ap (λ rest. y.setting ∷ rest) (same_settings xs ys (omega (arith, count)) (λ t a b first second. each (suc t) a b first second))
 
-module _ {s : ℕ} {desks : List Desk} {cuts : ℕ} {undo : UndoRoom} {room : WorkRoom} {old new : WorldState}
-    (held : IsHeld old (Some s) desks cuts undo room) (beside : KeepsBeside s old new) where
+module _ {s : ℕ} {store : Store} {new : WorldState} (held : IsHeld store) (mine : store.writer ≡ Some s) (beside : KeepsBeside s store.world new) where
+  abbrev old : WorldState
+  old = store.world
+
   -- who may write has a transaction, and has it still
   pub was_open : HasOpen s old
-  was_open = open_work held.agrees s held.agrees.lists.writes.0
+  was_open = open_work held.agrees s (held.writes.opened s mine)
 
   pub stays_open : StaysOpen s was_open.0 was_open.1 old new
   stays_open = beside.own was_open.0 was_open.1 was_open.2
@@ -130,26 +141,38 @@ module _ {s : ℕ} {desks : List Desk} {cuts : ℕ} {undo : UndoRoom} {room : Wo
     key_is = is.key_is ∙ sym key;
   }
 
-  module _ (goes : GoesOnBy s old.past new.past) {after : Chains} (agrees : Agrees after (Some s) new) (told : IsTold old) where
-    leaves_others : LeavesOthers s held.chains after (Some s) (Some s) cuts cuts old new
-    leaves_others = record {
+  module _ (goes : GoesOnBy s old.past new.past) {after : Chains} (agrees : Agrees after new) (told : IsTold old) (doing : Doing)
+      (within : s < length store.desks) where
+    abbrev then_held : Store
+    then_held = record store { world = new; desks = with_doing s doing store.desks }
+
+    gives : GivesDoing s doing store.desks (with_doing s doing store.desks)
+    gives = given s doing store.desks within
+
+    does : Does s held.chains after store then_held
+    does = record {
       agreed = held.agrees;
       agrees = agrees;
       adds = goes.adds;
       told = told;
       tables = λ n schema there. ap (λ (xs : List Schema). slice_get xs n) beside.schemas ∙ there;
       sessions = beside.others;
+      desks = gives.others;
       places = λ u index differs. ap (λ (place : ℕ → Option Pair). place u) (beside.places index);
       rights = λ u differs is. is;
-      changes = inr refl;
+      back = λ u differs is. is;
+      changes = inr mine;
       kept = inl (refl, beside.kept);
     }
 
-    pub keeps : (doing : Doing) → s < length desks → is_searching doing ≡ false → FitsThen new.past → LogsAgree new → RowsHeld after new s (read_into undo) room
-        doing → AreFew after new.past → IsHeld new (Some s) (with_doing s doing desks) cuts undo room
-    keeps doing within searches_not fits logs rows short =
-        let gives = given s doing desks within in
-        held_after held leaves_others gives.others (record {
+    rows_then : ((desk : Desk) → RowsHeld after new s (read_into desk.undo) desk.room doing)
+        → RowsHeldBy store.writer after new (with_doing s doing store.desks)
+    rows_then rows = let was = there s store.desks within in rows_by_writer s after new mine (gives.here was.0 was.1) (rows was.0)
+
+    pub keeps : is_undoing (doing_at s store.desks) ≡ false → is_searching doing ≡ false → FitsThen new.past → LogsAgree new
+        → ((desk : Desk) → RowsHeld after new s (read_into desk.undo) desk.room doing) → AreFew after new.past → IsHeld then_held
+    keeps not searches_not fits logs rows short =
+        held_after held does (record {
           replies = λ session there busy. sym (ap (λ (z : Session). z.can_reply) (is_now session there)) ∙ stays_open.can_reply ∙ held.has_room.replies s
               was_open.0 was_open.2.session_is (sym (ap is_some (goes.under_way_is)) ∙ busy);
           acks = λ session there waits. sym (ap (λ (z : Session). z.can_ack) (is_now session there)) ∙ stays_open.can_ack ∙ held.has_room.acks s was_open.0
@@ -157,8 +180,11 @@ module _ {s : ℕ} {desks : List Desk} {cuts : ℕ} {undo : UndoRoom} {room : Wo
           ends = λ session work has. sym (ap (λ (w : Work). w.can_end) (one_work s stays_open.session_now session stays_open.work_now work new stays_open.has
               has)) ∙ stays_open.can_end ∙ held.has_room.ends s was_open.0 was_open.1 was_open.2;
           started = goes.started_is ∙ held.started s ∙ sym gives.started;
-          quiet = λ other. absurd (other refl);
-          search = subst (SearchHeld after new (Some s) cuts s) (sym gives.here) (no_search after new (Some s) cuts s doing searches_not);
-        }) fits (subst (RowsHeld after new s (read_into undo) room) (sym gives.here) rows) logs (gives.count ∙ held.count ∙ ap length (sym beside.names))
+          opened = λ is. goes.open_is (held.writes.opened s is);
+          clean = λ other. absurd (other mine);
+          quiet = λ other. absurd (other mine);
+          search = subst (SearchHeld after then_held s) (sym gives.doing_is) (no_search after then_held s doing searches_not);
+          rooms = rooms_then s doing store.desks (held.rooms s) not;
+        }) fits (rows_then rows) logs (gives.count ∙ held.count ∙ ap length (sym beside.names))
         (subst (λ (names : List (List ℕ)). length names ≤ 68) (sym beside.names) held.few)
-        (omega (arith, held.cut, past_grows s old.past new.past goes.adds)) short held.whole
+        (omega (arith, held.cut, past_grows s old.past new.past goes.adds)) short

@@ -1,18 +1,17 @@
 -- Indexes that a session leaves.
 use Rattle.std.proofs.Common.{◌≡◌, ◌≢◌, ⊎_elim, ℕ, ◌<◌, ◌≤◌, false, length, Option, Some, None, refl, sym, ap, subst, ◌∙◌, ◌+◌, arith}
-use Rattle.std.specs.Prelude.{slice_get, List}
+use Rattle.std.specs.Prelude.{slice_get}
 use Rattle.std.proofs.lemmas.Bool.{cases_eq}
 use Rattle.inno_types.specs.declared.value.Schema.{Schema}
 use Rattle.entries.specs.Calls.{Leaves}
 use Rattle.row_versions.specs.Chains.{Chains}
-use Rattle.undo_apply.specs.declared.work_room.WorkRoom.{WorkRoom}
 use Rattle.row_changes.specs.Awaited.{IsOfTable}
 use Rattle.law_held_steps.proofs.Places.{left_over, none_moves, moves_then, leaving_moves, moves_leave, moves_told}
-use Rattle.law_held_steps.proofs.AnyStep.{rows_left, held_beside}
-use Rattle.world.specs.{State.WorldState, State.index_of, Indexes.Calls, Told.IsTold, Undoing.read_into, declared.undo_room.UndoRoom.UndoRoom}
+use Rattle.law_held_steps.proofs.AnyStep.{rows_left_at, held_beside}
+use Rattle.world.specs.{State.WorldState, State.index_of, Indexes.Calls, Told.IsTold}
 use Rattle.law_logged_changes.proofs.{ReadersLeft.has_rows_left, Leaving.all_left, Leaving.rows_leave, GoingOn.logs_beside, GoingOn.own_beside}
 use Rattle.law_logged_changes.proofs.{GoingOn.agrees_beside}
-use Rattle.desks.specs.{declared.desk.Desk.Desk, declared.desk.Doing.Doing, declared.desk.Doing.TheVariants.Searching, Desks.doing_at, Holding.IsHeld}
+use Rattle.desks.specs.{declared.desk.Doing.Doing, declared.desk.Doing.TheVariants.Searching, Store.Store, Desks.desk_at, Desks.doing_at, Holding.IsHeld}
 use Rattle.desks.specs.{Holding.RowsHeldBy, Holding.SearchHeld}
 use Rattle.law_held_steps.specs.{Leaving.LeavesIndexes, Leaving.LeavesTable, Leaving.is_searching}
 
@@ -51,22 +50,20 @@ all_gone s table count schema old new there all below = record { gone = go }
         below.gone index by of_table.which (omega (arith, within, all)) of_table.number is
 
 -- a session that searches for nothing
-pub no_search : (chains : Chains) (state : WorldState) (writer : Option ℕ) (cuts s : ℕ) (doing : Doing) → is_searching doing ≡ false
-    → SearchHeld chains state writer cuts s doing
-no_search chains state writer cuts s (Searching on) none = absurd (cc)
-no_search chains state writer cuts s other none = record {}
+pub no_search : (chains : Chains) (store : Store) (s : ℕ) (doing : Doing) → is_searching doing ≡ false → SearchHeld chains store s doing
+no_search chains store s (Searching on) none = absurd (cc)
+no_search chains store s other none = record {}
 
-module _ {s : ℕ} {writer : Option ℕ} {old new : WorldState} (leaves : LeavesIndexes s old new) where
-  pub held_left : {desks : List Desk} {cuts : ℕ} {undo : UndoRoom} {room : WorkRoom} → IsHeld old writer desks cuts undo room
-      → is_searching (doing_at s desks) ≡ false → IsTold new → IsHeld new writer desks cuts undo room
-  held_left {desks} {cuts} {undo} {room} held none told =
+module _ {s : ℕ} {store : Store} {new : WorldState} (leaves : LeavesIndexes s store.world new) where
+  pub held_left : IsHeld store → is_searching (doing_at s store.desks) ≡ false → IsTold new → IsHeld (record store { world = new })
+  held_left held none told =
       let rows = moves_leave leaves in
-      held_beside s held leaves.rest leaves.versions (moves_told leaves told) told leaves.places desks (λ u differs. refl) refl refl
-      (held.quiet s) (no_search held.chains new writer cuts s (doing_at s desks) none) (rows_by writer held.rows)
-      (all_left old new (rows_leave old new rows) (logs_beside old new leaves.rest) held.logs) held.whole
+      held_beside s held store.desks leaves.rest leaves.versions (moves_told leaves told) told leaves.places (λ u differs. refl) refl refl
+      (held.quiet s) (no_search held.chains (record store { world = new }) s (doing_at s store.desks) none) (held.rooms s) (rows_by store.writer held.rows)
+      (all_left store.world new (rows_leave store.world new rows) (logs_beside store.world new leaves.rest) held.logs)
     where
-      rows_by : (by : Option ℕ) → RowsHeldBy by held.chains old desks (read_into undo) room → RowsHeldBy by held.chains new desks (read_into undo) room
-      rows_by None is = (has_rows_left old new (moves_leave leaves) held.chains is.0, is.1)
+      rows_by : (by : Option ℕ) → RowsHeldBy by held.chains store.world store.desks → RowsHeldBy by held.chains new store.desks
+      rows_by None is = has_rows_left store.world new (moves_leave leaves) held.chains is
       rows_by (Some w) is =
-          rows_left w (moves_leave leaves) (agrees_beside leaves.rest held.agrees)
-          (ap (λ (state : WorldState). slice_get state.sessions w) leaves.rest) (own_beside w old new leaves.rest) (read_into undo) room (doing_at w desks) is
+          rows_left_at w (moves_leave leaves) (agrees_beside leaves.rest held.agrees)
+          (ap (λ (state : WorldState). slice_get state.sessions w) leaves.rest) (own_beside w store.world new leaves.rest) (desk_at w store.desks) is

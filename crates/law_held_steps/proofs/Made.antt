@@ -6,14 +6,13 @@ use Rattle.std.specs.Prelude.{slice_get, IsSomeAnd}
 use Rattle.law_stored_rows.specs.Fitting.{IsKeyFor, FitsTable}
 use Rattle.row_changes.specs.Rows.{primary_of, table_of, place_of, row_steps, IsChangingRow, ChangesRow}
 use Rattle.law_past_agreement.specs.Order.{created}
-use Rattle.undo_apply.specs.declared.work_room.WorkRoom.{WorkRoom}
-use Rattle.desks.specs.Holding.{IsHeld, RowsHeld, SearchHeld, AreFew, IsLastOf}
+use Rattle.desks.specs.Holding.{IsHeld, RowsHeld, SearchHeld, AreFew, IsLastOf, IsLastIfTold}
 use Rattle.law_held_steps.proofs.Keeping.{open_work, open_joined, goes_same, goes_changed, leaves_lists, last_of_kept, keeps}
 use Rattle.law_found_rows.proofs.FittingChanges.{tables_storable}
 use Rattle.law_world_agreement.specs.Agreement.{Agrees}
 use Rattle.law_logged_changes.proofs.Listed.{begun as begun_row}
 use Rattle.inno_types.specs.{declared.value.Schema.Schema, declared.value.Value.Value}
-use Rattle.world.specs.{State.WorldState, Undoing.read_into, declared.undo_room.UndoRoom.UndoRoom, Told.IsTold}
+use Rattle.world.specs.{State.WorldState, Undoing.read_into, Told.IsTold}
 use Rattle.row_changes.specs.{declared.row_edit.RowEdit.RowEdit, declared.row_edit.RowEdit.TheVariants.Put, declared.row_edit.RowEdit.TheVariants.Remove}
 use Rattle.row_changes.specs.{Edits.change_of, Edits.FitsEdit, Edits.rows_put, declared.record_change.RecordChange.RecordChange}
 use Rattle.row_changes.specs.{declared.keys_change.KeysChange.KeysChange, declared.row_change.RowChange.RowChange}
@@ -23,13 +22,15 @@ use Rattle.row_changes.specs.{declared.reached.Reached.TheVariants.Hindered}
 use Rattle.shared_lists.specs.{Fitting.FitsWell, Fitting.FitsThen, Steps.rows_of_change}
 use Rattle.law_held_steps.specs.{Beginning.IsEditable, Beginning.IsKeyOfEdit, Beginning.begun, Leaving.is_searching, Making.doing_after, Making.Comes}
 use Rattle.law_held_steps.specs.{Making.MakesChange}
-use Rattle.inno_model.specs.{Past.IsOpen, Past.own, declared.event.Event.TheVariants.Changed}
+use Rattle.inno_model.specs.{Past.IsOpen, Past.own, Past.started, declared.event.Event.TheVariants.Changed}
 use Rattle.desks.specs.{declared.desk.Desk.Desk, declared.desk.Doing.Doing, declared.desk.Doing.TheVariants.Nothing, declared.desk.Doing.TheVariants.Changing}
-use Rattle.desks.specs.{Desks.doing_at, Desks.with_doing, Desks.is_quiet_doing, Undoing.keys_if}
-use Rattle.law_held_steps.proofs.{Desks.given, Desks.started_still, Desks.changes_at_a_desk, AnyStep.each, Putting.rows_mine}
+use Rattle.desks.specs.{Store.Store, Desks.desk_at, Desks.doing_in, Desks.doing_at, Desks.started_in, Desks.started_at, Desks.with_doing}
+use Rattle.desks.specs.{Desks.is_quiet_doing, Desks.is_undoing, Desks.HasRooms, Undoing.keys_if}
+use Rattle.law_held_steps.proofs.{Desks.given, Desks.there, Desks.rooms_then, Desks.changes_at_a_desk, AnyStep.each, AnyStep.quiet_rows_at}
+use Rattle.law_held_steps.proofs.{AnyStep.rows_by_writer, Putting.rows_mine, Putting.changing_rows, Putting.alone_if}
 use Rattle.row_versions.specs.{declared.place.Place.Place, declared.version.Version.Version, Chains.Chains, Chains.versions_at, Chains.is_same_place}
 use Rattle.row_versions.specs.{Chains.Pushes}
-use Rattle.law_logged_changes.specs.{GoingOn.KeepsBeside, GoingOn.StaysAgreed, GoingOn.EntersAgreed, GoingOn.EndsAgreed, Logs.LogsAgree}
+use Rattle.law_logged_changes.specs.{GoingOn.KeepsBeside, GoingOn.StaysAgreed, GoingOn.EntersAgreed, GoingOn.EndsAgreed, Logs.LogsAgree, Logs.IsAlone}
 use Rattle.law_logged_changes.proofs.{Entering.goes_on, Entering.place_there, Logging.change_logged, Crossing.row_all}
 
 some_there : (found : Option Schema) (P : Schema → Type 0) → IsSomeAnd found P → (schema : Schema) × (found ≡ Some schema) × P schema
@@ -71,8 +72,10 @@ edit_fits schemas table schema (Remove value) key there fits =
 
 -- ---- a change begins
 
-module _ {state : WorldState} {s : ℕ} {desks : List Desk} {cuts : ℕ} {undo : UndoRoom} {room : WorkRoom}
-    (held : IsHeld state (Some s) desks cuts undo room) where
+module _ {store : Store} {s : ℕ} (held : IsHeld store) where
+  abbrev state : WorldState
+  state = store.world
+
   fits_here : (table : ℕ) (edit : RowEdit) → FitsWell (created state.past) (change_of table edit) → FitsWell state.schemas (change_of table edit)
   fits_here table edit fits = subst (λ (tables : List Schema). FitsWell tables (change_of table edit)) (sym held.agrees.lists.tables) fits
 
@@ -88,44 +91,52 @@ module _ {state : WorldState} {s : ℕ} {desks : List Desk} {cuts : ℕ} {undo :
         of_kind = found.2.of_kind;
       }
 
-  -- who may write has something else under way, while the world is what it was
-  pub turned : (doing : Doing) → s < length desks → RowsHeld held.chains state s (read_into undo) room doing
-      → SearchHeld held.chains state (Some s) cuts s doing → IsHeld state (Some s) (with_doing s doing desks) cuts undo room
-  turned doing within rows search =
-      let gives = given s doing desks within in
-      record {
-        chains = held.chains;
-        agrees = held.agrees;
-        fits = held.fits;
-        rows = subst (RowsHeld held.chains state s (read_into undo) room) (sym gives.here) rows;
-        quiet = each s (λ u. Some s ≢ Some u → is_quiet_doing (doing_at u (with_doing s doing desks)) ≡ true) (λ other. absurd (other refl))
-            (λ u differs other. ap (λ (desk : Desk). is_quiet_doing desk.doing) (gives.others u differs) ∙ held.quiet u other);
-        searches = each s (λ u. SearchHeld held.chains state (Some s) cuts u (doing_at u (with_doing s doing desks)))
-            (subst (SearchHeld held.chains state (Some s) cuts s) (sym gives.here) search) (λ u differs.
-            subst (λ (desk : Desk). SearchHeld held.chains state (Some s) cuts u desk.doing) (sym (gives.others u differs)) (held.searches u));
-        logs = held.logs;
-        has_room = held.has_room;
-        started = λ u. held.started u ∙ sym (started_still s u doing desks);
-        count = gives.count ∙ held.count;
-        few = held.few;
-        cut = held.cut;
-        short = held.short;
-        whole = held.whole;
-      }
+  module _ (mine : store.writer ≡ Some s) where
+    -- who may write has something else under way, while the world is what it was
+    pub turned : (doing : Doing) → s < length store.desks → is_undoing (doing_at s store.desks) ≡ false
+        → ((desk : Desk) → RowsHeld held.chains state s (read_into desk.undo) desk.room doing)
+        → SearchHeld held.chains (record store { desks = with_doing s doing store.desks }) s doing
+        → IsHeld (record store { desks = with_doing s doing store.desks })
+    turned doing within not rows search =
+        let gives = given s doing store.desks within in
+        let was = there s store.desks within in
+        let now : Store = record store { desks = with_doing s doing store.desks } in
+        record {
+          chains = held.chains;
+          agrees = held.agrees;
+          fits = held.fits;
+          writes = held.writes;
+          rows = rows_by_writer s held.chains state mine (gives.here was.0 was.1) (rows was.0);
+          quiet = each s (λ u. store.writer ≢ Some u → is_quiet_doing (doing_at u now.desks) ≡ true) (λ other. absurd (other mine))
+              (λ u differs other. ap (λ desk. is_quiet_doing (doing_in desk)) (gives.others u differs) ∙ held.quiet u other);
+          searches = each s (λ u. SearchHeld held.chains now u (doing_at u now.desks))
+              (subst (SearchHeld held.chains now s) (sym gives.doing_is) search) (λ u differs.
+              subst (λ desk. SearchHeld held.chains now u (doing_in desk)) (sym (gives.others u differs)) (held.searches u));
+          logs = held.logs;
+          has_room = held.has_room;
+          started = each s (λ u. started u state.past ≡ started_at u now.desks) (held.started s ∙ sym gives.started)
+              (λ u differs. held.started u ∙ ap started_in (sym (gives.others u differs)));
+          rooms = each s (λ u. (desk : Desk) → desk_at u now.desks ≡ Some desk → HasRooms desk) (rooms_then s doing store.desks (held.rooms s) not)
+              (λ u differs desk at. held.rooms u desk (sym (gives.others u differs) ∙ at));
+          count = gives.count ∙ held.count;
+          few = held.few;
+          cut = held.cut;
+          short = held.short;
+        }
 
-  pub begins : (table : ℕ) (schema : Schema) (edit : RowEdit) (key : List ℕ) → doing_at s desks ≡ Nothing → IsOpen s state.past
-      → FitsWell (created state.past) (change_of table edit) → slice_get state.schemas table ≡ Some schema → IsKeyOfEdit schema edit key
-      → IsHeld state (Some s) (with_doing s (Changing (begun table edit key)) desks) cuts undo room
-  begins table schema edit key nothing is_open fits there spelled =
-      let rows = rows_mine s held refl nothing in
-      let has = open_work held.agrees s is_open in
-      let storable =
-      tables_storable state.past held.fits table schema (ap (λ (tables : List Schema). slice_get tables table) (sym held.agrees.lists.tables) ∙ there) in
-      let within : s < length desks = omega (arith, open_joined held.agrees s is_open, held.count) in
-      let changing =
-      begun_row held.chains (Some s) state s table has.0 has.1 schema edit key held.agrees rows.0 has.2 (record { there = there; storable = storable })
-      (fits_edit state.schemas table schema edit key there (fits_here table edit fits) spelled) in
-      turned (Changing (begun table edit key)) within (changing, rows.1, record {}) (record {})
+    pub begins : (table : ℕ) (schema : Schema) (edit : RowEdit) (key : List ℕ) → doing_at s store.desks ≡ Nothing → IsOpen s state.past
+        → FitsWell (created state.past) (change_of table edit) → slice_get state.schemas table ≡ Some schema → IsKeyOfEdit schema edit key
+        → IsHeld (record store { desks = with_doing s (Changing (begun table edit key)) store.desks })
+    begins table schema edit key nothing is_open fits there spelled =
+        let rows = quiet_rows_at held.chains state s (desk_at s store.desks) (ap is_quiet_doing nothing) (rows_mine s held mine) in
+        let has = open_work held.agrees s is_open in
+        let storable =
+        tables_storable state.past held.fits table schema (ap (λ (tables : List Schema). slice_get tables table) (sym held.agrees.lists.tables) ∙ there) in
+        let within : s < length store.desks = omega (arith, open_joined held.agrees s is_open, held.count) in
+        let changing =
+        begun_row held.chains state s table has.0 has.1 schema edit key held.agrees rows has.2 (record { there = there; storable = storable })
+        (fits_edit state.schemas table schema edit key there (fits_here table edit fits) spelled) in
+        turned (Changing (begun table edit key)) within (ap is_undoing nothing) (λ desk. (changing, record {})) (record {})
 
 rows_more : (table : ℕ) (edit : RowEdit) → rows_put edit ≡ rows_of_change (Some (change_of table edit))
 rows_more table (Put row) = refl
@@ -151,23 +162,30 @@ nears_by old new change next schema same table there less =
     (sym (ap (λ (s : List Schema). keys_if (slice_get s (table_of next))) same ∙ (ap (λ n. keys_if (slice_get old.schemas n)) table ∙ was)))
     (subst (λ k. row_steps (length schema.keys) next < row_steps k change) (sym was) less)
 
-module _ {s : ℕ} {desks : List Desk} {cuts : ℕ} {undo : UndoRoom} {room : WorkRoom} {old new : WorldState}
-    (held : IsHeld old (Some s) desks cuts undo room) (was : IsTold old) (told : IsTold new) (few : length new.past < 2 ^ 63)
-    (within : s < length desks) where
+module _ {s : ℕ} {store : Store} {new : WorldState} (held : IsHeld store) (mine : store.writer ≡ Some s) (was : IsTold store.world) (told : IsTold new)
+    (few : length new.past < 2 ^ 63) (within : s < length store.desks) (not : is_undoing (doing_at s store.desks) ≡ false) where
+  abbrev old : WorldState
+  old = store.world
+
+  -- nobody else has changes
+  alone : IsAlone s old
+  alone = alone_if held mine
+
   logs_now : (change : RowChange) (reached : Reached RowChange) → IsChangingRow s held.chains old change → ChangesRow s held.chains old new change reached
       → LogsAgree new
-  logs_now change reached p c = row_all s held.chains old new change reached p c held.agrees.lists.writes.1 held.logs
+  logs_now change reached p c = row_all s held.chains old new change reached p c alone held.logs
 
   -- where nothing is added
   still : (change : RowChange) (reached : Reached RowChange) (beside : KeepsBeside s old new) → IsChangingRow s held.chains old change
-      → ChangesRow s held.chains old new change reached → new.past ≡ old.past → Agrees held.chains (Some s) new
-      → is_searching (doing_after change reached) ≡ false → RowsHeld held.chains new s (read_into undo) room (doing_after change reached)
-      → Comes s old new change reached → MakesChange s desks cuts undo room old new change reached
+      → ChangesRow s held.chains old new change reached → new.past ≡ old.past → Agrees held.chains new
+      → is_searching (doing_after change reached) ≡ false
+      → ((desk : Desk) → RowsHeld held.chains new s (read_into desk.undo) desk.room (doing_after change reached)) → Comes s old new change reached
+      → MakesChange s store new change reached
   still change reached beside p c past agrees quiet rows comes = record {
     held =
-        keeps held beside (goes_same past) agrees was (doing_after change reached) within quiet
+        keeps held mine beside (goes_same past) agrees was (doing_after change reached) within not quiet
         (subst FitsThen (sym past) held.fits) (logs_now change reached p c) rows (subst (AreFew held.chains) (sym past) held.short);
-    leaves = leaves_lists held beside;
+    leaves = leaves_lists held mine beside;
     comes = comes;
   }
 
@@ -197,23 +215,23 @@ module _ {s : ℕ} {desks : List Desk} {cuts : ℕ} {undo : UndoRoom} {room : Wo
         key_is = logged.key_is ∙ sym c.0.3;
       }
 
-  pub makes : (change : RowChange) (reached : Reached RowChange) → RowsHeld held.chains old s (read_into undo) room (Changing change)
-      → ChangesRow s held.chains old new change reached → MakesChange s desks cuts undo room old new change reached
-  makes (Record change key after) (Went (Record next key' after')) rows c =
+  pub makes : (change : RowChange) (reached : Reached RowChange) → IsChangingRow s held.chains old change → IsLastIfTold old s change
+      → ChangesRow s held.chains old new change reached → MakesChange s store new change reached
+  makes (Record change key after) (Went (Record next key' after')) row last c =
       let a : StaysAgreed s held.chains old new (Record next key' after') =
-      goes_on s held.chains old new (Record change key after) (Went (Record next key' after')) held.agrees rows.0 c told few in
-      let p = rows.0.0 in
-      still (Record change key after) (Went (Record next key' after')) a.beside rows.0 c a.past a.agrees refl (a.changing, rows.1, record {}) (record {
+      goes_on s held.chains old new (Record change key after) (Went (Record next key' after')) held.agrees alone row c told few in
+      let p = row.0 in
+      still (Record change key after) (Went (Record next key' after')) a.beside row c a.past a.agrees refl (λ desk. (a.changing, record {})) (record {
         adds = record { past = a.past; rows = a.rows };
         change_is = ap Some (ap (λ n. change_of n next.edit) c.0.0.table_is ∙ ap (change_of change.table) c.0.0.edit_is);
         nears =
             nears_by old new (Record change key after) (Record next key' after') p.schema a.beside.schemas c.0.0.table_is p.table.there
             (c.1 p.schema p.table.there);
       })
-  makes (Record change key after) (Went (Keys next)) rows c =
+  makes (Record change key after) (Went (Keys next)) row last c =
       let a : EntersAgreed s held.chains old new change next =
-      goes_on s held.chains old new (Record change key after) (Went (Keys next)) held.agrees rows.0 c told few in
-      let p = rows.0.0 in
+      goes_on s held.chains old new (Record change key after) (Went (Keys next)) held.agrees alone row c told few in
+      let p = row.0 in
       let entry = change_of change.table change.edit in
       let fits : FitsThen (Changed s entry ∷ old.past) = (
         edit_fits (created old.past) change.table p.schema change.edit change.key
@@ -223,44 +241,44 @@ module _ {s : ℕ} {desks : List Desk} {cuts : ℕ} {undo : UndoRoom} {room : Wo
       let longer : length new.past ≡ 1 + length old.past = omega (arith, ap length a.past) in
       record {
         held =
-            keeps held a.beside (goes_changed a.past) a.agrees was (Changing (Keys next)) within refl (subst FitsThen (sym a.past) fits)
-            (logs_now (Record change key after) (Went (Keys next)) rows.0 c) (a.changing, rows.1, last_logged change key after next rows.0 c a.beside.schemas)
+            keeps held mine a.beside (goes_changed a.past) a.agrees was (Changing (Keys next)) within not refl (subst FitsThen (sym a.past) fits)
+            (logs_now (Record change key after) (Went (Keys next)) row c) (λ desk. (a.changing, last_logged change key after next row c a.beside.schemas))
             (λ place. let pushed = pushed_short held.chains a.after _ _ (length old.past + 2 ^ 62) a.pushes.pushes held.short
             place in omega (arith, longer, pushed));
-        leaves = leaves_lists held a.beside;
+        leaves = leaves_lists held mine a.beside;
         comes = record { entry = entry; was = refl; is = refl; past = a.past; rows = a.rows ∙ ap (λ n. old.rows + n) (rows_more change.table change.edit) };
       }
-  makes (Record change key after) Done rows c = absurd c
-  makes (Record change key after) (Hindered same why) rows c =
-      let given = goes_on s held.chains old new (Record change key after) (Hindered same why) held.agrees rows.0 c told few in
+  makes (Record change key after) Done row last c = absurd c
+  makes (Record change key after) (Hindered same why) row last c =
+      let given = goes_on s held.chains old new (Record change key after) (Hindered same why) held.agrees alone row c told few in
       let a : StaysAgreed s held.chains old new same = given.1 in
       let p : IsChangingRow s held.chains new (Record change key after) = subst (IsChangingRow s held.chains new) c.0 a.changing in
-      still (Record change key after) (Hindered same why) a.beside rows.0 c a.past a.agrees refl (p.1, rows.1) (record { past = a.past; rows = a.rows }, c.0)
-  makes (Keys change) (Went (Record next key after)) rows c = absurd c.0
-  makes (Keys change) (Went (Keys next)) rows c =
-      let a : StaysAgreed s held.chains old new (Keys next) = goes_on s held.chains old new (Keys change) (Went (Keys next)) held.agrees rows.0 c told few in
-      let p = rows.0 in
-      still (Keys change) (Went (Keys next)) a.beside rows.0 c a.past a.agrees refl
-      (a.changing, rows.1, last_of_kept held a.beside next a.past c.0.table_is c.0.key_is rows.2) (record {
+      still (Record change key after) (Hindered same why) a.beside row c a.past a.agrees refl (λ desk. p.1) (record { past = a.past; rows = a.rows }, c.0)
+  makes (Keys change) (Went (Record next key after)) row last c = absurd c.0
+  makes (Keys change) (Went (Keys next)) row last c =
+      let a : StaysAgreed s held.chains old new (Keys next) = goes_on s held.chains old new (Keys change) (Went (Keys next)) held.agrees alone row c told few in
+      let p = row in
+      still (Keys change) (Went (Keys next)) a.beside row c a.past a.agrees refl
+      (λ desk. (a.changing, last_of_kept held mine a.beside next a.past c.0.table_is c.0.key_is last)) (record {
         adds = record { past = a.past; rows = a.rows };
         change_is = refl;
         nears = nears_by old new (Keys change) (Keys next) p.schema a.beside.schemas c.0.table_is p.table.there (c.1 p.schema p.table.there);
       })
-  makes (Keys change) Done rows c =
-      let a : EndsAgreed s held.chains old new = goes_on s held.chains old new (Keys change) Done held.agrees rows.0 c told few in
-      still (Keys change) Done a.beside rows.0 c a.past a.agrees refl (a.coded, rows.1) (record { past = a.past; rows = a.rows }, refl)
-  makes (Keys change) (Hindered same why) rows c =
-      let given = goes_on s held.chains old new (Keys change) (Hindered same why) held.agrees rows.0 c told few in
+  makes (Keys change) Done row last c =
+      let a : EndsAgreed s held.chains old new = goes_on s held.chains old new (Keys change) Done held.agrees alone row c told few in
+      still (Keys change) Done a.beside row c a.past a.agrees refl (λ desk. a.coded) (record { past = a.past; rows = a.rows }, refl)
+  makes (Keys change) (Hindered same why) row last c =
+      let given = goes_on s held.chains old new (Keys change) (Hindered same why) held.agrees alone row c told few in
       let a : StaysAgreed s held.chains old new same = given.1 in
       let p : IsChangingRow s held.chains new (Keys change) = subst (IsChangingRow s held.chains new) c.0 a.changing in
-      still (Keys change) (Hindered same why) a.beside rows.0 c a.past a.agrees refl
-      (record { change = change; changing = p; newest = last_of_kept held a.beside change a.past refl refl rows.2 }, rows.1)
+      still (Keys change) (Hindered same why) a.beside row c a.past a.agrees refl
+      (λ desk. record { change = change; changing = p; newest = last_of_kept held mine a.beside change a.past refl refl last })
       (record { past = a.past; rows = a.rows }, c.0)
 
-pub change_made : {s : ℕ} {desks : List Desk} {cuts : ℕ} {undo : UndoRoom} {room : WorkRoom} {old new : WorldState} {change : RowChange}
-    {reached : Reached RowChange} → IsHeld old (Some s) desks cuts undo room → doing_at s desks ≡ Changing change
-    → ((chains : Chains) → IsChangingRow s chains old change → ChangesRow s chains old new change reached) → IsTold old → IsTold new → length new.past < 2 ^
-    63 → MakesChange s desks cuts undo room old new change reached
-change_made {s} {desks} {change = change} {reached = reached} held at changes was told few =
-    let rows = rows_mine s held refl at in
-    makes held was told few (changes_at_a_desk s desks at) change reached rows (changes held.chains rows.0)
+pub change_made : {s : ℕ} {store : Store} {new : WorldState} {change : RowChange} {reached : Reached RowChange} → IsHeld store → store.writer ≡ Some s
+    → doing_at s store.desks ≡ Changing change
+    → ((chains : Chains) → IsChangingRow s chains store.world change → ChangesRow s chains store.world new change reached) → IsTold store.world → IsTold new
+    → length new.past < 2 ^ 63 → MakesChange s store new change reached
+change_made {s} {store} {change = change} {reached = reached} held mine at changes was told few =
+    let rows = changing_rows s held mine at in
+    makes held mine was told few (changes_at_a_desk s store.desks at) (ap is_undoing at) change reached rows.0 rows.1 (changes held.chains rows.0)

@@ -6,15 +6,14 @@ use Rattle.row_versions.specs.Versions.{Versions, Stays}
 use Rattle.row_changes.proofs.Sessions.{same_pairs, same_versions}
 use Rattle.world.proofs.Stores.{store_stays, store_goes_on}
 use Rattle.row_search.specs.Steps.{OnlyMoves}
-use Rattle.law_held_steps.proofs.AnyStep.{each, quiet_step, others_beside, held_beside}
-use Rattle.undo_apply.specs.declared.work_room.WorkRoom.{WorkRoom}
-use Rattle.law_held_steps.proofs.Desks.{desk_elsewhere, started_still, doing_mine, as_many, doing_stays}
+use Rattle.law_held_steps.proofs.AnyStep.{each, quiet_step, does_beside, held_beside}
+use Rattle.law_held_steps.proofs.Desks.{desk_elsewhere, started_still, doing_mine, as_many, doing_stays, rooms_then, quiet_undoes_not}
 use Rattle.entries.specs.{Pairs.Pair, Index.AreKept, Calls.Leaves, Calls.released}
-use Rattle.world.specs.{State.WorldState, Told.IsTold, Told.LeavesRows, Indexes.Calls, Undoing.IsUnchanged, declared.undo_room.UndoRoom.UndoRoom}
+use Rattle.world.specs.{State.WorldState, Told.IsTold, Told.LeavesRows, Indexes.Calls, Undoing.IsUnchanged}
 use Rattle.law_logged_changes.proofs.{ReadersLeft.left_told, Leaving.rows_leave, Leaving.all_left, GoingOn.logs_beside}
 use Rattle.law_held_steps.specs.{Moving.MovesPlaces}
 use Rattle.desks.specs.{declared.desk.Desk.Desk, declared.desk.Doing.Doing, declared.desk.Doing.TheVariants.Nothing, Desks.doing_at, Desks.with_doing}
-use Rattle.desks.specs.{Desks.is_quiet_doing, Holding.SearchHeld, Holding.IsHeld}
+use Rattle.desks.specs.{Desks.is_quiet_doing, Store.Store, Holding.SearchHeld, Holding.IsHeld}
 
 kept_same : {old new : Option (List Pair)} → new ≡ old → AreKept old new
 kept_same {old} same = subst (AreKept old) (sym same) (same_pairs old)
@@ -99,23 +98,26 @@ moves_leave moves = record { schemas = ap (λ (state : WorldState). state.schema
 pub moves_told : {s : ℕ} {old new : WorldState} → MovesPlaces s old new → IsTold new → IsTold old
 moves_told {old} {new} moves = left_told old new (moves_leave moves)
 
-module _ {s : ℕ} {old new : WorldState} (moves : MovesPlaces s old new) where
-  pub held_stays : {writer : Option ℕ} {desks : List Desk} {cuts : ℕ} {undo : UndoRoom} {room : WorkRoom} (held : IsHeld old writer desks cuts undo room)
-      (doing : Doing) → is_quiet_doing (doing_at s desks) ≡ true → is_quiet_doing doing ≡ true → IsTold new → SearchHeld held.chains new writer cuts s doing
-      → IsHeld new writer (with_doing s doing desks) cuts undo room
-  held_stays {writer} {desks} {cuts} held doing was is told search =
+module _ {s : ℕ} {store : Store} {new : WorldState} (moves : MovesPlaces s store.world new) (held : IsHeld store) (doing : Doing) where
+  pub held_stays : is_quiet_doing (doing_at s store.desks) ≡ true → is_quiet_doing doing ≡ true → IsTold new
+      → SearchHeld held.chains (record store { world = new; desks = with_doing s doing store.desks }) s doing
+      → IsHeld (record store { world = new; desks = with_doing s doing store.desks })
+  held_stays was is told search =
+      let now = with_doing s doing store.desks in
       let rows = moves_leave moves in
-      let others = others_beside s held moves.rest moves.versions (moves_told moves told) told moves.places in
-      let quiet : is_quiet_doing (doing_at s (with_doing s doing desks)) ≡ true =
-      ⊎_elim (λ here. ap is_quiet_doing here ∙ is) (λ none. ap is_quiet_doing none) (doing_mine s doing desks) in
-      held_beside s held moves.rest moves.versions (moves_told moves told) told moves.places (with_doing s doing desks) (λ u. desk_elsewhere s u doing desks)
-      (started_still s s doing desks) (as_many s doing desks) (λ other. quiet) (⊎_elim (λ here. subst (SearchHeld held.chains new writer cuts s) (sym here)
-      search) (λ none. subst (SearchHeld held.chains new writer cuts s) (sym none) (record {})) (doing_mine s doing desks)) (quiet_step (with_doing s doing
-      desks) held others rows (λ u. desk_elsewhere s u doing desks) (λ u differs might. might) was quiet) (all_left old new (rows_leave old new rows)
-      (logs_beside old new moves.rest) held.logs) held.whole
+      let same = λ u differs. desk_elsewhere s u (λ (desk : Desk). record desk { doing = doing }) store.desks differs in
+      let does = does_beside s held now moves.rest moves.versions (moves_told moves told) told moves.places same in
+      let quiet : is_quiet_doing (doing_at s now) ≡ true =
+      ⊎_elim (λ here. ap is_quiet_doing here ∙ is) (λ none. ap is_quiet_doing none) (doing_mine s doing store.desks) in
+      held_beside s held now moves.rest moves.versions (moves_told moves told) told moves.places same
+      (started_still s doing store.desks) (as_many s (λ (desk : Desk). record desk { doing = doing }) store.desks) (λ other. quiet)
+      (⊎_elim (λ here. subst (SearchHeld held.chains (record store { world = new; desks = now }) s) (sym here) search)
+      (λ none. subst (SearchHeld held.chains (record store { world = new; desks = now }) s) (sym none) (record {})) (doing_mine s doing store.desks))
+      (rooms_then s doing store.desks (held.rooms s) (quiet_undoes_not (doing_at s store.desks) was))
+      (quiet_step held does rows was quiet) (all_left store.world new (rows_leave store.world new rows) (logs_beside store.world new moves.rest) held.logs)
 
-pub held_idle : {s : ℕ} {old new : WorldState} {writer : Option ℕ} {desks : List Desk} {cuts : ℕ} {undo : UndoRoom} {room : WorkRoom} → IsHeld old writer desks
-    cuts undo room → doing_at s desks ≡ Nothing → MovesPlaces s old new → IsTold new → IsHeld new writer desks cuts undo room
-held_idle {s} {new} {writer} {desks} {cuts} {undo} {room} held idle moves told =
-    subst (λ (at : List Desk). IsHeld new writer at cuts undo room) (doing_stays s desks idle)
+pub held_idle : {s : ℕ} {store : Store} {new : WorldState} → IsHeld store → doing_at s store.desks ≡ Nothing → MovesPlaces s store.world new → IsTold new
+    → IsHeld (record store { world = new })
+held_idle {s} {store} {new} held idle moves told =
+    subst (λ (at : List Desk). IsHeld (record store { world = new; desks = at })) (doing_stays s Nothing store.desks idle)
     (held_stays moves held Nothing (ap is_quiet_doing idle) refl told (record {}))

@@ -6,10 +6,9 @@ use Rattle.std.proofs.lemmas.Bool.{cases_eq}
 use Rattle.inno_types.specs.declared.value.Schema.{Schema}
 use Rattle.world.specs.State.{WorldState, Logged, Session, Work, HasWork}
 use Rattle.world.specs.Undoing.{read_into, ReadsLast, newest, IsRead}
-use Rattle.law_world_agreement.specs.Agreement.{Agrees}
-use Rattle.desks.specs.Holding.{RowsHeld, RowsHeldBy, IsLast, SearchHeld, IsHeld, IsGoingBack}
+use Rattle.desks.specs.Holding.{RowsHeld, RowsHeldAt, RowsHeldBy, IsLast, IsLastIfTold, IsLagging, SearchHeld, IsHeld, IsGoingBack, WriterAgrees}
 use Rattle.law_logged_changes.proofs.GoingOn.{own_beside, agrees_beside, step_all, step_beside, logs_beside}
-use Rattle.law_held_steps.proofs.AnyStep.{some_same, last_left, held_beside, rows_left, last_log}
+use Rattle.law_held_steps.proofs.AnyStep.{some_same, last_left, held_beside, rows_left, last_log, rows_by_writer}
 use Rattle.undo_apply.specs.Stages.{Stops, StopsAt, IsPuttingBack, GoesOn, IsHindered, IsDone, PutsBack, StageHolds, WalksOn}
 use Rattle.world.proofs.Memory.{no_pages}
 use Rattle.law_stored_rows.specs.Records.{LeadTo}
@@ -19,7 +18,9 @@ use Rattle.row_changes.specs.Awaited.{IsAwaitedAlone}
 use Rattle.std.specs.Prelude.{is_some}
 use Rattle.row_versions.specs.{declared.place.Place.Place, declared.version.Version.Version, declared.kept.Kept.Kept, Versions.Stays, Chains.Chains}
 use Rattle.row_versions.specs.{Chains.older, Chains.versions_at}
-use Rattle.law_past_agreement.specs.{Agreement.WriterAgrees, Order.IsOfRow, Order.IsUndoable, Order.MayCome}
+use Rattle.law_past_agreement.specs.Order.{IsOfRow, IsUndoable, MayCome}
+use Rattle.row_changes.specs.{Told.HasRows, Rows.IsChangingRow, declared.row_change.RowChange.RowChange}
+use Rattle.world.specs.Undoing.{HoldsRecord}
 use Rattle.world.specs.{Told.IsTold, Told.TellsTogether, Told.LeavesRows, declared.undo_room.UndoRoom.UndoRoom, Memory.IsInMemory}
 use Rattle.law_logged_changes.specs.{Logs.IsAlone, Logs.LogsAgree, Logs.IsLogOf, Steps.ChangesPairsAlone}
 use Rattle.store_api.specs.{declared.answers.Undo.Undo, declared.moves.Move.Move, declared.moves.Move.TheVariants.Done, declared.moves.Move.TheVariants.Step}
@@ -27,17 +28,18 @@ use Rattle.undo_apply.specs.{declared.work_room.Stage.Stage, Rooms.IsWhole, Room
 use Rattle.undo_apply.specs.{declared.work_room.Stage.TheVariants.Walk, declared.work_room.Stage.TheVariants.Find, Told.rows_of, Standing.versions_before}
 use Rattle.undo_apply.specs.{Standing.HasWalked}
 use Rattle.desks.specs.{Undoing.left_at, Undoing.keys_if, Undoing.undo_left_in, Undoing.most_versions, declared.desk.Desk.Desk, declared.desk.Doing.Doing}
-use Rattle.desks.specs.{Desks.doing_at, Desks.is_quiet_doing, Desks.with_doing, declared.desk.Doing.TheVariants.Undoing}
-use Rattle.desks.specs.{declared.desk.Doing.TheVariants.Nothing, declared.desk.Doing.TheVariants.Lagging}
-use Rattle.law_held_steps.proofs.{Desks.GivesDoing, Desks.kept_on, Desks.given, Keeping.open_work}
+use Rattle.desks.specs.declared.desk.Doing.TheVariants.{Nothing, Changing, Lagging, Undoing}
+use Rattle.desks.specs.{Store.Store, Desks.desk_at, Desks.doing_in, Desks.doing_at, Desks.started_in, Desks.is_quiet_doing, Desks.is_undoing}
+use Rattle.desks.specs.Desks.{with_read, with_room, HasRooms}
+use Rattle.law_held_steps.proofs.{Desks.IsGiven, Desks.is_given, Keeping.open_work}
 use Rattle.law_logged_changes.proofs.{Leaving.rows_leave, Leaving.all_left, Beginning.tells_of_it, Beginning.begins_settled, Beginning.begins_lagging}
 use Rattle.inno_db.specs.{declared.change.Change.Change, declared.change.Change.TheVariants.Create}
 use Rattle.undo_apply.proofs.{Hindrances.never_hindered, Telling.leaves_told, Columns.few_keys}
 use Rattle.inno_model.specs.{declared.event.Event.Event, declared.event.Event.TheVariants.Undone, Past.own}
 
 -- nobody else has changes
-pub alone_if : {s : ℕ} {chains : Chains} {writer : Option ℕ} {state : WorldState} → writer ≡ Some s → Agrees chains writer state → IsAlone s state
-alone_if {state = state} mine agrees = (subst (WriterAgrees state.past) mine agrees.lists.writes).1
+pub alone_if : {s : ℕ} {store : Store} → IsHeld store → store.writer ≡ Some s → IsAlone s store.world
+alone_if {s} held mine u differs = held.writes.clean u (λ is. differs (some_same u s (sym is ∙ mine)))
 
 pub older_fewer : (versions : List Version) → length (older versions) ≤ length versions
 older_fewer [] = omega arith
@@ -55,42 +57,57 @@ pub last_beside : (s : ℕ) {old new : WorldState} {logged : Logged} {place : Pl
 last_beside s {old} {new} rest last =
     last_left s (ap (λ (x : WorldState). x.schemas) rest) (ap (λ (x : WorldState). slice_get x.sessions s) rest) (own_beside s old new rest) last
 
--- rows as who may write holds them
-pub rows_by_writer : (s : ℕ) {writer : Option ℕ} (chains : Chains) (state : WorldState) (desks : List Desk) (undo : Undo) (room : WorkRoom) {doing : Doing}
-    → writer ≡ Some s → doing_at s desks ≡ doing → RowsHeld chains state s undo room doing → RowsHeldBy writer chains state desks undo room
-rows_by_writer s chains state desks undo room mine is rows =
-    subst (λ (w : Option ℕ). RowsHeldBy w chains state desks undo room) (sym mine) (subst (RowsHeld chains state s undo room) (sym is) rows)
-
 -- sessions, the history and all actors' places are as they were
 pub record LeavesAll (old new : WorldState) : Type 0 where
   pub places : (index : ℕ) → (new.indexes index).place ≡ (old.indexes index).place
   pub versions : Stays old.versions new.versions
   pub rest : ChangesPairsAlone old new
 
-module _ (s : ℕ) {old : WorldState} {writer : Option ℕ} {desks : List Desk} {cuts : ℕ} {undo : UndoRoom} {room : WorkRoom}
-    (held : IsHeld old writer desks cuts undo room) where
-  pub rows_mine : {doing : Doing} → writer ≡ Some s → doing_at s desks ≡ doing → RowsHeld held.chains old s (read_into undo) room doing
-  rows_mine mine is =
-      subst (RowsHeld held.chains old s (read_into undo) room) is
-      (subst (λ (w : Option ℕ). RowsHeldBy w held.chains old desks (read_into undo) room) mine held.rows)
+changing_at : (chains : Chains) (state : WorldState) (s : ℕ) (change : RowChange) (desk : Option Desk) → doing_in desk ≡ Changing change
+    → RowsHeldAt chains state s desk → IsChangingRow s chains state change × IsLastIfTold state s change
+changing_at chains state s change None at rows = (let e : Nothing ≡ Changing change = at in absurd (cc))
+changing_at chains state s change (Some desk) at rows = subst (RowsHeld chains state s (read_into desk.undo) desk.room) at rows
+
+-- it is being taken back, by the rooms of this desk
+pub record GoesBackAt (chains : Chains) (state : WorldState) (s : ℕ) (desks : List Desk) : Type 0 where
+  pub desk : Desk
+  pub at : desk_at s desks ≡ Some desk
+  pub going : IsGoingBack chains state s (read_into desk.undo) desk.room
+
+back_at : (chains : Chains) (state : WorldState) (s : ℕ) (desks : List Desk) (found : Option Desk) → desk_at s desks ≡ found → doing_in found ≡ Undoing
+    → RowsHeldAt chains state s found → GoesBackAt chains state s desks
+back_at chains state s desks None found at rows = (let e : Nothing ≡ Undoing = at in absurd (cc))
+back_at chains state s desks (Some desk) found at rows =
+    record { desk = desk; at = found; going = subst (RowsHeld chains state s (read_into desk.undo) desk.room) at rows }
+
+module _ (s : ℕ) {store : Store} (held : IsHeld store) where
+  pub rows_mine : store.writer ≡ Some s → RowsHeldAt held.chains store.world s (desk_at s store.desks)
+  rows_mine mine = subst (λ (w : Option ℕ). RowsHeldBy w held.chains store.world store.desks) mine held.rows
 
   -- who has more than a search under way may write
-  pub busy_writes : {doing : Doing} → doing_at s desks ≡ doing → is_quiet_doing doing ≡ false → writer ≡ Some s
-  busy_writes is busy = go writer refl where
-    no : writer ≢ Some s → ⊥
+  pub busy_writes : {doing : Doing} → doing_at s store.desks ≡ doing → is_quiet_doing doing ≡ false → store.writer ≡ Some s
+  busy_writes is busy = go store.writer refl where
+    no : store.writer ≢ Some s → ⊥
     no other = let still = sym (ap is_quiet_doing is) ∙ held.quiet s other in let e : true ≡ false = sym still ∙ busy in cc
 
-    go : (found : Option ℕ) → writer ≡ found → writer ≡ Some s
+    go : (found : Option ℕ) → store.writer ≡ found → store.writer ≡ Some s
     go None is_none = absurd (no (λ mine. let e : None ≡ Some s = sym is_none ∙ mine in cc))
     go (Some w) is_some = ⊎_elim (λ same. is_some ∙ ap Some same) (λ differs. absurd (no (λ mine. differs (some_same w s (sym is_some ∙ mine))))) (cases_eq w s)
 
-  pub held_given : {new : WorldState} {now : List Desk} {other : UndoRoom} {next : WorkRoom} {doing : Doing} → writer ≡ Some s → LeavesAll old new → IsTold old
-      → IsTold new → GivesDoing s doing desks now → RowsHeld held.chains new s (read_into other) next doing → LogsAgree new
-      → SearchHeld held.chains new writer cuts s doing → IsWhole next → IsHeld new writer now cuts other next
-  held_given {new} {now} {other} {next} mine leaves told tells gives rows logs search whole =
-      held_beside s held leaves.rest leaves.versions told tells (λ t index differs. ap (λ (place : ℕ → Option _). place t) (leaves.places index)) now
-      gives.others gives.started gives.count (λ other. absurd (other mine)) (subst (SearchHeld held.chains new writer cuts s) (sym gives.here) search)
-      (rows_by_writer s held.chains new now (read_into other) next mine gives.here rows) logs whole
+  pub changing_rows : {change : RowChange} → store.writer ≡ Some s → doing_at s store.desks ≡ Changing change
+      → IsChangingRow s held.chains store.world change × IsLastIfTold store.world s change
+  changing_rows {change} mine at = changing_at held.chains store.world s change (desk_at s store.desks) at (rows_mine mine)
+
+  pub held_given : {new : WorldState} {now : List Desk} {was is : Desk} → store.writer ≡ Some s → LeavesAll store.world new → IsTold store.world → IsTold new
+      → IsGiven s was is store.desks now → RowsHeld held.chains new s (read_into is.undo) is.room is.doing → LogsAgree new
+      → SearchHeld held.chains (record store { world = new; desks = now }) s is.doing → HasRooms is → IsHeld (record store { world = new; desks = now })
+  held_given {new} {now} {was} {is} mine leaves told tells gives rows logs search rooms =
+      held_beside s held now leaves.rest leaves.versions told tells
+      (λ t index differs. ap (λ (place : ℕ → Option _). place t) (leaves.places index)) gives.others
+      (ap started_in gives.here ∙ gives.started ∙ sym (ap started_in gives.before)) gives.count (λ other. absurd (other mine))
+      (subst (λ desk. SearchHeld held.chains (record store { world = new; desks = now }) s (doing_in desk)) (sym gives.here) search)
+      (λ desk there. subst HasRooms (some_same is desk (sym gives.here ∙ there)) rooms)
+      (rows_by_writer s held.chains new mine gives.here rows) logs
 
 -- a step that was hindered doesn't answer that it went on
 module _ (actor : ℕ) (old new : WorldState) (memory : IsInMemory old) where
@@ -173,9 +190,9 @@ module _ (chains : Chains) (place : Place) (actor : ℕ) (undo : Undo) (room nex
 -- ---- the newest undo record of who may write
 
 writes_if : (s keep : ℕ) (past : List Event) (writer : Option ℕ) → WriterAgrees past writer → IsUndoable keep (own s past) → writer ≡ Some s
-writes_if s keep past None agrees may = absurd (subst (IsUndoable keep) (agrees s) may)
+writes_if s keep past None agrees may = absurd (subst (IsUndoable keep) (agrees.clean s (λ is. cc)) may)
 writes_if s keep past (Some w) agrees may =
-    ⊎_elim (λ same. ap Some same) (λ differs. absurd (subst (IsUndoable keep) (agrees.1 s (λ same. differs (sym same))) may)) (cases_eq w s)
+    ⊎_elim (λ same. ap Some same) (λ differs. absurd (subst (IsUndoable keep) (agrees.clean s (λ is. differs (some_same w s is))) may)) (cases_eq w s)
 
 last_of : (s : ℕ) (state : WorldState) (session : Session) (work : Work) (log : List Logged) (change : Change) (before : List Change) → HasWork s session work
     state → work.log ≡ log → own s state.past ≡ change ∷ before → IsOfRow change → IsLogOf state log (change ∷ before) → HasLast s state
@@ -213,7 +230,7 @@ read_there log logged older read there is reads =
 
 -- its change may be taken back then, whether the row's keys are as the change left them or lag
 module _ (chains : Chains) (state : WorldState) (s : ℕ) (room : WorkRoom) (read : Undo) (agree : LogsAgree state) (whole : IsWhole room)
-    (is_read : (logged : Logged) (place : Place) → IsLast state s logged place → read ≡ logged.undo) where
+    (anew : room.stage ≡ Find) (is_read : (logged : Logged) (place : Place) → IsLast state s logged place → read ≡ logged.undo) where
   going_if : (logged : Logged) (place : Place) → IsLast state s logged place → IsPuttingBack chains place logged.undo room state
       → IsGoingBack chains state s read room
   going_if logged place last putting =
@@ -226,36 +243,53 @@ module _ (chains : Chains) (state : WorldState) (s : ℕ) (room : WorkRoom) (rea
         putting = subst (λ (u : Undo). IsPuttingBack chains place u room state) (sym is) putting;
       }
 
-  begin_from : (undo : Undo) (doing : Doing) → IsReady doing → RowsHeld chains state s undo room doing → HasLast s state
-      → IsGoingBack chains state s read room × (room.stage ≡ Find)
-  begin_from undo Nothing is rows (logged, place, last) =
-      let log = last_log agree last in
-      let putting = begins_settled chains state logged last.log last.change last.before place room log last.place_is rows.0 whole rows.1 in
-      (going_if logged place last putting, rows.1)
-  begin_from undo Lagging is rows has =
-      let lag = rows.0.newest in
-      let last = lag.last in
-      let log = last_log agree last in
-      let tells = tells_of_it chains state lag.logged last.log last.change last.before lag.place room log last.place_is in
-      let putting = begins_lagging chains state lag.logged last.log last.change last.before lag.place room log last.place_is rows.0.change rows.0.changing
-      (sym lag.table_is ∙ tells.table_is) (sym lag.key_is) whole rows.1 in
-      (going_if lag.logged lag.place last putting, rows.1)
-  begin_from undo other is rows last = absurd is
+  begin_from : (desk : Option Desk) → IsReady (doing_in desk) → RowsHeldAt chains state s desk → HasLast s state → IsGoingBack chains state s read room
+  begin_from desk is rows (logged, place, last) = go desk is rows where
+    settled : HasRows chains state → IsGoingBack chains state s read room
+    settled coded =
+        let log = last_log agree last in
+        going_if logged place last (begins_settled chains state logged last.log last.change last.before place room log last.place_is coded whole anew)
+
+    lagging : IsLagging chains state s → IsGoingBack chains state s read room
+    lagging rows =
+        let lag = rows.newest in
+        let last = lag.last in
+        let log = last_log agree last in
+        let tells = tells_of_it chains state lag.logged last.log last.change last.before lag.place room log last.place_is in
+        going_if lag.logged lag.place last (begins_lagging chains state lag.logged last.log last.change last.before lag.place room log last.place_is
+        rows.change rows.changing (sym lag.table_is ∙ tells.table_is) (sym lag.key_is) whole anew)
+
+    by_doing : (undo : Undo) (other : WorkRoom) (doing : Doing) → IsReady doing → RowsHeld chains state s undo other doing
+        → IsGoingBack chains state s read room
+    by_doing undo other Nothing is rows = settled rows
+    by_doing undo other Lagging is rows = lagging rows
+    by_doing undo other doing is rows = absurd is
+
+    go : (desk : Option Desk) → IsReady (doing_in desk) → RowsHeldAt chains state s desk → IsGoingBack chains state s read room
+    go None is rows = settled rows
+    go (Some desk) is rows = by_doing (read_into desk.undo) desk.room desk.doing is rows
+
+ready_undoes_not : (doing : Doing) → IsReady doing → is_undoing doing ≡ false
+ready_undoes_not Nothing is = refl
+ready_undoes_not Lagging is = refl
+ready_undoes_not other is = absurd is
 
 -- all of it is left, which is no more than this where there are four keys at most
 few_left : (keys most : ℕ) (kept : ℕ → Option Kept) (stage : Stage) → keys ≤ 4 → stage ≡ Find → left_at keys most kept stage < 2 ^ 70
 few_left keys most kept stage few anew = subst (λ (at : Stage). left_at keys most kept at < 2 ^ 70) (sym anew) (omega (arith, few))
 
-module _ (s : ℕ) {old : WorldState} {writer : Option ℕ} {desks : List Desk} {cuts : ℕ} {undo : UndoRoom} {room : WorkRoom}
-    (held : IsHeld old writer desks cuts undo room) where
+module _ (s : ℕ) {store : Store} (held : IsHeld store) where
+  abbrev old : WorldState
+  old = store.world
+
   -- ---- the record is read
 
-  pub has_joined : s < length desks → (s < length old.sessions) × (s < 68)
+  pub has_joined : s < length store.desks → (s < length old.sessions) × (s < 68)
   has_joined joined = (omega (arith, joined, held.count, held.agrees.count), omega (arith, joined, held.count, held.few))
 
   module _ (keep : ℕ) (may : MayCome old.past (Undone s keep)) where
-    pub may_write : writer ≡ Some s
-    may_write = writes_if s keep old.past writer held.agrees.lists.writes may.1
+    pub may_write : store.writer ≡ Some s
+    may_write = writes_if s keep old.past store.writer held.writes may.1
 
     pub has_last : HasLast s old
     has_last =
@@ -269,11 +303,15 @@ module _ (s : ℕ) {old : WorldState} {writer : Option ℕ} {desks : List Desk} 
       pub is_there : there ≡ true
       is_there = (is_read has_last.0 has_last.1 has_last.2).0
 
-      module _ (joined : s < length desks) (ready : IsReady (doing_at s desks)) (memory : IsInMemory new) where
-        begin : IsGoingBack held.chains old s (read_into read) room × (room.stage ≡ Find)
+      module _ {desk : Desk} (at : desk_at s store.desks ≡ Some desk) (ready : IsReady desk.doing) (memory : IsInMemory new) where
+        rooms_were : HasRooms desk
+        rooms_were = held.rooms s desk at
+
+        begin : IsGoingBack held.chains old s (read_into read) desk.room
         begin =
-            begin_from held.chains old s room (read_into read) held.logs held.whole (λ logged place last. (is_read logged place last).1) (read_into undo)
-            (doing_at s desks) ready (rows_mine s held {doing = doing_at s desks} may_write refl) has_last
+            begin_from held.chains old s desk.room (read_into read) held.logs rooms_were.whole (rooms_were.anew (ready_undoes_not desk.doing ready))
+            (λ logged place last. (is_read logged place last).1) (Some desk) ready
+            (subst (RowsHeldAt held.chains old s) at (rows_mine s held may_write)) has_last
 
         left_rows : LeavesRows old new
         left_rows = record {
@@ -282,32 +320,46 @@ module _ (s : ℕ) {old : WorldState} {writer : Option ℕ} {desks : List Desk} 
           versions = reads.1.versions;
         }
 
-        going_back : IsGoingBack held.chains new s (read_into read) room
+        going_back : IsGoingBack held.chains new s (read_into read) desk.room
         going_back =
             rows_left s left_rows (agrees_beside reads.1.rest held.agrees) (ap (λ (state : WorldState). slice_get state.sessions s) reads.1.rest)
-            (own_beside s old new reads.1.rest) (read_into read) room Undoing begin.0
+            (own_beside s old new reads.1.rest) (read_into read) desk.room Undoing begin
 
-        pub held_begun : IsHeld new writer (with_doing s Undoing desks) cuts read room
-        held_begun =
+        pub held_begun : HoldsRecord read → IsHeld (record store { world = new; desks = with_read s read store.desks })
+        held_begun holds =
             held_given s held may_write (record { places = λ index. (reads.1.indexes index).place; versions = reads.1.versions; rest = reads.1.rest })
-            (leaves_told left_rows memory.told) memory.told (given s Undoing desks joined) going_back
-            (all_left old new (rows_leave old new left_rows) (logs_beside old new reads.1.rest) held.logs) (record {}) held.whole
+            (leaves_told left_rows memory.told) memory.told (is_given s (λ d. record d { undo = read; doing = Undoing }) store.desks at refl) going_back
+            (all_left old new (rows_leave old new left_rows) (logs_beside old new reads.1.rest) held.logs) (record {})
+            (record { record_room = holds; whole = rooms_were.whole; anew = λ none. rooms_were.anew (ready_undoes_not desk.doing ready) })
 
-        pub few_begun : undo_left_in read.table room.stage new < 2 ^ 70
+        pub few_begun : undo_left_in read.table desk.room.stage new < 2 ^ 70
         few_begun =
             let tells = going_back.putting.tells in
             let keys : keys_if (slice_get new.schemas read.table) ≤ 4 =
             subst (λ (n : ℕ). n ≤ 4) (sym (ap keys_if tells.there)) (few_keys going_back.putting.schema tells.storable) in
-            few_left (keys_if (slice_get new.schemas read.table)) most_versions new.versions.kept_at room.stage keys begin.1
+            few_left (keys_if (slice_get new.schemas read.table)) most_versions new.versions.kept_at desk.room.stage keys
+            (rooms_were.anew (ready_undoes_not desk.doing ready))
 
   -- ---- it is being taken back
 
-  module _ (busy : doing_at s desks ≡ Undoing) where
-    pub mine : writer ≡ Some s
+  module _ (busy : doing_at s store.desks ≡ Undoing) where
+    pub mine : store.writer ≡ Some s
     mine = busy_writes s held busy refl
 
-    pub going : IsGoingBack held.chains old s (read_into undo) room
-    going = rows_mine s held mine busy
+    pub goes_back : GoesBackAt held.chains old s store.desks
+    goes_back = back_at held.chains old s store.desks (desk_at s store.desks) refl busy (rows_mine s held mine)
+
+    abbrev pub desk : Desk
+    desk = goes_back.desk
+
+    abbrev pub undo : UndoRoom
+    undo = desk.undo
+
+    abbrev pub room : WorkRoom
+    room = desk.room
+
+    abbrev pub going : IsGoingBack held.chains old s (read_into undo) room
+    going = goes_back.going
 
     pub asks_for : IsInMemory old → ((chains : Chains) × (place : Place) × IsPuttingBack chains place (read_into undo) room old) × TellsTogether old
     asks_for memory = ((held.chains, going.place, going.putting), λ told index. memory.told.pairs index)
@@ -327,16 +379,30 @@ module _ (s : ℕ) {old : WorldState} {writer : Option ℕ} {desks : List Desk} 
         still_putting : StaysPutting held.chains going.place (read_into undo) next old new
         still_putting = stays_putting held.chains going.place s (read_into undo) room next old new answer not_done answers
 
-        pub held_on : IsInMemory old → IsInMemory new → IsHeld new writer desks cuts undo next
+        pub held_on : IsInMemory old → IsInMemory new → IsHeld (record store { world = new; desks = with_room s next store.desks })
         held_on memory later =
             let stays = still_putting in
-            held_given s held mine stays.leaves memory.told later.told (kept_on s Undoing desks busy) (record {
+            held_given s held mine stays.leaves memory.told later.told (is_given s (λ d. record d { room = next }) store.desks goes_back.at refl)
+            (undoing_rows stays) (step_all held.chains going.place s (read_into undo) room next old new answer answers not_done held.logs)
+            (subst (λ doing. SearchHeld held.chains (record store { world = new; desks = with_room s next store.desks }) s doing) (sym is_busy) (record {}))
+            (record {
+              record_room = (held.rooms s desk goes_back.at).record_room;
+              whole = stays.putting.whole;
+              anew = λ none. absurd (let e : true ≡ false = sym (ap is_undoing is_busy) ∙ none in cc);
+            })
+          where
+            is_busy : desk.doing ≡ Undoing
+            is_busy = sym (ap doing_in goes_back.at) ∙ busy
+
+            undoing_rows : StaysPutting held.chains going.place (read_into undo) next old new
+                → RowsHeld held.chains new s (read_into undo) next desk.doing
+            undoing_rows stays = subst (RowsHeld held.chains new s (read_into undo) next) (sym is_busy) (record {
               logged = going.logged;
               place = going.place;
               last = last_beside s stays.leaves.rest going.last;
               undo_is = going.undo_is;
               putting = stays.putting;
-            }) (step_all held.chains going.place s (read_into undo) room next old new answer answers not_done held.logs) (record {}) stays.putting.whole
+            })
 
     module _ (new : WorldState) (next : WorkRoom) (put : HasPutBack s (read_into undo) room next old new Step) (memory : IsInMemory old)
         (later : IsInMemory new) where

@@ -5,13 +5,13 @@ use Rattle.std.proofs.lemmas.List.{length-set, map-set, set-get_or}
 use Rattle.std.proofs.lemmas.Bool.{true≢false}
 use Rattle.std.specs.Prelude.{slice_get, slice_set, slice_index_or}
 use Rattle.law_held_steps.specs.Making.{given_up, LeavesLists, AddsNothing, IsNearer, IsEntered}
-use Rattle.law_held_steps.proofs.Desks.{doing_here, doing_elsewhere, busy_at_a_desk, GivesDoing, given, changes_at_a_desk}
+use Rattle.law_held_steps.proofs.Desks.{doing_here, desk_elsewhere, busy_at_a_desk, given}
 use Rattle.inno_types.specs.declared.value.Schema.{Schema}
 use Rattle.row_versions.specs.Versions.{Versions}
 use Rattle.sql_history.specs.Settings.{Setting, at_first}
 use Rattle.shared_lists.specs.Tasks.{Task, is_changing, asked, steps_left, left_by}
-use Rattle.desks.specs.Shown.{shown, seen_of, lists_of, reading_of, change_in}
-use Rattle.desks.proofs.Showing.{task_is, idle_shown, lists_stay}
+use Rattle.desks.specs.Shown.{shown, task_at, lists_of, reading_of, change_in}
+use Rattle.desks.proofs.Showing.{task_is, task_stays, idle_shown, lists_stay}
 use Rattle.law_world_agreement.proofs.Opening.{set_here, set_other}
 use Rattle.sql_plan.specs.declared.choice.Plan.{Plan}
 use Rattle.law_stored_rows.specs.Storable.{IsStorable}
@@ -20,39 +20,36 @@ use Rattle.shared_lists.specs.Tasks as tasks
 use Rattle.shared_lists.specs.declared.answers.Changed.TheVariants as answers
 use Rattle.law_held_steps.specs.{SeenEntries.settings_of, Begun.IsBegun, Moving.MovesPlaces, TakenUp.IsSearchOf, Beginning.begun, Leaving.LeavesIndexes}
 use Rattle.law_held_steps.specs.{Leaving.is_searching}
-use Rattle.law_held_steps.proofs.{Putting.left_same, Keeping.same_settings, AnyStep.some_same, AnyStep.each, Places.none_moves}
+use Rattle.law_held_steps.proofs.{Keeping.same_settings, AnyStep.some_same, AnyStep.each}
 use Rattle.inno_model.specs.{declared.event.Event.Event}
-use Rattle.world.specs.{State.WorldState, State.Session, Told.IsTold, declared.undo_room.UndoRoom.UndoRoom}
-use Rattle.undo_apply.specs.{declared.work_room.Stage.Stage, declared.work_room.WorkRoom.WorkRoom}
+use Rattle.world.specs.{State.WorldState, State.Session, Told.IsTold}
 use Rattle.shared_lists.specs.{State.task_of, State.IsNow, State.Turns, State.Lists, declared.answers.Reading.Reading, Steps.Changes, Steps.rows_of_change}
 use Rattle.shared_lists.specs.{Steps.rows_entered}
-use Rattle.desks.specs.{declared.desk.Desk.Desk, declared.desk.Doing.TheVariants.Nothing, declared.desk.Doing.TheVariants.Searching}
-use Rattle.desks.specs.{declared.desk.Doing.TheVariants.Changing, Desks.doing_at, Desks.with_doing, Desks.is_quiet_doing, Undoing.undo_left_in}
+use Rattle.desks.specs.declared.desk.Doing.TheVariants.{Nothing, Searching, Changing, Lagging, Undoing}
+use Rattle.desks.specs.Desks.{desk_at, doing_in, doing_at, with_doing, is_quiet_doing, is_undoing}
+use Rattle.desks.specs.{declared.desk.Desk.Desk, Store.Store, Undoing.left_in}
 use Rattle.desks.specs.{Undoing.keys_if, declared.desk.Doing.Doing, declared.desk.TableSearch.TableSearch, Holding.IsHeld}
 use Rattle.row_search.specs.{declared.sight.Sight.Sight, declared.search.RowSearch.RowSearch, Steps.IsSameScan}
 use Rattle.row_changes.specs.{declared.row_edit.RowEdit.RowEdit, declared.row_change.RowChange.RowChange, declared.row_change.RowChange.TheVariants.Record}
 use Rattle.row_changes.specs.{declared.row_change.RowChange.TheVariants.Keys, Edits.change_of, Rows.row_steps, Rows.table_of}
 
-pub rests_of : (s table : ℕ) (stage : Stage) (state : WorldState) (writer : Option ℕ) (desks : List Desk)
-    → task_of s (seen_of table stage state writer desks).state ≡ tasks.Idle → doing_at s desks ≡ Nothing
-rests_of s table stage state writer desks idle =
-    idle_shown (undo_left_in table stage state) state.schemas (doing_at s desks) (sym (task_is s (undo_left_in table stage state) state writer desks) ∙ idle)
+pub rests_of : (s : ℕ) (store : Store) → task_of s (lists_of store).state ≡ tasks.Idle → doing_at s store.desks ≡ Nothing
+rests_of s store idle =
+    idle_shown (left_in store.world (desk_at s store.desks)) store.world.schemas (doing_at s store.desks) (sym (task_is s store) ∙ idle)
 
 -- an entry, or none: tables, versions and what the sessions have under way are as they were
-pub tasks_same : (table : ℕ) (stage : Stage) (old new : WorldState) (writer later : Option ℕ) (desks now : List Desk) → new.schemas ≡ old.schemas
-    → new.versions ≡ old.versions → ((s : ℕ) → doing_at s now ≡ doing_at s desks)
-    → (s : ℕ) → task_of s (seen_of table stage new later now).state ≡ task_of s (seen_of table stage old writer desks).state
-tasks_same table stage old new writer later desks now schemas versions doing s =
-    let left = undo_left_in table stage old in
-    task_is s (undo_left_in table stage new) new later now
-    ∙ ap (λ n. shown new.schemas n (doing_at s now)) (left_same table stage old new schemas (ap (λ (v : Versions). v.kept_at) versions))
-    ∙ ap (λ (x : List Schema). shown x left (doing_at s now)) schemas ∙ ap (shown old.schemas left) (doing s) ∙ sym (task_is s left old writer desks)
+pub tasks_same : (old new : Store) → new.world.schemas ≡ old.world.schemas → new.world.versions ≡ old.world.versions
+    → ((s : ℕ) → task_at old.world (desk_at s new.desks) ≡ task_at old.world (desk_at s old.desks))
+    → (s : ℕ) → task_of s (lists_of new).state ≡ task_of s (lists_of old).state
+tasks_same old new schemas versions alike s =
+    task_is s new ∙ task_stays old.world new.world (desk_at s new.desks) schemas (ap (λ (v : Versions). v.kept_at) versions) ∙ alike s ∙ sym (task_is s old)
 
-pub now_of : (t table : ℕ) (stage : Stage) (old new : WorldState) (writer later : Option ℕ) (desks now : List Desk) (past : List Event) → new.names ≡ old.names
-    → new.past ≡ past → new.schemas ≡ old.schemas → new.versions ≡ old.versions → ((s : ℕ) → doing_at s now ≡ doing_at s desks) → IsNow past t
-    (task_of t (seen_of table stage old writer desks).state) later (seen_of table stage old writer desks).state (seen_of table stage new later now).state
-now_of t table stage old new writer later desks now past names past_is schemas versions doing =
-    let same = tasks_same table stage old new writer later desks now schemas versions doing in
+pub now_of : (t : ℕ) (old new : Store) (past : List Event) → new.world.names ≡ old.world.names → new.world.past ≡ past
+    → new.world.schemas ≡ old.world.schemas → new.world.versions ≡ old.world.versions
+    → ((s : ℕ) → task_at old.world (desk_at s new.desks) ≡ task_at old.world (desk_at s old.desks))
+    → IsNow past t (task_of t (lists_of old).state) new.writer (lists_of old).state (lists_of new).state
+now_of t old new past names past_is schemas versions alike =
+    let same = tasks_same old new schemas versions alike in
     record { names_are = names; past_is = past_is; writer_is = refl; task_is = same t; others = λ s differ. same s }
 
 pub setting_at : (sessions : List Session) (t : ℕ) {session : Session} → slice_get sessions t ≡ Some session
@@ -82,58 +79,59 @@ settings_by sessions others t {session} {after} f long there here same elsewhere
     (some_same x y (sym first ∙ each t (λ s. slice_get (slice_set sessions t after) s ≡ slice_get others s) (set_here sessions t session after there ∙ sym here)
     (λ u differ. set_other sessions t u after differ ∙ sym (elsewhere u differ)) s ∙ second)))) ∙ settings_now sessions t after f there same
 
-pub left_stays : {s : ℕ} (table : ℕ) (stage : Stage) {old new : WorldState} → MovesPlaces s old new → IsTold new
-    → undo_left_in table stage new ≡ undo_left_in table stage old
-left_stays table stage {old} {new} moves told =
-    left_same table stage old new (ap (λ (state : WorldState). state.schemas) moves.rest) (moves.versions.kept told.versions)
+-- of who takes nothing back, whatever is left of what somebody takes back
+quiet_shown : (schemas : List Schema) (left later : ℕ) (doing : Doing) → is_quiet_doing doing ≡ true → shown schemas left doing ≡ shown schemas later doing
+quiet_shown schemas left later Nothing quiet = refl
+quiet_shown schemas left later (Searching on) quiet = refl
+quiet_shown schemas left later other quiet = absurd (cc)
 
-module _ {s : ℕ} (left : ℕ) {old new : WorldState} (writer : Option ℕ) (desks : List Desk) (moves : MovesPlaces s old new) where
-  module _ (doing : Doing) where
-    task_now : (u : ℕ) (is : Doing) → doing_at u (with_doing s doing desks) ≡ is
-        → task_of u (lists_of new writer (with_doing s doing desks) left).state ≡ shown old.schemas left is
-    task_now u is at =
-        task_is u left new writer (with_doing s doing desks)
-        ∙ (ap (shown new.schemas left) at ∙ ap (λ (schemas : List Schema). shown schemas left is) (ap (λ (state : WorldState). state.schemas) moves.rest))
+-- ---- one session searches, or has nothing to do, while tables and versions are the same
 
-    pub turns : s < length desks
-        → Turns s (shown old.schemas left doing) (lists_of old writer desks left).state (lists_of new writer (with_doing s doing desks) left).state
-    turns within = record {
-      names_are = ap (λ (state : WorldState). state.names) moves.rest;
-      past_is = ap (λ (state : WorldState). state.past) moves.rest;
-      writer_is = refl;
-      task_is = task_now s doing (doing_here s doing desks within);
-      others = λ u differs. task_now u (doing_at u desks) (doing_elsewhere s u doing desks differs) ∙ sym (task_is u left old writer desks);
-    }
+module _ {s : ℕ} {store : Store} {new : WorldState} (names : new.names ≡ store.world.names) (past : new.past ≡ store.world.past)
+    (stays : (desk : Option Desk) → task_at new desk ≡ task_at store.world desk) (doing : Doing) (quiet : is_quiet_doing doing ≡ true)
+    (within : s < length store.desks) where
+  turned : Turns s (shown store.world.schemas 0 doing) (lists_of store).state (lists_of (record store { world = new; desks = with_doing s doing store.desks })).state
+  turned =
+      let now : Store = record store { world = new; desks = with_doing s doing store.desks } in
+      record {
+        names_are = names;
+        past_is = past;
+        writer_is = refl;
+        task_is = task_is s now ∙ stays (desk_at s now.desks)
+            ∙ ap (shown store.world.schemas (left_in store.world (desk_at s now.desks))) (doing_here s doing store.desks within)
+            ∙ quiet_shown store.world.schemas (left_in store.world (desk_at s now.desks)) 0 doing quiet;
+        others = λ u differs. task_is u now ∙ stays (desk_at u now.desks)
+            ∙ ap (task_at store.world) (desk_elsewhere s u (λ (desk : Desk). record desk { doing = doing }) store.desks differs) ∙ sym (task_is u store);
+      }
 
--- with what is left of a change that is being taken back
-pub seen_stay : {s : ℕ} (table : ℕ) (stage : Stage) {old new : WorldState} (writer : Option ℕ) (desks : List Desk) → MovesPlaces s old new → IsTold new
-    → ((on : TableSearch) → doing_at s desks ≡ Searching on → ⊥) → seen_of table stage new writer desks ≡ seen_of table stage old writer desks
-seen_stay {s} table stage {old} {new} writer desks moves told not =
-    ap (lists_of new writer desks) (left_stays table stage moves told)
-    ∙ lists_stay s (undo_left_in table stage old) old new writer desks moves.rest moves.pairs moves.places moves.versions told not
+module _ {s : ℕ} {store : Store} {new : WorldState} (moves : MovesPlaces s store.world new) (told : IsTold new) where
+  moved : (desk : Option Desk) → task_at new desk ≡ task_at store.world desk
+  moved desk =
+      task_stays store.world new desk (ap (λ (state : WorldState). state.schemas) moves.rest) (moves.versions.kept told.versions)
 
-pub turns_now : {s : ℕ} (table : ℕ) (stage : Stage) {old new : WorldState} (writer : Option ℕ) (desks : List Desk) (doing : Doing) → s < length desks →
-    MovesPlaces s old new → IsTold new → Turns s (shown old.schemas (undo_left_in table stage old) doing) (seen_of table stage old writer desks).state
-    (seen_of table stage new writer (with_doing s doing desks)).state
-turns_now {s} table stage {old} {new} writer desks doing within moves told =
-    subst (λ (left : ℕ). Turns s (shown old.schemas (undo_left_in table stage old) doing) (seen_of table stage old writer desks).state (lists_of new writer
-    (with_doing s doing desks) left).state) (sym (left_stays table stage moves told)) (turns (undo_left_in table stage old) writer desks moves doing within)
+  pub seen_stay : ((on : TableSearch) → doing_at s store.desks ≡ Searching on → ⊥) → lists_of (record store { world = new }) ≡ lists_of store
+  seen_stay not = lists_stay s store new moves.rest moves.pairs moves.places moves.versions told not
+
+  pub turns_now : (doing : Doing) → is_quiet_doing doing ≡ true → s < length store.desks → Turns s (shown store.world.schemas 0 doing) (lists_of store).state
+      (lists_of (record store { world = new; desks = with_doing s doing store.desks })).state
+  turns_now =
+      turned (ap (λ (state : WorldState). state.names) moves.rest) (ap (λ (state : WorldState). state.past) moves.rest) moved
 
 pub search_shown : (left : ℕ) (schemas : List Schema) (doing : Doing) {table : ℕ} {plan : Plan} {reading : Reading}
     → shown schemas left doing ≡ tasks.Searching table plan reading → IsSearchOf doing table plan reading
 search_shown left schemas (Searching on) {table} {plan} {reading} is = (on, refl, cc, cc, cc)
 search_shown left schemas other is = absurd (cc)
 
-begun_shown : {table : ℕ} (left : ℕ) (schemas : List Schema) {plan : Plan} {sight : Sight} {schema : Schema} {cuts : ℕ} {on : TableSearch} → IsBegun table plan
-    sight schema cuts on → shown schemas left (Searching on) ≡ tasks.Searching table plan (reading_of sight)
-begun_shown left schemas is =
+begun_shown : {table : ℕ} (schemas : List Schema) {plan : Plan} {sight : Sight} {schema : Schema} {cuts : ℕ} {on : TableSearch} → IsBegun table
+    plan sight schema cuts on → shown schemas 0 (Searching on) ≡ tasks.Searching table plan (reading_of sight)
+begun_shown schemas is =
     let which = is.search.scan.which_is in
     let range = is.search.scan.range_is in
     let unique = is.unique_is in
     λ i. tasks.Searching (is.search.scan.table_is i) (record { which = which i; range = range i; unique = unique i }) (reading_of (is.search.scan.sight_is i))
 
 same_shown : (left cuts : ℕ) (schemas : List Schema) (on : TableSearch) (next : RowSearch) → IsSameScan on.search.scan next.scan
-    → shown schemas left (Searching (record on { search = next; cuts = cuts })) ≡ shown schemas left (Searching on)
+    → shown schemas 0 (Searching (record on { search = next; cuts = cuts })) ≡ shown schemas left (Searching on)
 same_shown left cuts schemas on next same =
     let which = same.which in
     let range = same.range in
@@ -143,107 +141,129 @@ same_shown left cuts schemas on next same =
 pub has_desk : (s : ℕ) (desks : List Desk) {on : TableSearch} → doing_at s desks ≡ Searching on → s < length desks
 has_desk s desks {on} is = busy_at_a_desk s desks (λ none. let e : Searching on ≡ Nothing = sym is ∙ none in cc)
 
-module _ (s table : ℕ) (stage : Stage) (writer : Option ℕ) (desks : List Desk) where
-  pub turns_to_search : (state : WorldState) {searched cuts : ℕ} {plan : Plan} {sight : Sight} {schema : Schema} {on : TableSearch} → s < length desks → IsBegun
-      searched plan sight schema cuts on → Turns s (tasks.Searching searched plan (reading_of sight)) (seen_of table stage state writer desks).state
-      (seen_of table stage state writer (with_doing s (Searching on) desks)).state
-  turns_to_search state {on} within is =
-      subst (λ (task : Task). Turns s task (seen_of table stage state writer desks).state (seen_of table stage state writer (with_doing s (Searching on)
-      desks)).state) (begun_shown (undo_left_in table stage state) state.schemas is) (turns (undo_left_in table stage state) writer desks (none_moves)
-      (Searching on) within)
+module _ (s : ℕ) (store : Store) where
+  pub turns_to_search : {searched cuts : ℕ} {plan : Plan} {sight : Sight} {schema : Schema} {on : TableSearch} → s < length store.desks
+      → IsBegun searched plan sight schema cuts on → Turns s (tasks.Searching searched plan (reading_of sight)) (lists_of store).state
+      (lists_of (record store { desks = with_doing s (Searching on) store.desks })).state
+  turns_to_search {on} within is =
+      subst (λ (task : Task). Turns s task (lists_of store).state (lists_of (record store { desks = with_doing s (Searching on) store.desks })).state)
+      (begun_shown store.world.schemas is) (turned refl refl (λ desk. refl) (Searching on) refl within)
 
-  pub searches_on : {old new : WorldState} (cuts : ℕ) {on : TableSearch} (next : RowSearch) → doing_at s desks ≡ Searching on → MovesPlaces s old new →
-      IsSameScan on.search.scan next.scan → IsTold new → Turns s (task_of s (seen_of table stage old writer desks).state) (seen_of table stage old writer
-      desks).state (seen_of table stage new writer (with_doing s (Searching (record on { search = next; cuts = cuts })) desks)).state
-  searches_on {old} {new} cuts {on} next is moves same told =
-      subst (λ (task : Task). Turns s task (seen_of table stage old writer desks).state (seen_of table stage new writer
-      (with_doing s (Searching (record on { search = next; cuts = cuts })) desks)).state) (same_shown (undo_left_in table stage old) cuts old.schemas on next
-      same ∙ (ap (shown old.schemas (undo_left_in table stage old)) (sym is) ∙ sym (task_is s (undo_left_in table stage old) old writer desks)))
-      (turns_now table stage writer desks (Searching (record on { search = next; cuts = cuts })) (has_desk s desks is) moves told)
+  pub searches_on : {new : WorldState} (cuts : ℕ) {on : TableSearch} (next : RowSearch) → doing_at s store.desks ≡ Searching on
+      → MovesPlaces s store.world new → IsSameScan on.search.scan next.scan → IsTold new
+      → Turns s (task_of s (lists_of store).state) (lists_of store).state
+      (lists_of (record store { world = new; desks = with_doing s (Searching (record on { search = next; cuts = cuts })) store.desks })).state
+  searches_on {new} cuts {on} next is moves same told =
+      let on_now = Searching (record on { search = next; cuts = cuts }) in
+      let left = left_in store.world (desk_at s store.desks) in
+      subst (λ (task : Task). Turns s task (lists_of store).state (lists_of (record store { world = new; desks = with_doing s on_now store.desks })).state)
+      (same_shown left cuts store.world.schemas on next same ∙ (ap (shown store.world.schemas left) (sym is) ∙ sym (task_is s store)))
+      (turns_now moves told on_now refl (has_desk s store.desks is))
 
--- of who takes nothing back, whatever is left of what somebody takes back
-quiet_shown : (schemas : List Schema) (left later : ℕ) (doing : Doing) → is_quiet_doing doing ≡ true → shown schemas left doing ≡ shown schemas later doing
-quiet_shown schemas left later Nothing quiet = refl
-quiet_shown schemas left later (Searching on) quiet = refl
-quiet_shown schemas left later other quiet = absurd (cc)
+-- ---- who may write changes rows
 
 -- the names and tables are the same, the past is this, and one session has something else to do
-pub shows_now : {s : ℕ} {doing : Doing} {past : List Event} (old new : WorldState) {writer : Option ℕ} {desks later : List Desk} (left now : ℕ)
-    → writer ≡ Some s → ((t : ℕ) → writer ≢ Some t → is_quiet_doing (doing_at t desks) ≡ true) → GivesDoing s doing desks later
-    → new.names ≡ old.names → new.schemas ≡ old.schemas → new.past ≡ past → {task : Task} → shown new.schemas now doing ≡ task → IsNow past s task writer
-    (lists_of old writer desks left).state (lists_of new writer later now).state
-shows_now {s} old new {writer} {desks} {later} left now mine quiet gives names schemas is shows = record {
+pub shows_now : {s : ℕ} {past : List Event} {task : Task} (old new : Store) → new.writer ≡ old.writer → old.writer ≡ Some s
+    → ((t : ℕ) → old.writer ≢ Some t → is_quiet_doing (doing_at t old.desks) ≡ true) → ((t : ℕ) → t ≢ s → desk_at t new.desks ≡ desk_at t old.desks)
+    → new.world.names ≡ old.world.names → new.world.schemas ≡ old.world.schemas → new.world.past ≡ past
+    → task_at new.world (desk_at s new.desks) ≡ task → IsNow past s task old.writer (lists_of old).state (lists_of new).state
+shows_now {s} old new writer mine quiet others names schemas is shows = record {
   names_are = names;
   past_is = is;
-  writer_is = refl;
-  task_is = task_is s now new writer later ∙ ap (shown new.schemas now) gives.here ∙ shows;
-  others = λ t differs. task_is t now new writer later ∙ ap (shown new.schemas now) (ap (λ (desk : Desk). desk.doing) (gives.others t differs))
-      ∙ ap (λ (x : List Schema). shown x now (doing_at t desks)) schemas ∙ quiet_shown old.schemas now left (doing_at t desks)
-      (quiet t (λ is. differs (some_same t s (sym is ∙ mine)))) ∙ sym (task_is t left old writer desks);
+  writer_is = writer;
+  task_is = task_is s new ∙ shows;
+  others = λ t differs.
+      let desk = desk_at t old.desks in
+      task_is t new ∙ ap (task_at new.world) (others t differs) ∙ ap (λ (x : List Schema). shown x (left_in new.world desk) (doing_in desk)) schemas
+      ∙ quiet_shown old.world.schemas (left_in new.world desk) (left_in old.world desk) (doing_in desk)
+      (quiet t (λ is. differs (some_same t s (sym is ∙ mine)))) ∙ sym (task_is t old);
 }
 
-module _ {s : ℕ} {desks : List Desk} {cuts : ℕ} {undo : UndoRoom} {room : WorkRoom} {old new : WorldState} (left later : ℕ)
-    (held : IsHeld old (Some s) desks cuts undo room) (leaves : LeavesLists old new) where
-  mine_shown : (doing : Doing) → s < length desks → task_of s (lists_of new (Some s) (with_doing s doing desks) later).state ≡ shown new.schemas later doing
-  mine_shown doing within = task_is s later new (Some s) (with_doing s doing desks) ∙ ap (shown new.schemas later) (doing_here s doing desks within)
+-- what it shows is shown by its tables alone, but where it takes a change back
+task_by : (state : WorldState) {schemas : List Schema} (desk : Option Desk) (doing : Doing) → doing_in desk ≡ doing → is_undoing doing ≡ false
+    → state.schemas ≡ schemas → task_at state desk ≡ shown schemas 0 doing
+task_by state desk doing is not schemas =
+    ap (shown state.schemas (left_in state desk)) is ∙ ap (λ (x : List Schema). shown x (left_in state desk) doing) schemas ∙ undoes_not doing not
+  where
+    undoes_not : {x : List Schema} {left : ℕ} (d : Doing) → is_undoing d ≡ false → shown x left d ≡ shown x 0 d
+    undoes_not Undoing none = absurd (cc)
+    undoes_not Nothing none = refl
+    undoes_not (Searching on) none = refl
+    undoes_not (Changing change) none = refl
+    undoes_not Lagging none = refl
 
-  pub now_shown : (doing : Doing) {past : List Event} {task : Task} → s < length desks → new.past ≡ past → shown new.schemas later doing ≡ task
-      → IsNow past s task (Some s) (lists_of old (Some s) desks left).state (lists_of new (Some s) (with_doing s doing desks) later).state
-  now_shown doing within past_is task_is = shows_now old new left later refl held.quiet (given s doing desks within) leaves.names leaves.schemas past_is task_is
+module _ {s : ℕ} {store : Store} {new : WorldState} (held : IsHeld store) (mine : store.writer ≡ Some s) (leaves : LeavesLists store.world new)
+    (within : s < length store.desks) where
+  abbrev old : WorldState
+  old = store.world
 
-  module _ {change : RowChange} (at : doing_at s desks ≡ Changing change) where
-    within : s < length desks
-    within = changes_at_a_desk s desks at
+  -- with something else to do
+  abbrev then_does : Doing → Store
+  then_does doing = record store { world = new; desks = with_doing s doing store.desks }
 
-    was_shown : task_of s (lists_of old (Some s) desks left).state ≡ shown old.schemas left (Changing change)
-    was_shown = task_is s left old (Some s) desks ∙ ap (shown old.schemas left) at
+  mine_shown : (doing : Doing) → is_undoing doing ≡ false → task_at new (desk_at s (with_doing s doing store.desks)) ≡ shown new.schemas 0 doing
+  mine_shown doing not = task_by new (desk_at s (with_doing s doing store.desks)) doing (doing_here s doing store.desks within) not refl
 
-    was_asked : asked (task_of s (lists_of old (Some s) desks left).state) ≡ change_in change
+  pub task_then : (doing : Doing) → is_undoing doing ≡ false → task_of s (lists_of (then_does doing)).state ≡ shown new.schemas 0 doing
+  task_then doing not = task_is s (then_does doing) ∙ mine_shown doing not
+
+  pub now_shown : (doing : Doing) {past : List Event} {task : Task} → is_undoing doing ≡ false → new.past ≡ past → shown new.schemas 0 doing ≡ task
+      → IsNow past s task store.writer (lists_of store).state (lists_of (then_does doing)).state
+  now_shown doing not past_is task_is =
+      shows_now store (then_does doing) refl mine held.quiet (given s doing store.desks within).others leaves.names leaves.schemas past_is
+      (mine_shown doing not ∙ task_is)
+
+  module _ {change : RowChange} (at : doing_at s store.desks ≡ Changing change) where
+    was_shown : task_of s (lists_of store).state ≡ shown old.schemas 0 (Changing change)
+    was_shown = task_is s store ∙ task_by old (desk_at s store.desks) (Changing change) at refl refl
+
+    was_asked : asked (task_of s (lists_of store).state) ≡ change_in change
     was_asked = ap asked was_shown
 
     pub went_shown : {next : RowChange} → IsNearer old new change next
-        → Changes s (lists_of old (Some s) desks left).state (lists_of new (Some s) (with_doing s (Changing next) desks) later).state answers.Went
+        → Changes s (lists_of store).state (lists_of (then_does (Changing next))).state answers.Went
     went_shown {next} nearer =
-        let now = mine_shown (Changing next) within in
+        let now = task_then (Changing next) refl in
         record {
-          turns = now_shown (Changing next) within nearer.adds.past (sym now);
+          turns = now_shown (Changing next) refl nearer.adds.past (sym now);
           still = ap is_changing now;
           asked_is = ap asked now ∙ nearer.change_is ∙ sym was_asked;
-          nears = subst (λ (task : Task). steps_left task < steps_left (task_of s (lists_of old (Some s) desks left).state)) (sym now)
+          nears = subst (λ (task : Task). steps_left task < steps_left (task_of s (lists_of store).state)) (sym now)
               (subst (λ (task : Task). row_steps (keys_if (slice_get new.schemas (table_of next))) next < steps_left task) (sym was_shown) nearer.nears);
         }
 
     pub entered_shown : {next : RowChange} → IsEntered s old new change next
-        → Changes s (lists_of old (Some s) desks left).state (lists_of new (Some s) (with_doing s (Changing next) desks) later).state answers.Entered
+        → Changes s (lists_of store).state (lists_of (then_does (Changing next))).state answers.Entered
     entered_shown {next} entered =
-        let now = mine_shown (Changing next) within in
+        let now = task_then (Changing next) refl in
         record {
           change = entered.entry;
           asked_was = was_asked ∙ entered.was;
-          now = now_shown (Changing next) within entered.past (sym now);
+          now = now_shown (Changing next) refl entered.past (sym now);
           still = ap is_changing now;
           asked_is = ap asked now ∙ entered.is;
         }
 
     pub done_shown : AddsNothing old new → change_in change ≡ None
-        → Changes s (lists_of old (Some s) desks left).state (lists_of new (Some s) (with_doing s Nothing desks) later).state answers.Done
-    done_shown adds told = (was_asked ∙ told, now_shown Nothing within adds.past refl)
+        → Changes s (lists_of store).state (lists_of (then_does Nothing)).state answers.Done
+    done_shown adds told = (was_asked ∙ told, now_shown Nothing refl adds.past refl)
 
-    left_of : (c : RowChange) → shown new.schemas later (given_up c) ≡ left_by (change_in c)
+    left_of : (c : RowChange) → shown new.schemas 0 (given_up c) ≡ left_by (change_in c)
     left_of (Record c key after) = refl
     left_of (Keys c) = refl
 
-    pub given_up_shown : AddsNothing old new
-        → Changes s (lists_of old (Some s) desks left).state (lists_of new (Some s) (with_doing s (given_up change) desks) later).state answers.NoMemory
-    given_up_shown adds = now_shown (given_up change) within adds.past (left_of change ∙ ap left_by (sym was_asked))
+    given_undoes_not : (c : RowChange) → is_undoing (given_up c) ≡ false
+    given_undoes_not (Record c key after) = refl
+    given_undoes_not (Keys c) = refl
 
--- the rows that the history holds more are those of the change that was asked for
-pub rows_shown : {s : ℕ} (desks : List Desk) {old new : WorldState} {change next : RowChange} (left : ℕ) → doing_at s desks ≡ Changing change
-    → IsEntered s old new change next → new.rows ≡ old.rows + rows_entered answers.Entered (task_of s (lists_of old (Some s) desks left).state)
-rows_shown {s} desks {old} left at entered =
-    let asked_was : asked (task_of s (lists_of old (Some s) desks left).state) ≡ Some entered.entry =
-    ap asked (task_is s left old (Some s) desks ∙ ap (shown old.schemas left) at) ∙ entered.was in
-    entered.rows ∙ ap (λ c. old.rows + rows_of_change c) (sym asked_was)
+    pub given_up_shown : AddsNothing old new
+        → Changes s (lists_of store).state (lists_of (then_does (given_up change))).state answers.NoMemory
+    given_up_shown adds = now_shown (given_up change) (given_undoes_not change) adds.past (left_of change ∙ ap left_by (sym was_asked))
+
+    -- the rows that the history holds more are those of the change that was asked for
+    pub rows_shown : {next : RowChange} → IsEntered s old new change next
+        → new.rows ≡ old.rows + rows_entered answers.Entered (task_of s (lists_of store).state)
+    rows_shown entered = entered.rows ∙ ap (λ c. old.rows + rows_of_change c) (sym (was_asked ∙ entered.was))
 
 -- ---- a change that begins
 
@@ -257,34 +277,35 @@ few_steps keys few = omega arith
 same_lists : (state : WorldState) → LeavesLists state state
 same_lists state = record { names = refl; schemas = refl; settings = refl }
 
-module _ {state : WorldState} {s : ℕ} {desks : List Desk} {cuts : ℕ} {undo : UndoRoom} {room : WorkRoom}
-    (held : IsHeld state (Some s) desks cuts undo room) (within : s < length desks) where
-  pub begun_turns : (left later table : ℕ) (edit : RowEdit) (key : List ℕ) (now : Lists) → now ≡ lists_of state (Some s)
-      (with_doing s (Changing (begun table edit key)) desks) later → Turns s (task_of s now.state) (lists_of state (Some s) desks left).state now.state
-  begun_turns left later table edit key now is =
-      let doing = Changing (begun table edit key) in
-      subst (λ (lists : Lists). Turns s (task_of s lists.state) (lists_of state (Some s) desks left).state lists.state) (sym is) (now_shown left later held
-      (same_lists state) doing within refl (sym (mine_shown left later held (same_lists state) doing within)))
+module _ {store : Store} {s : ℕ} (held : IsHeld store) (mine : store.writer ≡ Some s) (within : s < length store.desks) (table : ℕ) (edit : RowEdit)
+    (key : List ℕ) (now : Lists) (is : now ≡ lists_of (record store { desks = with_doing s (Changing (begun table edit key)) store.desks })) where
+  abbrev task_begun : Task
+  task_begun = shown store.world.schemas 0 (Changing (begun table edit key))
+
+  task_now : task_of s now.state ≡ task_begun
+  task_now = ap (λ (lists : Lists). task_of s lists.state) is ∙ task_then held mine (same_lists store.world) within (Changing (begun table edit key)) refl
+
+  pub begun_turns : Turns s (task_of s now.state) (lists_of store).state now.state
+  begun_turns =
+      subst (λ (lists : Lists). Turns s (task_of s now.state) (lists_of store).state lists.state) (sym is)
+      (now_shown held mine (same_lists store.world) within (Changing (begun table edit key)) refl refl (sym task_now))
 
   -- each table has few keys
-  keys_few : (table : ℕ) → keys_if (slice_get state.schemas table) ≤ 4
-  keys_few table =
-      few_keys (slice_get state.schemas table) (λ schema there. tables_storable state.past held.fits table schema
+  keys_few : keys_if (slice_get store.world.schemas table) ≤ 4
+  keys_few =
+      few_keys (slice_get store.world.schemas table) (λ schema there. tables_storable store.world.past held.fits table schema
       (ap (λ (tables : List Schema). slice_get tables table) (sym held.agrees.lists.tables) ∙ there))
 
-  pub begun_task : (later table : ℕ) (edit : RowEdit) (key : List ℕ) (now : Lists)
-      → now ≡ lists_of state (Some s) (with_doing s (Changing (begun table edit key)) desks) later
-      → (is_changing (task_of s now.state) ≡ true) × (asked (task_of s now.state) ≡ Some (change_of table edit)) × (steps_left (task_of s now.state) < 2 ^ 70)
-  begun_task later table edit key now is =
-      let task = ap (λ (lists : Lists). task_of s lists.state) is ∙ mine_shown later later held (same_lists state) (Changing (begun table edit key)) within in (
-        ap is_changing task,
-        ap asked task,
-        subst (λ (t : Task). steps_left t < 2 ^ 70) (sym task) (few_steps (keys_if (slice_get state.schemas table)) (keys_few table)),
-      )
+  pub begun_task : (is_changing (task_of s now.state) ≡ true) × (asked (task_of s now.state) ≡ Some (change_of table edit)) ×
+      (steps_left (task_of s now.state) < 2 ^ 70)
+  begun_task = (
+    ap is_changing task_now,
+    ap asked task_now,
+    subst (λ (t : Task). steps_left t < 2 ^ 70) (sym task_now) (few_steps (keys_if (slice_get store.world.schemas table)) keys_few),
+  )
 
 -- ---- an index that is left
 
-pub left_shown : {s : ℕ} (writer : Option ℕ) (desks : List Desk) (left : ℕ) {old new : WorldState} → LeavesIndexes s old new
-    → is_searching (doing_at s desks) ≡ false → IsTold new → lists_of new writer desks left ≡ lists_of old writer desks left
-left_shown {s} writer desks left {old} {new} leaves none told =
-    lists_stay s left old new writer desks leaves.rest leaves.pairs leaves.places leaves.versions told (λ on is. true≢false (sym (ap is_searching is) ∙ none))
+pub left_shown : {s : ℕ} (store : Store) {new : WorldState} → LeavesIndexes s store.world new → is_searching (doing_at s store.desks) ≡ false → IsTold new
+    → lists_of (record store { world = new }) ≡ lists_of store
+left_shown {s} store leaves none told = seen_stay leaves told (λ on is. true≢false (sym (ap is_searching is) ∙ none))

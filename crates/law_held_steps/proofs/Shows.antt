@@ -1,4 +1,4 @@
--- A held world shows its rows to each search that is under way. Where keys lag behind the newest change of a session, other
+-- A held store shows its rows to each search that is under way. Where keys lag behind the newest change of a session, other
 -- readers by a view don't see that change, and are told of what they see.
 use Rattle.std.proofs.Common.{◌≡◌, ◌≢◌, inl, inr, ℕ, ◌<◌, Bool, true, false, cond, List, [], ◌∷◌, ◌++◌, Option, Some, refl, sym, ap, subst, ◌∙◌, arith}
 use Rattle.std.proofs.Common.{length, slice_get, ◌⊎◌, ⊎_elim, None}
@@ -13,11 +13,11 @@ use Rattle.law_stored_rows.proofs.Values.{place_itself, same_place, one_key}
 use Rattle.law_past_agreement.proofs.Ids.{AreIds, ids_of}
 use Rattle.law_world_agreement.specs.Agreement.{sight_of, Agrees}
 use Rattle.law_world_agreement.proofs.Ending.{work_of}
-use Rattle.desks.specs.Holding.{IsLast, IsOwnView, IsLastOf, RowsHeld, RowsHeldBy, SightHolds}
+use Rattle.desks.specs.Holding.{IsLast, IsOwnView, IsLastOf, RowsHeld, RowsHeldAt, RowsHeldBy, SightHolds, IsHeld}
 use Rattle.desks.specs.declared.desk.Doing.TheVariants.{Nothing, Searching, Changing, Lagging, Undoing}
 use Rattle.key_codec.specs.Keys.{HasKey, key_code}
 use Rattle.law_stored_rows.specs.Tables.{Said, HasItsColumns, AreCodedAs, LagAt, in_table, what_is_there, AreCoded}
-use Rattle.law_held_steps.proofs.AnyStep.{some_same, last_log, quiet_rows}
+use Rattle.law_held_steps.proofs.AnyStep.{some_same, last_log, quiet_rows_at}
 use Rattle.law_found_rows.proofs.Showing.{shows_coded, shows_lagging}
 use Rattle.store_api.specs.declared.answers.Undo.{Undo}
 use Rattle.read_view.specs.Sight.{Sight as ReadSight}
@@ -27,8 +27,8 @@ use Rattle.row_versions.specs.{declared.place.Place.Place, declared.version.Vers
 use Rattle.row_versions.specs.{Chains.is_same_place}
 use Rattle.law_past_agreement.specs.{Ids.id_of, Rows.is_at, Rows.is_place, Rows.row_of, Rows.row_opened, Agreement.AreVersionsBy, Agreement.ViewAgrees}
 use Rattle.law_past_agreement.specs.{Agreement.versions_of}
-use Rattle.world.specs.{State.WorldState, State.Logged, Told.IsTold, Told.pairs_of}
-use Rattle.desks.specs.{declared.desk.Desk.Desk, declared.desk.Doing.Doing, Desks.doing_at, Desks.is_quiet_doing, Desks.is_quiet}
+use Rattle.world.specs.{State.WorldState, State.Logged, Told.IsTold, Told.pairs_of, Undoing.read_into}
+use Rattle.desks.specs.{declared.desk.Desk.Desk, declared.desk.Doing.Doing, Store.Store, Desks.desk_at, Desks.doing_at, Desks.is_quiet_doing, Desks.is_quiet}
 use Rattle.inno_types.specs.{declared.value.Value.Value, declared.value.Column.Column, declared.value.Schema.Schema}
 use Rattle.row_changes.specs.{declared.keys_change.KeysChange.KeysChange, Keys.IsChangingKeys, declared.row_change.RowChange.TheVariants.Record}
 use Rattle.row_changes.specs.{declared.row_change.RowChange.TheVariants.Keys, Told.AreRowsAs}
@@ -47,7 +47,7 @@ pub record IsWrittenBy (chains : Chains) (place : Place) (id : ℕ) : Type 0 whe
   pub versions : versions_at place chains ≡ version ∷ others
   pub writer_is : version.writer ≡ id
 
-module _ {chains : Chains} {writer : Option ℕ} {state : WorldState} (agrees : Agrees chains writer state) {w : ℕ} {logged : Logged} {place : Place}
+module _ {chains : Chains} {state : WorldState} (agrees : Agrees chains state) {w : ℕ} {logged : Logged} {place : Place}
     (last : IsLast state w logged place) where
   abbrev at : Change → Bool
   at = is_at state.schemas place
@@ -86,12 +86,12 @@ module _ {chains : Chains} {writer : Option ℕ} {state : WorldState} (agrees : 
   ]
 
   is_open : IsOpen w state.past
-  is_open = ap is_some (work_of chains writer state w last.session last.work agrees last.has_work).level_is
+  is_open = ap is_some (work_of chains state w last.session last.work agrees last.has_work).level_is
 
   -- by a view of another session
   pub unseen_by : {s : ℕ} {view : ReadSight} {reader : ℕ} → s ≢ w → IsOwnView state s view reader → sees reader view (id_of state.past w) ≡ false
   unseen_by {s} {view} {reader} differs is =
-      let mine = work_of chains writer state s is.session is.work agrees is.has_work in
+      let mine = work_of chains state s is.session is.work agrees is.has_work in
       let open_s : IsOpen s state.past = ap is_some mine.level_is in
       let reader_is : id_of state.past s ≡ reader = mine.id_is ∙ sym is.reader_is in
       let apart : id_of state.past w ≢ id_of state.past s = λ same. differs (sym (ids.distinct w s is_open open_s has_id same)) in
@@ -176,22 +176,25 @@ module _ (chains : Chains) {state : WorldState} (told : IsTold state) where
   going_rows place (inr coded) = (what_is_there chains, coded)
 
   some_rows : (w : ℕ) (undo : Undo) (room : WorkRoom) (doing : Doing) → RowsHeld chains state w undo room doing → HasSome chains state
-  some_rows w undo room Nothing rows = (what_is_there chains, rows.0 told)
-  some_rows w undo room (Searching on) rows = (what_is_there chains, rows.0 told)
+  some_rows w undo room Nothing rows = (what_is_there chains, rows told)
+  some_rows w undo room (Searching on) rows = (what_is_there chains, rows told)
   some_rows w undo room (Changing (Record change key after)) rows = (what_is_there chains, rows.0.1 told)
   some_rows w undo room (Changing (Keys change)) rows = let so = rows.0.rows told in (so.0, so.1)
-  some_rows w undo room Lagging rows = let so = rows.0.changing.rows told in (so.0, so.1)
+  some_rows w undo room Lagging rows = let so = rows.changing.rows told in (so.0, so.1)
   some_rows w undo room Undoing rows = going_rows rows.place (lags_while chains rows.place undo room state rows.putting told)
 
-  pub some_rows_by : (writer : Option ℕ) (desks : List Desk) (undo : Undo) (room : WorkRoom) → RowsHeldBy writer chains state desks undo room
-      → HasSome chains state
-  some_rows_by None desks undo room rows = (what_is_there chains, rows.0 told)
-  some_rows_by (Some w) desks undo room rows = some_rows w undo room (doing_at w desks) rows
+  some_rows_at : (w : ℕ) (desk : Option Desk) → RowsHeldAt chains state w desk → HasSome chains state
+  some_rows_at w None rows = (what_is_there chains, rows told)
+  some_rows_at w (Some desk) rows = some_rows w (read_into desk.undo) desk.room desk.doing rows
 
-  pub coded_while_quiet : (writer : Option ℕ) (desks : List Desk) (undo : Undo) (room : WorkRoom) → is_quiet writer desks ≡ true
-      → RowsHeldBy writer chains state desks undo room → AreCoded state.schemas (pairs_of state) state.versions.kept_at chains
-  coded_while_quiet None desks undo room is rows = rows.0 told
-  coded_while_quiet (Some w) desks undo room is rows = (quiet_rows chains state w undo room (doing_at w desks) is rows).0 told
+  pub some_rows_by : (writer : Option ℕ) (desks : List Desk) → RowsHeldBy writer chains state desks → HasSome chains state
+  some_rows_by None desks rows = (what_is_there chains, rows told)
+  some_rows_by (Some w) desks rows = some_rows_at w (desk_at w desks) rows
+
+  pub coded_while_quiet : (writer : Option ℕ) (desks : List Desk) → is_quiet writer desks ≡ true → RowsHeldBy writer chains state desks
+      → AreCoded state.schemas (pairs_of state) state.versions.kept_at chains
+  coded_while_quiet None desks is rows = rows told
+  coded_while_quiet (Some w) desks is rows = quiet_rows_at chains state w (desk_at w desks) is rows told
 
 -- a table whose rows are coded has its columns
 pub columns_of : (chains : Chains) (said : Said) (state : WorldState) (table : ℕ) {schema : Schema} → AreRowsAs chains said state
@@ -207,18 +210,22 @@ columns_of chains said state table {schema} coded there =
 
 -- ---- a search of another session
 
-module _ {chains : Chains} {writer : Option ℕ} {state : WorldState} (agrees : Agrees chains writer state) (logs : LogsAgree state) (told : IsTold state)
-    {w : ℕ} (s : ℕ) (writes : writer ≡ Some w) (differs : s ≢ w) {schema : Schema} (scan : Scan) (there : slice_get state.schemas scan.table ≡ Some schema)
-    (columns : HasItsColumns schema) (le : scan.which ≤ length schema.keys) where
+module _ {chains : Chains} {store : Store} (agrees : Agrees chains store.world) (logs : LogsAgree store.world) (told : IsTold store.world)
+    {w : ℕ} (s : ℕ) (writes : store.writer ≡ Some w) (differs : s ≢ w) {schema : Schema} (scan : Scan)
+    (there : slice_get store.world.schemas scan.table ≡ Some schema) (columns : HasItsColumns schema) (le : scan.which ≤ length schema.keys)
+    (holds : SightHolds store s scan.sight) where
+  abbrev state : WorldState
+  state = store.world
+
   -- who reads the newest rows may write, and so is no other
-  unseen : (sight : Sight) → SightHolds state writer s sight → (logged : Logged) (place : Place) → IsLast state w logged place
+  unseen : (sight : Sight) → SightHolds store s sight → (logged : Logged) (place : Place) → IsLast state w logged place
       → sees_by sight (id_of state.past w) ≡ false
   unseen (View view reader) holds logged place last = unseen_by agrees last differs holds
   unseen Newest holds logged place last = absurd (differs (some_same s w (sym holds ∙ writes)))
 
-  shows_keys : {change : KeysChange} (p : IsChangingKeys chains state change) → SightHolds state writer s scan.sight → IsLastOf state w change
+  shows_keys : {change : KeysChange} (p : IsChangingKeys chains state change) → IsLastOf state w change
       → ShowsRows schema scan state (in_table scan.table chains)
-  shows_keys {change} p holds own =
+  shows_keys {change} p own =
       let by : IsWrittenBy chains own.place (id_of state.past w) = written agrees own.last in
       let at : own.place ≡ record { table = change.table; key = p.value } = keys_place logs own.last p own.table_is own.key_is in
       let one : p.pushed.version ≡ by.version = (let same : p.pushed.version ∷ p.older ≡ by.version ∷ by.others =
@@ -226,33 +233,41 @@ module _ {chains : Chains} {writer : Option ℕ} {state : WorldState} (agrees : 
       shows_changing scan p told there columns le (ap (λ (version : Version). sees_by scan.sight version.writer) one ∙ (ap (sees_by scan.sight) by.writer_is
       ∙ unseen scan.sight holds own.logged own.place own.last))
 
-  shows_back : {logged : Logged} {place : Place} → IsLast state w logged place → SightHolds state writer s scan.sight → LagsAt place chains state ⊎ AreCoded
+  shows_back : {logged : Logged} {place : Place} → IsLast state w logged place → LagsAt place chains state ⊎ AreCoded
       state.schemas (pairs_of state) state.versions.kept_at chains → ShowsRows schema scan state (in_table scan.table chains)
-  shows_back {logged} {place} last holds (inr coded) = shows_coded schema scan state chains told there columns le coded
-  shows_back {logged} {place} last holds (inl lags) =
+  shows_back {logged} {place} last (inr coded) = shows_coded schema scan state chains told there columns le coded
+  shows_back {logged} {place} last (inl lags) =
       let by : IsWrittenBy chains place (id_of state.past w) = written agrees last in
       shows_lagging state chains lags.said told lags.coded schema scan there columns le place by.version by.others lags.lag lags.older by.versions
       (ap (sees_by scan.sight) by.writer_is ∙ unseen scan.sight holds logged place last)
 
-  shows_other : (undo : Undo) (room : WorkRoom) (doing : Doing) → SightHolds state writer s scan.sight → RowsHeld chains state w undo room doing
+  shows_other : (undo : Undo) (room : WorkRoom) (doing : Doing) → RowsHeld chains state w undo room doing
       → ShowsRows schema scan state (in_table scan.table chains)
-  shows_other undo room Nothing holds rows = shows_coded schema scan state chains told there columns le (rows.0 told)
-  shows_other undo room (Searching on) holds rows = shows_coded schema scan state chains told there columns le (rows.0 told)
-  shows_other undo room (Changing (Record change key after)) holds rows = shows_coded schema scan state chains told there columns le (rows.0.1 told)
-  shows_other undo room (Changing (Keys change)) holds rows = shows_keys rows.0 holds rows.2
-  shows_other undo room Lagging holds rows = shows_keys rows.0.changing holds rows.0.newest
-  shows_other undo room Undoing holds rows = shows_back rows.last holds (lags_while chains rows.place undo room state rows.putting told)
+  shows_other undo room Nothing rows = shows_coded schema scan state chains told there columns le (rows told)
+  shows_other undo room (Searching on) rows = shows_coded schema scan state chains told there columns le (rows told)
+  shows_other undo room (Changing (Record change key after)) rows = shows_coded schema scan state chains told there columns le (rows.0.1 told)
+  shows_other undo room (Changing (Keys change)) rows = shows_keys rows.0 rows.1
+  shows_other undo room Lagging rows = shows_keys rows.changing rows.newest
+  shows_other undo room Undoing rows = shows_back rows.last (lags_while chains rows.place undo room state rows.putting told)
 
-module _ {chains : Chains} {state : WorldState} (logs : LogsAgree state) (told : IsTold state) (s : ℕ) (desks : List Desk)
-    (searching : is_quiet_doing (doing_at s desks) ≡ true) {schema : Schema} (scan : Scan) (there : slice_get state.schemas scan.table ≡ Some schema)
-    (le : scan.which ≤ length schema.keys) where
-  pub shows_held : (writer : Option ℕ) (undo : Undo) (room : WorkRoom) → Agrees chains writer state → SightHolds state writer s scan.sight → RowsHeldBy writer
-      chains state desks undo room → ShowsRows schema scan state (in_table scan.table chains)
-  shows_held None undo room agrees holds rows =
-      shows_coded schema scan state chains told there (columns_of chains (what_is_there chains) state scan.table (rows.0 told) there) le (rows.0 told)
-  shows_held (Some w) undo room agrees holds rows =
-      let some : HasSome chains state = some_rows_by chains told (Some w) desks undo room rows in
-      let columns = columns_of chains some.0 state scan.table some.1 there in
-      ⊎_elim (λ same. shows_coded schema scan state chains told there columns le ((quiet_rows chains state w undo room (doing_at w desks)
-      (ap (λ (n : ℕ). is_quiet_doing (doing_at n desks)) (sym same) ∙ searching) rows).0 told)) (λ differs. shows_other agrees logs told s refl differs scan
-      there columns le undo room (doing_at w desks) holds rows) (cases_eq s w)
+  shows_other_at : (desk : Option Desk) → RowsHeldAt chains state w desk → ShowsRows schema scan state (in_table scan.table chains)
+  shows_other_at None rows = shows_coded schema scan state chains told there columns le (rows told)
+  shows_other_at (Some desk) rows = shows_other (read_into desk.undo) desk.room desk.doing rows
+
+module _ {store : Store} (held : IsHeld store) (told : IsTold store.world) (s : ℕ) (searching : is_quiet_doing (doing_at s store.desks) ≡ true)
+    {schema : Schema} (scan : Scan) (there : slice_get store.world.schemas scan.table ≡ Some schema) (le : scan.which ≤ length schema.keys)
+    (holds : SightHolds store s scan.sight) where
+  shows_by : (writer : Option ℕ) → store.writer ≡ writer → RowsHeldBy writer held.chains store.world store.desks
+      → ShowsRows schema scan store.world (in_table scan.table held.chains)
+  shows_by None is rows =
+      shows_coded schema scan store.world held.chains told there
+      (columns_of held.chains (what_is_there held.chains) store.world scan.table (rows told) there) le (rows told)
+  shows_by (Some w) is rows =
+      let some : HasSome held.chains store.world = some_rows_by held.chains told (Some w) store.desks rows in
+      let columns = columns_of held.chains some.0 store.world scan.table some.1 there in
+      ⊎_elim (λ same. shows_coded schema scan store.world held.chains told there columns le (quiet_rows_at held.chains store.world w (desk_at w store.desks)
+      (ap (λ (n : ℕ). is_quiet_doing (doing_at n store.desks)) (sym same) ∙ searching) rows told)) (λ differs. shows_other_at held.agrees held.logs told s is
+      differs scan there columns le holds (desk_at w store.desks) rows) (cases_eq s w)
+
+  pub shows_held : ShowsRows schema scan store.world (in_table scan.table held.chains)
+  shows_held = shows_by store.writer refl held.rows

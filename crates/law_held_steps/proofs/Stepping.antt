@@ -7,7 +7,6 @@ use Rattle.sql_plan.specs.declared.choice.Plan.{Plan}
 use Rattle.law_stored_rows.specs.Tables.{HasItsColumns, in_table}
 use Rattle.world.specs.State.{WorldState, Session, Work, Seen, HasWork, id_of, standing_of, index_of}
 use Rattle.law_world_agreement.specs.Agreement.{sight_of, Agrees}
-use Rattle.undo_apply.specs.declared.work_room.WorkRoom.{WorkRoom}
 use Rattle.law_found_rows.specs.Finding.{IsFinding, IsFindingAnew}
 use Rattle.desks.specs.Holding.{SightHolds, FindsSince, IsSearchHeld, IsOwnView, IsHeld, SearchHeld}
 use Rattle.law_held_steps.proofs.Places.{none_moves, held_stays, moves_then, moves_in_one, moves_nothing, leaving_moves, moves_leave, moves_told}
@@ -21,7 +20,7 @@ use Rattle.read_view.specs.Sight.{Sight as ReadSight}
 use Rattle.inno_types.specs.{declared.value.Schema.Schema, Order.IsBelow}
 use Rattle.row_versions.specs.{Chains.Chains, Chains.versions_at, declared.place.Place.Place}
 use Rattle.law_past_agreement.specs.{Agreement.ViewAgrees, Rows.seen, DatabaseTables.with_all_tables}
-use Rattle.world.specs.{Sessions.IsShown, Told.IsTold, Told.pairs_of, Undoing.read_into, declared.undo_room.UndoRoom.UndoRoom, Indexes.Calls}
+use Rattle.world.specs.{Sessions.IsShown, Told.IsTold, Told.pairs_of, Indexes.Calls}
 use Rattle.row_search.specs.{declared.sight.Sight.Sight, declared.scan.Scan.Scan, declared.search.RowSearch.RowSearch, Searches.BeginsWithNothing}
 use Rattle.row_search.specs.{Searches.MayBegin, Searches.IsSearching, Searches.place_in, declared.found.FoundRow.FoundRow}
 use Rattle.row_search.specs.{declared.sight.Sight.TheVariants.View, declared.sight.Sight.TheVariants.Newest, FoundRows.AreFound, FoundRows.RiseByKey}
@@ -29,7 +28,8 @@ use Rattle.row_search.specs.{Ranges.lies_in, Sights.rows_seen, Steps.IsSameScan,
 use Rattle.row_search.specs.{Tables.ShowsRows}
 use Rattle.law_found_rows.proofs.{Finding.begins, Finding.may_come_anew, Finding.goes_on, Showing.holds_table, Databases.found_by_view}
 use Rattle.law_found_rows.proofs.{Databases.found_newest}
-use Rattle.desks.specs.{declared.desk.Desk.Desk, declared.desk.Doing.TheVariants.Nothing, declared.desk.Doing.TheVariants.Searching}
+use Rattle.desks.specs.{declared.desk.Desk.Desk, declared.desk.Doing.Doing, declared.desk.Doing.TheVariants.Nothing, declared.desk.Doing.TheVariants.Searching}
+use Rattle.desks.specs.Store.{Store}
 use Rattle.desks.specs.{declared.desk.TableSearch.TableSearch, Desks.doing_at, Desks.with_doing, Desks.is_quiet_doing, Searching.keys_left}
 use Rattle.desks.specs.{Searching.places_in, Shown.reading_of}
 use Rattle.law_held_steps.specs.{Begun.IsNewSearch, Begun.IsBegun, Begun.HasView, Moving.MovesPlaces, TakenUp.IsTakenUp, TakenUp.MayStep, TakenUp.plan_of}
@@ -37,11 +37,11 @@ use Rattle.law_held_steps.proofs.{Shows.HasSome, Shows.some_rows_by, Shows.colum
 use Rattle.law_held_steps.proofs.{Putting.alone_if}
 use Rattle.shared_lists.specs.{State.counted, Steps.AreRowsSeen, Steps.AreFoundBy, Steps.rows_in_range}
 
-pub columns_held : {state : WorldState} {writer : Option ℕ} {desks : List Desk} {cuts : ℕ} {undo : UndoRoom} {room : WorkRoom} (table : ℕ) {schema : Schema}
-    → IsHeld state writer desks cuts undo room → IsTold state → slice_get state.schemas table ≡ Some schema → HasItsColumns schema
-columns_held {state} {writer} {desks} {undo} {room} table held told there =
-    let rows : HasSome held.chains state = some_rows_by held.chains told writer desks (read_into undo) room held.rows in
-    columns_of held.chains rows.0 state table rows.1 there
+pub columns_held : {store : Store} (table : ℕ) {schema : Schema} → IsHeld store → IsTold store.world → slice_get store.world.schemas table ≡ Some schema
+    → HasItsColumns schema
+columns_held {store} table held told there =
+    let rows : HasSome held.chains store.world = some_rows_by held.chains told store.writer store.desks held.rows in
+    columns_of held.chains rows.0 store.world table rows.1 there
 
 pub new_search : (table : ℕ) (plan : Plan) (sight : Sight) (search : RowSearch) → search.scan ≡ record {
   table = table;
@@ -74,30 +74,44 @@ new_finding {s} {schema} {state} {chains} {search} new there columns le =
     begins s schema state chains search new.nothing new.may (ap (slice_get state.schemas) new.scan.table_is ∙ there)
     (omega (arith, le, new.scan.which_is)) (omega (arith, le, new.scan.which_is, columns.few))
 
-pub begun : (s : ℕ) {table : ℕ} {state : WorldState} {writer : Option ℕ} {desks : List Desk} {cuts : ℕ} {undo : UndoRoom} {room : WorkRoom} {plan : Plan}
-    {sight : Sight} {schema : Schema} {on : TableSearch} → IsHeld state writer desks cuts undo room → IsTold state → doing_at s desks ≡ Nothing → slice_get
-    state.schemas table ≡ Some schema → plan.which ≤ length schema.keys → SightHolds state writer s sight → IsBegun table plan sight schema cuts on → IsHeld
-    state writer (with_doing s (Searching on) desks) cuts undo room
-begun s {table} {state} {writer} {cuts} {sight} {on} held told idle there le sees is =
+-- the reader's transaction is another session's no more than it was
+sight_on : {s : ℕ} {store : Store} {new : WorldState} (now : List Desk) (sight : Sight) → MovesPlaces s store.world new → SightHolds store s sight
+    → SightHolds (record store { world = new; desks = now }) s sight
+sight_on {s} now (View view reader) moves is = record {
+  session = is.session;
+  work = is.work;
+  has_work = record { session_is = ap (λ (state : WorldState). slice_get state.sessions s) moves.rest ∙ is.has_work.session_is; work_is = is.has_work.work_is };
+  seen = is.seen;
+  view_is = is.view_is;
+  same = is.same;
+  reader_is = is.reader_is;
+}
+sight_on now Newest moves is = is
+
+pub begun : (s : ℕ) {table : ℕ} {store : Store} {plan : Plan} {sight : Sight} {schema : Schema} {on : TableSearch} → IsHeld store → IsTold store.world
+    → doing_at s store.desks ≡ Nothing → slice_get store.world.schemas table ≡ Some schema → plan.which ≤ length schema.keys → SightHolds store s sight
+    → IsBegun table plan sight schema store.cuts on → IsHeld (record store { desks = with_doing s (Searching on) store.desks })
+begun s {table} {store} {sight = sight} {on = on} held told idle there le sees is =
     held_stays (none_moves) held (Searching on) (ap is_quiet_doing idle) refl told mine
   where
-    finding : IsFinding s on.schema state held.chains on.search
+    finding : IsFinding s on.schema store.world held.chains on.search
     finding =
-        subst (λ (t : Schema). IsFinding s t state held.chains on.search) (sym is.schema_is) (new_finding is.search there (columns_held table held told there)
-        le)
+        subst (λ (t : Schema). IsFinding s t store.world held.chains on.search) (sym is.schema_is) (new_finding is.search there
+        (columns_held table held told there) le)
 
-    mine : IsSearchHeld held.chains state writer cuts s on
+    mine : IsSearchHeld held.chains (record store { desks = with_doing s (Searching on) store.desks }) s on
     mine = record {
       there = finding.searching.there;
       which = finding.searching.key;
       since = omega (arith, is.cuts_is);
-      finds = subst (λ (b : Bool). FindsSince b s state held.chains on) (sym (eq-eqb on.cuts cuts is.cuts_is)) finding;
-      sight = subst (SightHolds state writer s) (sym is.search.scan.sight_is) sees;
+      finds = subst (λ (b : Bool). FindsSince b s store.world held.chains on) (sym (eq-eqb on.cuts store.cuts is.cuts_is)) finding;
+      sight = subst (SightHolds (record store { desks = with_doing s (Searching on) store.desks }) s) (sym is.search.scan.sight_is)
+          (sight_on (with_doing s (Searching on) store.desks) sight none_moves sees);
     }
 
 -- ---- the view of a transaction
 
-module _ (s : ℕ) {chains : Chains} {writer : Option ℕ} {state : WorldState} (agrees : Agrees chains writer state) (open_s : IsOpen s state.past)
+module _ (s : ℕ) {chains : Chains} {state : WorldState} (agrees : Agrees chains state) (open_s : IsOpen s state.past)
     (viewed : is_some (view_of s state.past) ≡ true) where
   of_seen : (session : Session) (work : Work) (seen : Option Seen) → HasWork s session work state → work.view ≡ seen
       → ViewAgrees state.past s (option_map sight_of seen) → HasView s state
@@ -107,7 +121,7 @@ module _ (s : ℕ) {chains : Chains} {writer : Option ℕ} {state : WorldState} 
   pub has_view : HasView s state
   has_view =
       let is = open_work agrees s open_s in
-      of_seen is.0 is.1 is.1.view is.2 refl (work_of chains writer state s is.0 is.1 agrees is.2).view_is
+      of_seen is.0 is.1 is.1.view is.2 refl (work_of chains state s is.0 is.1 agrees is.2).view_is
 
 module _ {s : ℕ} {state : WorldState} (active : List ℕ) (next : Option ℕ) (has : HasView s state) (shown : IsShown has.work.view active next) where
   shown_seen : (active ≡ has.seen.active) × (next ≡ Some has.seen.next)
@@ -140,17 +154,17 @@ comes_anew false s state chains on finds = finds
 abbrev IsTaken : ℕ → WorldState → Chains → TableSearch → RowSearch → Type 0
 IsTaken s state chains on search = IsFinding s on.schema state chains search × (search.scan ≡ on.search.scan)
 
-takes_up : {chains : Chains} {state : WorldState} {writer : Option ℕ} {cuts s : ℕ} {on : TableSearch} (search : RowSearch)
-    → IsSearchHeld chains state writer cuts s on → IsTakenUp cuts on search → IsTaken s state chains on search
-takes_up {chains} {state} {writer} {cuts} {s} {on} search held (inl same) =
-    let finds : IsFinding s on.schema state chains on.search = subst (λ (b : Bool). FindsSince b s state chains on) (eq-eqb on.cuts cuts same.0) held.finds in
-    (subst (IsFinding s on.schema state chains) (sym same.1) finds, ap (λ (r : RowSearch). r.scan) same.1)
-takes_up {chains} {state} {cuts} {s} {on} search held (inr (later, anew)) =
-    (comes_anew (on.cuts == cuts) s state chains on held.finds search anew.scan anew.finds anew.way anew.holds, anew.scan)
+takes_up : {chains : Chains} {store : Store} {s : ℕ} {on : TableSearch} (search : RowSearch) → IsSearchHeld chains store s on
+    → IsTakenUp store.cuts on search → IsTaken s store.world chains on search
+takes_up {chains} {store} {s} {on} search held (inl same) =
+    let finds : IsFinding s on.schema store.world chains on.search =
+    subst (λ (b : Bool). FindsSince b s store.world chains on) (eq-eqb on.cuts store.cuts same.0) held.finds in
+    (subst (IsFinding s on.schema store.world chains) (sym same.1) finds, ap (λ (r : RowSearch). r.scan) same.1)
+takes_up {chains} {store} {s} {on} search held (inr (later, anew)) =
+    (comes_anew (on.cuts == store.cuts) s store.world chains on held.finds search anew.scan anew.finds anew.way anew.holds, anew.scan)
 
 -- each place has few versions
-pub few_held : {state : WorldState} {writer : Option ℕ} {desks : List Desk} {cuts : ℕ} {undo : UndoRoom} {room : WorkRoom}
-    (held : IsHeld state writer desks cuts undo room) (place : Place) → length (versions_at place held.chains) ≤ most_versions
+pub few_held : {store : Store} (held : IsHeld store) (place : Place) → length (versions_at place held.chains) ≤ most_versions
 few_held held place = omega (arith, held.short place, held.agrees.lists.small)
 
 pub may_step : {s : ℕ} {schema : Schema} {state : WorldState} (chains : Chains) {search : RowSearch} → IsTold state → HasSome chains state
@@ -164,98 +178,98 @@ may_step {schema} {state} chains {search} told rows few is = record {
 pub rows_on : {s : ℕ} {old new : WorldState} (chains : Chains) → MovesPlaces s old new → IsTold new → HasSome chains old → HasSome chains new
 rows_on {old} {new} chains moves told rows = (rows.0, rows_left old new (moves_leave moves) chains rows.0 told rows.1)
 
--- the reader's transaction is another session's no more than it was
-sight_on : {s : ℕ} {old new : WorldState} (writer : Option ℕ) (sight : Sight) → MovesPlaces s old new → SightHolds old writer s sight
-    → SightHolds new writer s sight
-sight_on {s} {old} {new} writer (View view reader) moves is = record {
-  session = is.session;
-  work = is.work;
-  has_work = record { session_is = ap (λ (state : WorldState). slice_get state.sessions s) moves.rest ∙ is.has_work.session_is; work_is = is.has_work.work_is };
-  seen = is.seen;
-  view_is = is.view_is;
-  same = is.same;
-  reader_is = is.reader_is;
-}
-sight_on writer Newest moves is = is
+module _ {store : Store} (held : IsHeld store) (told : IsTold store.world) (s : ℕ)
+    (on : TableSearch) (found : List FoundRow) (there : slice_get store.world.schemas on.search.scan.table ≡ Some on.schema) where
+  abbrev state : WorldState
+  state = store.world
 
-module _ {chains : Chains} {writer : Option ℕ} {state : WorldState} (agrees : Agrees chains writer state) (rows : HasSome chains state) (s : ℕ)
-    (on : TableSearch) (found : List FoundRow) (there : slice_get state.schemas on.search.scan.table ≡ Some on.schema) where
+  rows : HasSome held.chains state
+  rows = some_rows_by held.chains told store.writer store.desks held.rows
+
   abbrev scan : Scan
   scan = on.search.scan
 
   abbrev FoundBy : Sight → Type 0
-  FoundBy sight = AreFound on.schema scan.which (rows_seen sight (in_table scan.table chains)) (lies_in on.schema scan) found
+  FoundBy sight = AreFound on.schema scan.which (rows_seen sight (in_table scan.table held.chains)) (lies_in on.schema scan) found
 
   seen_then : (n : ℕ) → map (λ (f : FoundRow). f.row) found ≡ filter (lies_in on.schema scan) (rows_of scan.table (changed (with_all_tables state.past)
       (seen state.past s n))) → AreRowsSeen scan.table (plan_of on) state.past s n (map (λ (f : FoundRow). f.row) found)
   seen_then n are schema is =
       are ∙ ap (λ (t : Schema). rows_in_range (plan_of on) t (rows_of scan.table (changed (with_all_tables state.past) (seen state.past s n))))
-      (some_same on.schema schema (sym there ∙ (ap (λ (tables : List Schema). slice_get tables scan.table) agrees.lists.tables ∙ is)))
+      (some_same on.schema schema (sym there ∙ (ap (λ (tables : List Schema). slice_get tables scan.table) held.agrees.lists.tables ∙ is)))
 
-  found_in : (sight : Sight) → SightHolds state writer s sight → FoundBy sight → RiseByKey found
+  found_in : (sight : Sight) → SightHolds store s sight → FoundBy sight → RiseByKey found
       → AreFoundBy (reading_of sight) scan.table (plan_of on) state.past s (map (λ (f : FoundRow). f.row) found)
-  found_in (View view reader) is are rise = λ n at. seen_then n (found_by_view chains writer state scan.table on.schema state.versions.kept_at (pairs_of state
-      _) agrees (rows.1.clustered.tables scan.table on.schema there) s n is.session is.work is.seen is.has_work is.view_is at scan.which (lies_in on.schema
+  found_in (View view reader) is are rise = λ n at. seen_then n (found_by_view held.chains state scan.table on.schema state.versions.kept_at (pairs_of state
+      _) held.agrees (rows.1.clustered.tables scan.table on.schema there) s n is.session is.work is.seen is.has_work is.view_is at scan.which (lies_in on.schema
       scan) found (subst (λ (v : ReadSight). FoundBy (View v is.work.id)) is.same (subst (λ (r : ℕ). FoundBy (View view r)) is.reader_is are)) rise)
   found_in Newest is are rise =
-      seen_then (commits state.past) (found_newest chains writer state scan.table on.schema state.versions.kept_at (pairs_of state _) agrees
-      (rows.1.clustered.tables scan.table on.schema there) s (alone_if is agrees) scan.which (lies_in on.schema scan) found are rise)
+      seen_then (commits state.past) (found_newest held.chains state scan.table on.schema state.versions.kept_at (pairs_of state _) held.agrees
+      (rows.1.clustered.tables scan.table on.schema there) s (alone_if held is) scan.which (lies_in on.schema scan) found are rise)
 
-  pub found_then : SightHolds state writer s scan.sight → FoundBy scan.sight → RiseByKey found
+  pub found_then : SightHolds store s scan.sight → FoundBy scan.sight → RiseByKey found
       → AreFoundBy (reading_of scan.sight) scan.table (plan_of on) state.past s (map (λ (f : FoundRow). f.row) found)
   found_then = found_in scan.sight
 
 fewer : (long was since cuts : ℕ) → long ≡ was → since ≤ cuts → cuts ≤ was → since ≢ cuts → long - cuts < was - since
 fewer long was since cuts same le cut later = omega (arith, same, le, cut, later)
 
-module _ (s : ℕ) {old : WorldState} {writer : Option ℕ} {desks : List Desk} {cuts : ℕ} {undo : UndoRoom} {room : WorkRoom} {on : TableSearch}
-    (held : IsHeld old writer desks cuts undo room) (is : doing_at s desks ≡ Searching on) where
-  is_searching : is_quiet_doing (doing_at s desks) ≡ true
+module _ (s : ℕ) {store : Store} {on : TableSearch} (held : IsHeld store) (is : doing_at s store.desks ≡ Searching on) where
+  abbrev old : WorldState
+  old = store.world
+
+  -- in another world, with something else to do
+  abbrev then_does : WorldState → Doing → Store
+  then_does new doing = record store { world = new; desks = with_doing s doing store.desks }
+
+  -- the same search, some steps further
+  abbrev further : RowSearch → TableSearch
+  further next = record on { search = next; cuts = store.cuts }
+
+  is_searching : is_quiet_doing (doing_at s store.desks) ≡ true
   is_searching = ap is_quiet_doing is
 
-  search_held : IsSearchHeld held.chains old writer cuts s on
-  search_held = subst (SearchHeld held.chains old writer cuts s) is (held.searches s)
+  search_held : IsSearchHeld held.chains store s on
+  search_held = subst (SearchHeld held.chains store s) is (held.searches s)
 
   some_rows : IsTold old → HasSome held.chains old
-  some_rows told = some_rows_by held.chains told writer desks (read_into undo) room held.rows
+  some_rows told = some_rows_by held.chains told store.writer store.desks held.rows
 
   short : (place : Place) → length (versions_at place held.chains) ≤ most_versions
   short = few_held held
 
   -- it is given up, or over
-  pub over : (new : WorldState) → MovesPlaces s old new → IsTold new → IsHeld new writer (with_doing s Nothing desks) cuts undo room
+  pub over : (new : WorldState) → MovesPlaces s old new → IsTold new → IsHeld (then_does new Nothing)
   over new moves told = held_stays moves held Nothing is_searching refl told (record {})
 
-  module _ (search : RowSearch) (taken : IsTakenUp cuts on search) where
+  module _ (search : RowSearch) (taken : IsTakenUp store.cuts on search) where
     taken_up : IsTaken s old held.chains on search
     taken_up = takes_up search search_held taken
 
     pub steps : IsTold old → MayStep s on.schema old search
     steps told = may_step held.chains told (some_rows told) short taken_up.0.searching
 
-    sight_taken : SightHolds old writer s search.scan.sight
-    sight_taken = subst (λ (scan : Scan). SightHolds old writer s scan.sight) (sym taken_up.1) search_held.sight
+    sight_taken : SightHolds store s search.scan.sight
+    sight_taken = subst (λ (scan : Scan). SightHolds store s scan.sight) (sym taken_up.1) search_held.sight
 
     shows : IsTold old → ShowsRows on.schema search.scan old (in_table search.scan.table held.chains)
-    shows told =
-        shows_held held.logs told s desks is_searching search.scan taken_up.0.searching.there taken_up.0.searching.key writer
-        (read_into undo) room held.agrees sight_taken held.rows
+    shows told = shows_held held told s is_searching search.scan taken_up.0.searching.there taken_up.0.searching.key sight_taken
 
     module _ {new : WorldState} (told : IsTold new) where
       pub went : {next : RowSearch} → GoesOn s on.schema old new search next
-          → IsHeld new writer (with_doing s (Searching (record on { search = next; cuts = cuts })) desks) cuts undo room × MovesPlaces s old new ×
-          IsSameScan on.search.scan next.scan
+          → IsHeld (then_does new (Searching (further next))) × MovesPlaces s old new × IsSameScan on.search.scan next.scan
       went {next} goes =
           let moves : MovesPlaces s old new = moves_in_one goes.moves in
           let on_now : IsFinding s on.schema new held.chains next × IsSameScan search.scan next.scan
           = goes_on s on.schema old new held.chains search next taken_up.0 (shows (moves_told moves told)) goes told in (
-            held_stays moves held (Searching (record on { search = next; cuts = cuts })) is_searching refl told (record {
+            held_stays moves held (Searching (further next)) is_searching refl told (record {
               there = on_now.0.searching.there;
               which = on_now.0.searching.key;
               since = omega arith;
               finds =
-                  subst (λ (b : Bool). FindsSince b s new held.chains (record on { search = next; cuts = cuts })) (sym (eq-eqb cuts cuts refl)) on_now.0;
-              sight = subst (SightHolds new writer s) (sym on_now.1.sight) (sight_on writer search.scan.sight moves sight_taken);
+                  subst (λ (b : Bool). FindsSince b s new held.chains (further next)) (sym (eq-eqb store.cuts store.cuts refl)) on_now.0;
+              sight = subst (SightHolds (then_does new (Searching (further next))) s) (sym on_now.1.sight)
+                  (sight_on (with_doing s (Searching (further next)) store.desks) search.scan.sight moves sight_taken);
             }),
             moves,
             subst (λ (scan : Scan). IsSameScan scan next.scan) taken_up.1 on_now.1,
@@ -263,7 +277,7 @@ module _ (s : ℕ) {old : WorldState} {writer : Option ℕ} {desks : List Desk} 
 
       -- less is left
       pub nears : {next : RowSearch} → GoesOn s on.schema old new search next → IsBelow
-          (counted (places_in s new (record on { search = next; cuts = cuts }))) (counted (places_in s old on))
+          (counted (places_in s new (further next))) (counted (places_in s old on))
       nears {next} goes =
           let moves : MovesPlaces s old new = moves_in_one goes.moves in
           let was : IsTold old = moves_told moves told in
@@ -271,9 +285,9 @@ module _ (s : ℕ) {old : WorldState} {writer : Option ℕ} {desks : List Desk} 
           let finds = taken_up.0 in
           below next past taken (steps_nearer (shows was) finds.searching finds.finds goes was told)
         where
-          below : (next : RowSearch) → new.past ≡ old.past → IsTakenUp cuts on search
+          below : (next : RowSearch) → new.past ≡ old.past → IsTakenUp store.cuts on search
               → IsLess (keys_before s new next) (visit_before new next) (keys_before s old search) (visit_before old search)
-              → IsBelow (counted (places_in s new (record on { search = next; cuts = cuts }))) (counted (places_in s old on))
+              → IsBelow (counted (places_in s new (further next))) (counted (places_in s old on))
           below next past (inl same) less =
               still_nearer (keys_before s new next) (visit_before new next) (keys_before s old on.search) (visit_before old on.search) _ _
               (subst (λ (r : RowSearch). IsLess (keys_before s new next) (visit_before new next) (keys_before s old r) (visit_before old r)) same.1 less)
@@ -285,9 +299,9 @@ module _ (s : ℕ) {old : WorldState} {writer : Option ℕ} {desks : List Desk} 
               ∙ keys_anew (place_in s on.search.scan old) (pairs_of old (index_of on.search.scan.table on.search.scan.which)) on.search.phase) in
               anew_nearer (keys_before s new next) (visit_before new next) (keys_before s old on.search) (visit_before old search) (visit_before old on.search)
               _ _ (subst (λ (k : ℕ). IsLess (keys_before s new next) (visit_before new next) k (visit_before old search)) keys less) (fewer (length new.past)
-              (length old.past) on.cuts cuts (ap length past) search_held.since held.cut later)
+              (length old.past) on.cuts store.cuts (ap length past) search_held.since held.cut later)
 
-      pub ended : {found : List FoundRow} → Ends s on.schema old new search found → IsHeld new writer (with_doing s Nothing desks) cuts undo room × MovesPlaces
+      pub ended : {found : List FoundRow} → Ends s on.schema old new search found → IsHeld (then_does new Nothing) × MovesPlaces
           s old new × AreFoundBy (reading_of on.search.scan.sight) on.search.scan.table (plan_of on) old.past s (map (λ (f : FoundRow). f.row) found)
       ended {found} ends =
           let moves : MovesPlaces s old new = leaving_moves s _ old new ends.leaves in
@@ -296,7 +310,7 @@ module _ (s : ℕ) {old : WorldState} {writer : Option ℕ} {desks : List Desk} 
           × RiseByKey found) taken_up.1 (ends.found (in_table search.scan.table held.chains) taken_up.0.finds) in (
             over new moves told,
             moves,
-            found_then held.agrees (some_rows (moves_told moves told)) s on found search_held.there search_held.sight are.0 are.1,
+            found_then held (moves_told moves told) s on found search_held.there search_held.sight are.0 are.1,
           )
 
       pub waited : {same : RowSearch} {why : Move} → Waits s on.schema old new search same why → MayStep s on.schema new same × MovesPlaces s old new
@@ -307,7 +321,7 @@ module _ (s : ℕ) {old : WorldState} {writer : Option ℕ} {desks : List Desk} 
           )
 
   pub given_up : {index : ℕ} {new later : WorldState} → MovesPlaces s old new → Calls index (Leaves s) new later → IsTold later
-      → IsHeld later writer (with_doing s Nothing desks) cuts undo room × MovesPlaces s old later
+      → IsHeld (then_does later Nothing) × MovesPlaces s old later
   given_up {index} {new} {later} first leaves told =
       let moves : MovesPlaces s old later = moves_then first (leaving_moves s index new later leaves) in
       (over later moves told, moves)

@@ -1,7 +1,7 @@
 -- The first world, sessions that join, and tables that are made by who may write.
 use Rattle.law_held_steps.proofs.Items.{entered_by}
 use Rattle.std.proofs.Common.{◌≡◌, ◌≢◌, ℕ, zero, suc, ◌+◌, ◌<◌, Bool, true, false, Option, Some, None, List, [], ◌∷◌, ◌++◌, length, refl, sym, ap, subst, ◌∙◌}
-use Rattle.std.proofs.Common.{inl, arith, get_or, ◌≤◌, ◌^◌, ⊎_elim, inr, eq-eqb, ◌⊎◌}
+use Rattle.std.proofs.Common.{inl, arith, ◌≤◌, ◌^◌, ⊎_elim, inr, eq-eqb, ◌⊎◌}
 use Rattle.std.proofs.lemmas.List.{length-append}
 use Rattle.std.specs.Prelude.{slice_get, is_some}
 use Rattle.inno_model.specs.Past.{own, started, under_way, of_item, level, awaits_ack}
@@ -16,31 +16,23 @@ use Rattle.inno_model.specs.declared.event.Event.TheVariants.{Changed}
 use Rattle.law_stored_rows.proofs.Made.{a_table_more}
 use Rattle.row_changes.specs.Told.{HasRows}
 use Rattle.law_logged_changes.proofs.Leaving.{more_grow}
-use Rattle.law_held_steps.proofs.AnyStep.{each, waits_not, others_past, past_grows, held_after}
+use Rattle.law_held_steps.proofs.AnyStep.{some_same, each, waits_not, others_past, past_grows, held_after, quiet_rows_at, rows_quiet_at}
 use Rattle.law_found_rows.specs.Pasts.{AddsAtMostOne}
 use Rattle.inno_types.specs.{declared.reply.Item.Item, declared.lock.Level.Level, declared.value.Schema.Schema}
-use Rattle.world.specs.{Told.IsTold, Told.pairs_in, Told.pairs_of, declared.undo_room.UndoRoom.UndoRoom, EngineCalls.fresh_session, EngineCalls.joined}
-use Rattle.world.specs.{Undoing.read_into}
-use Rattle.undo_apply.specs.{declared.work_room.WorkRoom.WorkRoom, declared.work_room.Stage.TheVariants.Find, Rooms.IsWhole}
+use Rattle.world.specs.{Told.IsTold, Told.pairs_in, Told.pairs_of, EngineCalls.fresh_session, EngineCalls.joined}
 use Rattle.law_world_agreement.proofs.{Joining.first_agrees, Joining.joined_agrees, Changing.created_agrees}
-use Rattle.desks.specs.{declared.desk.Desk.Desk, Desks.fresh_desk, Desks.doing_at, Holding.IsFresh, Holding.IsHeld, Holding.RowsHeld, Holding.SearchHeld}
-use Rattle.desks.specs.{declared.desk.Doing.TheVariants.Nothing, Leaves.LeavesOthers}
+use Rattle.desks.specs.{declared.desk.Desk.Desk, Holding.IsFresh, Holding.IsHeld, Holding.RowsHeldAt, Holding.RowsHeldBy, Holding.SearchHeld}
+use Rattle.desks.specs.{declared.desk.Doing.TheVariants.Nothing, Store.Store, Leaves.Does}
+use Rattle.desks.specs.Desks.{desk_at, doing_in, doing_at, started_in, is_quiet_doing, HasRooms, IsNewDesk}
 use Rattle.entries.specs.{Pairs.Pair, Pairs.value_of, Index.Index, Lists.empty_index}
 use Rattle.law_stored_rows.specs.{Storable.IsStorable, Storable.IsKeyOn, Edits.clustered_index, Edits.key_index, Tables.HasItsColumns, Tables.HasNoPairs}
 use Rattle.law_stored_rows.specs.{Tables.AreCoded}
 use Rattle.law_world_agreement.specs.{Steps.IsChangedBy, Agreement.Agrees}
 use Rattle.law_logged_changes.specs.{Logs.LogsAgree, Logs.IsLogOf, Pointers.IsNeededBy, Pointers.Reaches}
 
-behind : (desks : List Desk) → get_or desks (length desks) fresh_desk ≡ fresh_desk
+behind : (desks : List Desk) → desk_at (length desks) desks ≡ None
 behind [] = refl
 behind (desk ∷ desks) = behind desks
-
--- a desk that nobody has used says what no desk says
-pub one_more : (desks : List Desk) (s : ℕ) → get_or (desks ++ fresh_desk ∷ []) s fresh_desk ≡ get_or desks s fresh_desk
-one_more [] zero = refl
-one_more [] (suc s) = refl
-one_more (desk ∷ desks) zero = refl
-one_more (desk ∷ desks) (suc s) = one_more desks s
 
 last_there : {X : Type 0} (xs : List X) (x : X) → slice_get (xs ++ x ∷ []) (length xs) ≡ Some x
 last_there [] x = refl
@@ -63,32 +55,42 @@ no_ack (Some l) changes waits item none is = omega (arith, none)
 no_ack None changes true item none is = omega (arith, none)
 no_ack None changes false item none is = cc
 
-pub joined_held : {writer : Option ℕ} {cuts : ℕ} {undo : UndoRoom} {room : WorkRoom} {old : WorldState} {desks : List Desk} (held : IsHeld old writer desks cuts
-    undo room) → IsTold old → (name : List ℕ) → length old.names < 68 → IsHeld (joined name old) writer (desks ++ fresh_desk ∷ []) cuts undo room
-joined_held {writer} {old = old} {desks = desks} held told name room_left =
-    let t = length desks in
-    let new = joined name old in
-    let t_is : t ≡ length old.sessions = held.count ∙ sym held.agrees.count in
-    let stranger : owed_by old.past t ≡ 0 = held.agrees.lists.strangers t (omega (arith, held.count)) in
-    entered_by {t = length desks} held (ap (λ (desk : Desk). desk.doing) (behind desks)) told (ap (slice_get new.sessions) t_is ∙ last_there old.sessions
-    fresh_session) (record { indexes = refl; versions = refl; schemas = refl }) (record {
-      sessions = λ s differ. others_there old.sessions fresh_session s (λ same. differ (same ∙ sym t_is));
-      same = λ s differ. one_more desks s;
-      doing = ap (λ (desk : Desk). desk.doing) (one_more desks t);
-      rights = λ s differ is. is;
-      back = λ s differ is. is;
-    }) (length-append desks (fresh_desk ∷ []) ∙ ap (λ n. n + 1) held.count ∙ sym (length-append old.names (name ∷ [])))
-    (omega (arith, length-append old.names (name ∷ []), room_left)) (joined_agrees held.chains writer old new name held.agrees
-    (record { session = fresh_session; closed = refl; sessions = refl; names = refl; past = refl; schemas = refl; txns = refl })) (inl refl) held.fits
-    (λ work is. absurd (cc)) (λ busy. absurd (no_item (owed_by_txn (level t old.past) (length (own t old.past)) (awaits_ack (of_item t old.past)))
-    (under_way t old.past) stranger busy)) (λ waits. absurd (no_ack (level t old.past) (length (own t old.past)) (awaits_ack (of_item t old.past))
-    (owed_by_item (under_way t old.past)) stranger waits)) (λ work is. absurd (cc)) (held.started t ∙ ap (λ (desk : Desk). desk.started)
-    (sym (one_more desks t)))
+module _ {store : Store} (held : IsHeld store) (told : IsTold store.world) (name : List ℕ) (room_left : length store.world.names < 68) {desk : Desk}
+    (fresh : IsNewDesk desk) where
+  abbrev t : ℕ
+  t = length store.desks
+
+  abbrev old : WorldState
+  old = store.world
+
+  at_last : desk_at t (store.desks ++ desk ∷ []) ≡ Some desk
+  at_last = last_there store.desks desk
+
+  pub joined_held : IsHeld (record store { world = joined name old; desks = store.desks ++ desk ∷ [] })
+  joined_held =
+      let t_is : t ≡ length old.sessions = held.count ∙ sym held.agrees.count in
+      let stranger : owed_by old.past t ≡ 0 = held.agrees.lists.strangers t (omega (arith, held.count)) in
+      entered_by {t = length store.desks} held (ap doing_in (behind store.desks)) told (ap (slice_get (joined name old).sessions) t_is
+      ∙ last_there old.sessions fresh_session) (record { indexes = refl; versions = refl; schemas = refl }) (record {
+        sessions = λ s differ. others_there old.sessions fresh_session s (λ same. differ (same ∙ sym t_is));
+        same = λ s differ. others_there store.desks desk s differ;
+        doing = ap doing_in at_last ∙ fresh.doing_is ∙ sym (ap doing_in (behind store.desks));
+        rooms = λ other there. subst HasRooms (some_same desk other (sym at_last ∙ there)) fresh.rooms;
+        rights = λ s differ is. is;
+        back = λ s differ is. is;
+        cuts = refl;
+      }) (length-append store.desks (desk ∷ []) ∙ ap (λ n. n + 1) held.count ∙ sym (length-append old.names (name ∷ [])))
+      (omega (arith, length-append old.names (name ∷ []), room_left)) (joined_agrees held.chains old (joined name old) name held.agrees
+      (record { session = fresh_session; closed = refl; sessions = refl; names = refl; past = refl; schemas = refl; txns = refl })) (inl refl) held.fits
+      (λ work is. absurd (cc)) (λ busy. absurd (no_item (owed_by_txn (level t old.past) (length (own t old.past)) (awaits_ack (of_item t old.past)))
+      (under_way t old.past) stranger busy)) (λ waits. absurd (no_ack (level t old.past) (length (own t old.past)) (awaits_ack (of_item t old.past))
+      (owed_by_item (under_way t old.past)) stranger waits)) (λ work is. absurd (cc))
+      (held.started t ∙ ap started_in (behind store.desks) ∙ sym (ap started_in at_last ∙ fresh.started_is)) (held.writes.opened t) (held.writes.clean t)
 
 -- ---- the first world
 
-pub first_held : (state : WorldState) (undo : UndoRoom) (room : WorkRoom) → IsFresh state → IsWhole room → room.stage ≡ Find → IsHeld state None [] 0 undo room
-first_held state undo room first whole stage =
+pub first_held : (state : WorldState) → IsFresh state → IsHeld (record { world = state; writer = None; desks = []; cuts = 0 })
+first_held state first =
     let nobody : (s : ℕ) (session : Session) → slice_get state.sessions s ≡ Some session → ⊥
     = λ s session there. let no : None ≡ Some session = sym (ap (λ (sessions : List Session). slice_get sessions s) first.sessions) ∙ there in cc in
     record {
@@ -103,7 +105,8 @@ first_held state undo room first whole stage =
         txns = first.txns;
       });
       fits = subst FitsThen (sym first.past) first.fits;
-      rows = (first.coded, stage);
+      writes = record { opened = λ s is. absurd (cc); clean = λ s other. ap (own s) first.past };
+      rows = first.coded;
       quiet = λ s other. refl;
       searches = λ s. tt;
       logs = record { each = λ s session work has. absurd (nobody s session has.session_is); apart = first.apart };
@@ -113,11 +116,11 @@ first_held state undo room first whole stage =
         ends = λ s session work has. absurd (nobody s session has.session_is);
       };
       started = λ s. ap (started s) first.past;
+      rooms = λ s desk there. absurd (cc);
       count = sym (ap length first.names);
       few = omega (arith, ap length first.names);
       cut = omega arith;
       short = first.few_versions;
-      whole = whole;
     }
 
 pub its_columns : (schema : Schema) → IsStorable schema → HasItsColumns schema
@@ -138,24 +141,33 @@ there_before schemas schema n s there =
 no_value : (key bytes : List ℕ) → value_of key [] ≡ Some bytes → ⊥
 no_value key bytes there = cc
 
-module _ {cuts : ℕ} {undo : UndoRoom} {room : WorkRoom} {old new : WorldState} {desks : List Desk} {t : ℕ} {schema : Schema}
-    (held : IsHeld old (Some t) desks cuts undo room) (rests : doing_at t desks ≡ Nothing) (told : IsTold old) (told_now : IsTold new)
-    (by : IsChangedBy t (Create schema) (old.schemas ++ schema ∷ []) old new) (can_reply : by.session_now.can_reply ≡ by.session.can_reply)
+module _ {store : Store} {new : WorldState} {t : ℕ} {schema : Schema} (held : IsHeld store) (mine : store.writer ≡ Some t)
+    (rests : doing_at t store.desks ≡ Nothing) (told : IsTold store.world) (told_now : IsTold new)
+    (by : IsChangedBy t (Create schema) (store.world.schemas ++ schema ∷ []) store.world new) (can_reply : by.session_now.can_reply ≡ by.session.can_reply)
     (can_end : by.work_now.can_end ≡ by.work.can_end) (log : by.work_now.log ≡ by.work.log)
-    (same : (index : ℕ) → new.indexes index ≡ old.indexes index) (versions : new.versions ≡ old.versions)
-    (empty : (which : ℕ) → which < 8 → new.indexes (index_of (length old.schemas) which) ≡ empty_index)
-    (storable : IsStorable schema) (few : length old.past + 1 < 2 ^ 63) (none : own t old.past ≡ []) where
+    (same : (index : ℕ) → new.indexes index ≡ store.world.indexes index) (versions : new.versions ≡ store.world.versions)
+    (empty : (which : ℕ) → which < 8 → new.indexes (index_of (length store.world.schemas) which) ≡ empty_index)
+    (storable : IsStorable schema) (few : length store.world.past + 1 < 2 ^ 63) (none : own t store.world.past ≡ []) where
+  abbrev old : WorldState
+  old = store.world
+
+  abbrev made : Store
+  made = record store { world = new }
+
   adds : AddsAtMostOne t old.past new.past
   adds = inr (Changed t (Create schema), eq-eqb t t refl, by.past)
 
-  agrees : Agrees held.chains (Some t) new
+  agrees : Agrees held.chains new
   agrees = created_agrees held.chains old new t schema held.agrees by few
 
   same_pairs : pairs_of new ≡ pairs_of old
   same_pairs = λ i index. ap (λ (x : Index). pairs_in x.pairs) (same index) i
 
-  was : HasRows held.chains old × (room.stage ≡ Find)
-  was = subst (RowsHeld held.chains old t (read_into undo) room) rests held.rows
+  mine_held : RowsHeldAt held.chains old t (desk_at t store.desks)
+  mine_held = subst (λ by. RowsHeldBy by held.chains old store.desks) mine held.rows
+
+  was : HasRows held.chains old
+  was = quiet_rows_at held.chains old t (desk_at t store.desks) (ap is_quiet_doing rests) mine_held
 
   no_pairs : HasNoPairs (pairs_of old) (length old.schemas)
   no_pairs = record {
@@ -172,9 +184,9 @@ module _ {cuts : ℕ} {undo : UndoRoom} {room : WorkRoom} {old new : WorldState}
       subst (λ (schemas : List Schema). AreCoded schemas (pairs_of new) new.versions.kept_at held.chains) (sym by.schemas)
       (subst (λ (pairs : ℕ → List Pair). AreCoded (old.schemas ++ schema ∷ []) pairs new.versions.kept_at held.chains) (sym same_pairs)
       (subst (λ (v : _). AreCoded (old.schemas ++ schema ∷ []) (pairs_of old) v.kept_at held.chains) (sym versions)
-      (a_table_more old.schemas schema (pairs_of old) old.versions.kept_at held.chains (was.0 told) (its_columns schema storable) no_pairs)))
+      (a_table_more old.schemas schema (pairs_of old) old.versions.kept_at held.chains (was told) (its_columns schema storable) no_pairs)))
 
-  leaves : LeavesOthers t held.chains held.chains (Some t) (Some t) cuts cuts old new
+  leaves : Does t held.chains held.chains store made
   leaves = record {
     agreed = held.agrees;
     agrees = agrees;
@@ -182,8 +194,10 @@ module _ {cuts : ℕ} {undo : UndoRoom} {room : WorkRoom} {old new : WorldState}
     told = told;
     tables = λ n s there. ap (λ (schemas : List Schema). slice_get schemas n) by.schemas ∙ more_grow old.schemas schema n s there;
     sessions = by.others;
+    desks = λ s differ. refl;
     places = λ s index differ. ap (λ (x : Index). x.place s) (same index);
     rights = λ s differ is. is;
+    back = λ s differ is. is;
     changes = inl refl;
     kept = inl (refl, λ pointer found there. ap (λ (v : _). v.kept_at pointer) versions ∙ there);
   }
@@ -193,7 +207,7 @@ module _ {cuts : ℕ} {undo : UndoRoom} {room : WorkRoom} {old new : WorldState}
   no_log s session work has empty_own = subst (λ changes. IsLogOf old work.log changes) empty_own (held.logs.each s session work has)
 
   alone : (s : ℕ) → s ≢ t → own s old.past ≡ []
-  alone s differ = held.agrees.lists.writes.1 s differ
+  alone s differ = held.writes.clean s (λ is. differ (some_same s t (sym is ∙ mine)))
 
   own_now : own t new.past ≡ Create schema ∷ []
   own_now =
@@ -241,21 +255,25 @@ module _ {cuts : ℕ} {undo : UndoRoom} {room : WorkRoom} {old new : WorldState}
     apart = λ told' table other pointer one two. held.logs.apart told table other pointer (needed_before table pointer one) (needed_before other pointer two);
   }
 
-  pub created_held : IsHeld new (Some t) desks cuts undo room
+  pub created_held : IsHeld made
   created_held =
-      held_after held leaves (λ u differs. refl) (record {
+      held_after held leaves (record {
         replies = λ session has busy. ap (λ (x : Session). x.can_reply) (one_session session has) ∙ can_reply ∙
             held.has_room.replies t by.session by.had.session_is (sym (ap (λ h. is_some (under_way t h)) by.past) ∙ busy);
         acks = λ session has waits. absurd
             (waits_not t (Changed t (Create schema) ∷ of_item t old.past) old.past (sym (ap (λ h. awaits_ack (of_item t h)) by.past) ∙ waits) refl);
         ends = λ session work has. ap (λ (w : Work). w.can_end) (one_now session work has) ∙ can_end ∙ held.has_room.ends t by.session by.work by.had;
         started = ap (started t) by.past ∙ held.started t;
-        quiet = λ other. absurd (other refl);
-        search = subst (SearchHeld held.chains new (Some t) cuts t) (sym rests) tt;
+        opened = λ is. ap (λ h. is_some (level t h)) by.past ∙ held.writes.opened t is;
+        clean = λ other. absurd (other mine);
+        quiet = λ other. absurd (other mine);
+        search = subst (SearchHeld held.chains made t) (sym rests) tt;
+        rooms = held.rooms t;
       })
-      (subst FitsThen (sym by.past) ((storable, tt), held.fits)) (subst (RowsHeld held.chains new t (read_into undo) room) (sym rests) (coded, was.1)) logs_now
+      (subst FitsThen (sym by.past) ((storable, tt), held.fits)) (subst (λ w. RowsHeldBy w held.chains new store.desks) (sym mine)
+      (rows_quiet_at held.chains new t (desk_at t store.desks) (ap is_quiet_doing rests) coded)) logs_now
       (held.count ∙ ap length (sym by.names)) (subst (λ (names : List (List ℕ)). length names ≤ 68) (sym by.names) held.few)
-      (omega (arith, held.cut, past_grows t old.past new.past adds)) (λ place. omega (arith, held.short place, past_grows t old.past new.past adds)) held.whole
+      (omega (arith, held.cut, past_grows t old.past new.past adds)) (λ place. omega (arith, held.short place, past_grows t old.past new.past adds))
     where
       one_session : (session : Session) → IsSession t session new → session ≡ by.session_now
       one_session session has = let is = by.has.session_is in cc

@@ -1,7 +1,7 @@
 -- The newest change is taken back: its rows, then its undo record, and then the history tells it. What callers see of that, and of the steps before
 -- it: the session's own task alone has changed.
-use Rattle.law_held_steps.proofs.Putting.{mine, going, done_leaves, rest_beside, nearer, few_begun, may_write, older_fewer, LeavesAll, alone_if}
-use Rattle.law_held_steps.proofs.Putting.{rows_by_writer}
+use Rattle.law_held_steps.proofs.Putting.{mine, desk, undo, room, going, goes_back, done_leaves, rest_beside, nearer, few_begun, may_write}
+use Rattle.law_held_steps.proofs.Putting.{older_fewer, LeavesAll, alone_if}
 use Rattle.std.proofs.Common.{[], ◌≡◌, ◌≤◌, Bool, true, false, cond, List, ◌∷◌, length, Some, refl, sym, ap, subst, arith, ℕ, Option, None, ◌+◌, ◌^◌, ◌<◌}
 use Rattle.std.proofs.Common.{◌≢◌, inl, inr, ◌∙◌, slice_get, ◌⊎◌, ◌-◌, map, eq-eqb}
 use Rattle.std.proofs.lemmas.Bool.Decides.{nat_tests}
@@ -10,7 +10,7 @@ use Rattle.row_versions.specs.Chains.{Chains, versions_at, older, is_same_place,
 use Rattle.inno_types.specs.declared.value.Schema.{Schema}
 use Rattle.world.specs.State.{WorldState, Session, Work, HasWork, IsSession, standing_of}
 use Rattle.std.specs.Prelude.{is_some, slice_set}
-use Rattle.inno_model.specs.Past.{own, is_of, started, under_way, of_item, awaits_ack}
+use Rattle.inno_model.specs.Past.{own, is_of, started, under_way, of_item, awaits_ack, level}
 use Rattle.inno_model.proofs.Untouched.{untouched}
 use Rattle.entries.specs.Index.{Index}
 use Rattle.law_past_agreement.proofs.Rows.{own_undone}
@@ -19,7 +19,8 @@ use Rattle.row_changes.proofs.Sessions.{same_pairs, same_versions}
 use Rattle.desks.proofs.Showing.{task_is}
 use Rattle.shared_lists.specs.Tasks as tasks
 use Rattle.shared_lists.specs.declared.answers.Undone.TheVariants as undone
-use Rattle.law_held_steps.proofs.{Desks.GivesDoing, Desks.kept_on, Desks.given, AnyStep.last_log, AnyStep.waits_not, AnyStep.held_after}
+use Rattle.law_held_steps.proofs.{Desks.IsGiven, Desks.is_given, Desks.given_then, AnyStep.some_same, AnyStep.last_log, AnyStep.waits_not}
+use Rattle.law_held_steps.proofs.AnyStep.{held_after, rows_by_writer}
 use Rattle.law_held_steps.proofs.{Showing.settings_same, Showing.shows_now}
 use Rattle.law_logged_changes.proofs.{Entering.chain_with, GoingOn.own_beside, GoingOn.work_beside, GoingOn.work_again, Leaving.rows_leave, Leaving.cut_left}
 use Rattle.law_logged_changes.proofs.{Leaving.cut_again, ReadersLeft.has_rows_left, TakenBack.rows_then, TakenBack.to_cut_by_history, Cutting.rows_cut}
@@ -33,10 +34,12 @@ use Rattle.law_world_agreement.specs.{Agreement.Agrees, Steps.IsTakenBackBy}
 use Rattle.law_logged_changes.specs.{Logs.IsAlone, Logs.LogsAgree, Steps.ChangesPairsAlone, Steps.LeavesLogs, Steps.IsToCut, Steps.HasCut}
 use Rattle.store_api.specs.{declared.moves.Move.TheVariants.Done, declared.moves.Move.TheVariants.Step, declared.answers.Undo.Undo}
 use Rattle.undo_apply.specs.{declared.work_room.WorkRoom.WorkRoom, Stages.IsPuttingBack, Stages.IsDone}
-use Rattle.desks.specs.{declared.desk.Desk.Desk, declared.desk.Doing.Doing, Desks.doing_at, Desks.with_doing, Holding.IsLast, Holding.SearchHeld}
+use Rattle.desks.specs.{declared.desk.Desk.Desk, declared.desk.Doing.Doing, Store.Store, Holding.IsLast, Holding.SearchHeld}
+use Rattle.desks.specs.Desks.{desk_at, doing_in, doing_at, started_in, with_doing, with_read, with_room, HasRooms}
 use Rattle.desks.specs.{Holding.IsHeld, Holding.IsGoingBack, declared.desk.Doing.TheVariants.Undoing, declared.desk.Doing.TheVariants.Nothing}
-use Rattle.desks.specs.{declared.desk.Doing.TheVariants.Lagging, Undoing.undo_left_in, Leaves.LeavesOthers, Shown.shown, Shown.lists_of}
-use Rattle.law_held_steps.specs.{Undoing.HasPutBack, Undoing.IsReady, SeenUndoing.lists_held, SeenUndoing.TakesBackIn}
+use Rattle.desks.specs.{declared.desk.Doing.TheVariants.Lagging, Undoing.undo_left_in, Undoing.left_in, Leaves.Does, Shown.shown, Shown.task_at}
+use Rattle.desks.specs.Shown.{lists_of}
+use Rattle.law_held_steps.specs.{Undoing.HasPutBack, Undoing.IsReady, SeenUndoing.TakesBackIn}
 use Rattle.inno_model.specs.{declared.event.Event.Event, declared.event.Event.TheVariants.Undone}
 use Rattle.law_world_agreement.proofs.{Opening.set_here, Opening.set_other, Changing.one_session, Changing.one_work, Entries.taken_back_agrees}
 use Rattle.shared_lists.specs.{Fitting.FitsThen, Tasks.Task, Tasks.MayTakeBack, Tasks.undo_to_go, State.task_of, State.Turns}
@@ -55,23 +58,31 @@ has_place : (schemas : List Schema) (change : Change) (place : Place) → place_
 has_place schemas (Create schema) place is = absurd (let e : None ≡ Some place = is in cc)
 has_place schemas change place is = record {}
 
-module _ (s : ℕ) {old : WorldState} {writer : Option ℕ} {desks : List Desk} {cuts : ℕ} {undo : UndoRoom} {room : WorkRoom}
-    (held : IsHeld old writer desks cuts undo room) (busy : doing_at s desks ≡ Undoing) (mid : WorldState) (next : WorkRoom)
-    (put : HasPutBack s (read_into undo) room next old mid Done) where
-  abbrev back_to : IsGoingBack held.chains old s (read_into undo) room
+module _ (s : ℕ) {store : Store} (held : IsHeld store) (busy : doing_at s store.desks ≡ Undoing) (mid : WorldState) (next : WorkRoom)
+    (put : HasPutBack s (read_into (undo s held busy)) (room s held busy) next store.world mid Done) where
+  abbrev old : WorldState
+  old = store.world
+
+  abbrev read : Undo
+  read = read_into (undo s held busy)
+
+  abbrev room_was : WorkRoom
+  room_was = room s held busy
+
+  abbrev back_to : IsGoingBack held.chains old s read room_was
   back_to = going s held busy
 
   abbrev last : IsLast old s back_to.logged back_to.place
   last = back_to.last
 
-  by_me : writer ≡ Some s
+  by_me : store.writer ≡ Some s
   by_me = mine s held busy
 
-  done : IsDone held.chains back_to.place (read_into undo) room next old mid
+  done : IsDone held.chains back_to.place read room_was next old mid
   done = put held.chains back_to.place back_to.putting
 
   left_all : LeavesAll old mid
-  left_all = done_leaves held.chains back_to.place s (read_into undo) room next old mid done
+  left_all = done_leaves held.chains back_to.place s read room_was next old mid done
 
   work_mid : HasWork s last.session last.work mid
   work_mid = work_again s last.session last.work old mid left_all.rest last.has_work
@@ -197,27 +208,27 @@ module _ (s : ℕ) {old : WorldState} {writer : Option ℕ} {desks : List Desk} 
           count = ap length sessions_now ∙ length-set mid.sessions s session_now ∙ ap (λ (state : WorldState). length state.sessions) left_all.rest;
         }
 
-        agrees_now : length new.past < 2 ^ 63 → Agrees after writer new
+        agrees_now : length new.past < 2 ^ 63 → Agrees after new
         agrees_now few =
             let long = ap length past_now in
-            taken_back_agrees held.chains after writer old new s keep last.change last.before back_to.place held.agrees last.own_is
+            taken_back_agrees held.chains after old new s keep last.change last.before back_to.place held.agrees last.own_is
             (omega (arith, keep_is, own_length)) (has_place old.schemas last.change back_to.place last.place_is) last.place_is taken_by pops
             (omega (arith, long, few))
 
         -- ---- logs and rows
 
-        putting : IsPuttingBack held.chains back_to.place back_to.logged.undo room old
-        putting = subst (λ (u : Undo). IsPuttingBack held.chains back_to.place u room old) back_to.undo_is back_to.putting
+        putting : IsPuttingBack held.chains back_to.place back_to.logged.undo room_was old
+        putting = subst (λ (u : Undo). IsPuttingBack held.chains back_to.place u room_was old) back_to.undo_is back_to.putting
 
-        done_by : IsDone held.chains back_to.place back_to.logged.undo room next old mid
-        done_by = subst (λ (u : Undo). IsDone held.chains back_to.place u room next old mid) back_to.undo_is done
+        done_by : IsDone held.chains back_to.place back_to.logged.undo room_was next old mid
+        done_by = subst (λ (u : Undo). IsDone held.chains back_to.place u room_was next old mid) back_to.undo_is done
 
         alone : IsAlone s old
-        alone = alone_if by_me held.agrees
+        alone = alone_if held by_me
 
         to_cut : IsToCut s back_to.logged last.log last.before mid
         to_cut =
-            to_cut_by_history s held.chains after old mid last.session last.work back_to.logged last.log last.change last.before back_to.place room next
+            to_cut_by_history s held.chains after old mid last.session last.work back_to.logged last.log last.change last.before back_to.place room_was next
             held.logs alone last.has_work last.log_is last.own_is last.place_is putting done_by pops
 
         -- the entry of the history leaves pairs and kept versions
@@ -229,7 +240,7 @@ module _ (s : ℕ) {old : WorldState} {writer : Option ℕ} {desks : List Desk} 
         rows_now : HasRows after new
         rows_now =
             has_rows_left cut new left_rows after (rows_cut s mid cut back_to.logged last.log last.before to_cut back after (rows_then held.chains after old mid
-            back_to.logged last.log last.change last.before back_to.place room next (last_log held.logs last) last.place_is putting done_by pops))
+            back_to.logged last.log last.change last.before back_to.place room_was next (last_log held.logs last) last.place_is putting done_by pops))
 
         cut_now : HasCut s last.log last.before cut
         cut_now = has_cut s mid cut back_to.logged last.log last.before to_cut back (λ t differs. own_beside t old mid left_all.rest ∙ alone t differs)
@@ -256,66 +267,85 @@ module _ (s : ℕ) {old : WorldState} {writer : Option ℕ} {desks : List Desk} 
             cut_again s last.log last.before new (cut_left s cut new last.log last.before session_now work_now (rows_leave cut new left_rows) left_logs cut_now
             has_work_now log_is) (ap (own s) past_now ∙ own_undone s keep last.change last.before old.past last.own_is (omega (arith, keep_is, own_length)))
 
-        others_left : IsInMemory old → length new.past < 2 ^ 63 → LeavesOthers s held.chains after writer writer cuts (cuts + 1) old new
-        others_left memory few = record {
+        -- the session has nothing to do any more, and one older version more was dropped
+        abbrev pub taken : Store
+        taken = record store { world = new; desks = with_doing s Nothing (with_room s next store.desks); cuts = store.cuts + 1 }
+
+        abbrev was : Desk
+        was = desk s held busy
+
+        gives : IsGiven s was (record was { room = next; doing = Nothing }) store.desks taken.desks
+        gives =
+            given_then (is_given s (λ d. record d { room = next }) store.desks (goes_back s held busy).at refl)
+            (is_given s (λ d. record d { doing = Nothing }) (with_room s next store.desks)
+            (is_given s (λ d. record d { room = next }) store.desks (goes_back s held busy).at refl).here refl)
+
+        does : IsInMemory old → length new.past < 2 ^ 63 → Does s held.chains after store taken
+        does memory few = record {
           agreed = held.agrees;
           agrees = agrees_now few;
           adds = inr (Undone s keep, eq-eqb s s refl, past_now);
           told = memory.told;
           tables = λ n schema there. ap (λ (x : WorldState). slice_get x.schemas n) is_then ∙ there;
           sessions = others_now;
+          desks = gives.others;
           places =
               λ t index differs. ap (λ (indexes : ℕ → Index). (indexes index).place t) (ap (λ (state : WorldState). state.indexes) new_is
               ∙ ap (λ (state : WorldState). state.indexes) back.rest) ∙ ap (λ (place : ℕ → _). place t) (left_all.places index);
           rights = λ t differs is. is;
+          back = λ t differs is. is;
           changes = inr by_me;
           kept = inr refl;
         }
 
-        pub held_then : (other : UndoRoom) → s < length desks → IsInMemory old → length new.past < 2 ^ 63
-            → IsHeld new writer (with_doing s Nothing desks) (cuts + 1) other next
-        held_then other joined memory few =
-            let gives = given s Nothing desks joined in
+        pub held_then : IsInMemory old → length new.past < 2 ^ 63 → IsHeld taken
+        held_then memory few =
             let long = ap length past_now in
             let names : new.names ≡ old.names = ap (λ (x : WorldState). x.names) is_then in
-            held_after held (others_left memory few) gives.others (record {
+            held_after held (does memory few) (record {
               replies = λ session is busy. subst (λ (x : Session). x.can_reply ≡ true) (one_session s session_now session new session_there is)
                   (held.has_room.replies s back.session had.session_is (sym (ap is_some (ap (under_way s) past_now)) ∙ busy));
               acks = λ session is waits. absurd (waits_not s (Undone s keep ∷ of_item s old.past) old.past
                   (sym (ap (λ (h : List Event). awaits_ack (of_item s h)) past_now) ∙ waits) refl);
               ends = λ session work has. ap (λ (w : Work). w.can_end) (one_work s session session_now work work_now new has has_work_now) ∙ held.has_room.ends s
                   back.session back.work had;
-              started = ap (started s) past_now ∙ held.started s ∙ sym gives.started;
+              started = ap (started s) past_now ∙ held.started s ∙ sym (ap started_in gives.here ∙ gives.started ∙ sym (ap started_in gives.before));
+              opened = λ is. ap (λ (h : List Event). is_some (level s h)) past_now ∙ held.writes.opened s is;
+              clean = λ other. absurd (other by_me);
               quiet = λ other. absurd (other by_me);
-              search = subst (SearchHeld after new writer (cuts + 1) s) (sym gives.here) (record {});
-            }) (subst FitsThen (sym past_now) held.fits)
-            (rows_by_writer s after new (with_doing s Nothing desks) (read_into other) next by_me gives.here (rows_now, done.anew)) logs_now
+              search = subst (λ found. SearchHeld after taken s (doing_in found)) (sym gives.here) (record {});
+              rooms = λ found there. subst HasRooms (some_same (record was { room = next; doing = Nothing }) found (sym gives.here ∙ there)) (record {
+                record_room = (held.rooms s was gives.before).record_room;
+                whole = done.whole;
+                anew = λ none. done.anew;
+              });
+            }) (subst FitsThen (sym past_now) held.fits) (rows_by_writer s after new by_me gives.here rows_now) logs_now
             (gives.count ∙ held.count ∙ ap length (sym names)) (subst (λ (n : List (List ℕ)). length n ≤ 68) (sym names) held.few)
-            (omega (arith, held.cut, long)) (λ place. omega (arith, held.short place, popped_fewer back_to.place place held.chains after pops, long)) done.whole
+            (omega (arith, held.cut, long)) (λ place. omega (arith, held.short place, popped_fewer back_to.place place held.chains after pops, long))
 
-      -- ---- callers see the entry of the history
+        -- ---- callers see the entry of the history
 
-      pub shows_undone : (other : UndoRoom) → s < length desks
-          → TakesBackIn s keep (lists_held old writer desks undo room) (lists_held new writer (with_doing s Nothing desks) other next) undone.Undone
-      shows_undone other joined = record {
-        takes =
-            shows_now old new (undo_left_in undo.table room.stage old) (undo_left_in other.table next.stage new) by_me held.quiet (given s Nothing desks joined)
-            (ap (λ (x : WorldState). x.names) is_then) (ap (λ (x : WorldState). x.schemas) is_then) past_now refl;
-        settings = settings_now;
-        rows = ap (λ (x : WorldState). x.rows) is_then;
-      }
+        pub shows_undone : TakesBackIn s keep (lists_of store) (lists_of taken) undone.Undone
+        shows_undone = record {
+          takes =
+              shows_now store taken refl by_me held.quiet gives.others (ap (λ (x : WorldState). x.names) is_then)
+              (ap (λ (x : WorldState). x.schemas) is_then) past_now (ap (task_at new) gives.here);
+          settings = settings_now;
+          rows = ap (λ (x : WorldState). x.rows) is_then;
+        }
 
 -- ---- what callers see of steps that add no entry
 
 -- who may take a change back is ready to begin, or has begun
-pub ready_if : (state : WorldState) (writer : Option ℕ) (desks : List Desk) (left s : ℕ) → MayTakeBack (task_of s (lists_of state writer desks left).state)
-    → IsReady (doing_at s desks) ⊎ (doing_at s desks ≡ Undoing)
-ready_if state writer desks left s may = go (doing_at s desks) refl where
-  go : (doing : Doing) → doing_at s desks ≡ doing → IsReady (doing_at s desks) ⊎ (doing_at s desks ≡ Undoing)
+pub ready_if : (store : Store) (s : ℕ) → MayTakeBack (task_of s (lists_of store).state)
+    → IsReady (doing_at s store.desks) ⊎ (doing_at s store.desks ≡ Undoing)
+ready_if store s may = go (doing_at s store.desks) refl where
+  go : (doing : Doing) → doing_at s store.desks ≡ doing → IsReady (doing_at s store.desks) ⊎ (doing_at s store.desks ≡ Undoing)
   go Nothing is = inl (subst IsReady (sym is) (record {}))
   go Lagging is = inl (subst IsReady (sym is) (record {}))
   go Undoing is = inr is
-  go other is = absurd (subst MayTakeBack (task_is s left state writer desks ∙ ap (shown state.schemas left) is) may)
+  go other is =
+      absurd (subst MayTakeBack (task_is s store ∙ ap (shown store.world.schemas (left_in store.world (desk_at s store.desks))) is) may)
 
 -- all of it is to go yet
 ready_to_go : (schemas : List Schema) (left : ℕ) (doing : Doing) → IsReady doing → undo_to_go (shown schemas left doing) ≡ 2 ^ 70
@@ -323,43 +353,49 @@ ready_to_go schemas left Nothing is = refl
 ready_to_go schemas left Lagging is = refl
 ready_to_go schemas left other is = absurd is
 
-module _ (s keep : ℕ) {old : WorldState} {writer : Option ℕ} {desks : List Desk} {cuts : ℕ} {undo : UndoRoom} {room : WorkRoom}
-    (held : IsHeld old writer desks cuts undo room) where
-  abbrev left : ℕ
-  left = undo_left_in undo.table room.stage old
-
-  seen_went : (new : WorldState) (later : List Desk) (now : ℕ) → writer ≡ Some s → GivesDoing s Undoing desks later → ChangesPairsAlone old new
-      → now < undo_to_go (task_of s (lists_of old writer desks left).state)
-      → TakesBackIn s keep (lists_of old writer desks left) (lists_of new writer later now) undone.Went
-  seen_went new later now by_me gives rest nearer =
-      let task : task_of s (lists_of new writer later now).state ≡ tasks.Undoing now = task_is s now new writer later ∙ ap (shown new.schemas now) gives.here in
+module _ (s keep : ℕ) {store : Store} (held : IsHeld store) where
+  seen_went : (new : WorldState) (later : List Desk) (now : ℕ) → store.writer ≡ Some s → ((t : ℕ) → t ≢ s → desk_at t later ≡ desk_at t store.desks)
+      → ChangesPairsAlone store.world new → task_at new (desk_at s later) ≡ tasks.Undoing now → now < undo_to_go (task_of s (lists_of store).state)
+      → TakesBackIn s keep (lists_of store) (lists_of (record store { world = new; desks = later })) undone.Went
+  seen_went new later now by_me others rest shows nearer =
+      let then_store : Store = record store { world = new; desks = later } in
+      let task : task_of s (lists_of then_store).state ≡ tasks.Undoing now = task_is s then_store ∙ shows in
       record {
         takes = (
-          subst (λ (t : Task). Turns s t (lists_of old writer desks left).state (lists_of new writer later now).state) (sym task)
-              (shows_now old new left now by_me held.quiet gives (ap (λ (x : WorldState). x.names) rest)
-              (ap (λ (x : WorldState). x.schemas) rest) (ap (λ (x : WorldState). x.past) rest) refl),
+          subst (λ (t : Task). Turns s t (lists_of store).state (lists_of then_store).state) (sym task)
+              (shows_now store then_store refl by_me held.quiet others (ap (λ (x : WorldState). x.names) rest)
+              (ap (λ (x : WorldState). x.schemas) rest) (ap (λ (x : WorldState). x.past) rest) shows),
           (now, task),
-          subst (λ (n : ℕ). n < undo_to_go (task_of s (lists_of old writer desks left).state)) (sym (ap undo_to_go task)) nearer,
+          subst (λ (n : ℕ). n < undo_to_go (task_of s (lists_of store).state)) (sym (ap undo_to_go task)) nearer,
         );
         settings = ap (λ (state : WorldState). map (λ (session : Session). session.setting) state.sessions) rest;
         rows = ap (λ (state : WorldState). state.rows) rest;
       }
 
   -- the record is read
-  pub shows_begun : (new : WorldState) (read : UndoRoom) (there : Bool) → s < length desks → IsReady (doing_at s desks)
-      → MayCome old.past (Undone s keep) → IsInMemory new → ReadsLast s s (read_into read) there old new Done
-      → TakesBackIn s keep (lists_held old writer desks undo room) (lists_held new writer (with_doing s Undoing desks) read room) undone.Went
-  shows_begun new read there joined ready may memory reads =
-      let all : undo_to_go (task_of s (lists_of old writer desks left).state) ≡ 2 ^ 70 =
-      ap undo_to_go (task_is s left old writer desks) ∙ ready_to_go old.schemas left (doing_at s desks) ready in
-      seen_went new (with_doing s Undoing desks) (undo_left_in read.table room.stage new) (may_write s held keep may) (given s Undoing desks joined)
-      reads.1.rest
-      (subst (λ (n : ℕ). undo_left_in read.table room.stage new < n) (sym all) (few_begun s held keep may new read there reads joined ready memory))
+  pub shows_begun : (new : WorldState) (read : UndoRoom) (there : Bool) {desk : Desk} → desk_at s store.desks ≡ Some desk → IsReady desk.doing
+      → MayCome store.world.past (Undone s keep) → IsInMemory new → ReadsLast s s (read_into read) there store.world new Done
+      → TakesBackIn s keep (lists_of store) (lists_of (record store { world = new; desks = with_read s read store.desks })) undone.Went
+  shows_begun new read there {desk} at ready may memory reads =
+      let gives = is_given s (λ d. record d { undo = read; doing = Undoing }) store.desks at refl in
+      let left = left_in store.world (Some desk) in
+      let all : undo_to_go (task_of s (lists_of store).state) ≡ 2 ^ 70 =
+      ap undo_to_go (task_is s store ∙ ap (task_at store.world) at) ∙ ready_to_go store.world.schemas left desk.doing ready in
+      seen_went new (with_read s read store.desks) (undo_left_in read.table desk.room.stage new) (may_write s held keep may) gives.others
+      reads.1.rest (ap (task_at new) gives.here)
+      (subst (λ (n : ℕ). undo_left_in read.table desk.room.stage new < n) (sym all) (few_begun s held keep may new read there reads at ready memory))
 
   -- a step is made
-  pub shows_went : (busy : doing_at s desks ≡ Undoing) (new : WorldState) (next : WorkRoom) → IsInMemory old → IsInMemory new → HasPutBack s (read_into undo)
-      room next old new Step → TakesBackIn s keep (lists_held old writer desks undo room) (lists_held new writer desks undo next) undone.Went
+  pub shows_went : (busy : doing_at s store.desks ≡ Undoing) (new : WorldState) (next : WorkRoom) → IsInMemory store.world → IsInMemory new
+      → HasPutBack s (read_into (undo s held busy)) (room s held busy) next store.world new Step
+      → TakesBackIn s keep (lists_of store) (lists_of (record store { world = new; desks = with_room s next store.desks })) undone.Went
   shows_went busy new next memory later put =
-      seen_went new desks (undo_left_in undo.table next.stage new) (mine s held busy) (kept_on s Undoing desks busy) (rest_beside s held busy new next Step put)
-      (subst (λ (n : ℕ). undo_left_in undo.table next.stage new < n) (sym (ap undo_to_go (task_is s left old writer desks ∙ ap (shown old.schemas left) busy)))
-      (nearer s held busy new next put memory later))
+      let at = (goes_back s held busy).at in
+      let was = desk s held busy in
+      let is_busy : was.doing ≡ Undoing = sym (ap doing_in at) ∙ busy in
+      let gives = is_given s (λ d. record d { room = next }) store.desks at refl in
+      let left = undo_left_in was.undo.table next.stage new in
+      seen_went new (with_room s next store.desks) left (mine s held busy) gives.others (rest_beside s held busy new next Step put)
+      (ap (task_at new) gives.here ∙ ap (shown new.schemas left) is_busy)
+      (subst (λ (n : ℕ). left < n) (sym (ap undo_to_go (task_is s store ∙ ap (task_at store.world) at
+      ∙ ap (shown store.world.schemas (left_in store.world (Some was))) is_busy))) (nearer s held busy new next put memory later))

@@ -1,14 +1,13 @@
--- What a step of a change makes of a world with its desks.
-use Rattle.std.specs.Prelude.{◌≡◌, ℕ, ◌+◌, ◌<◌, List, ◌∷◌, map, slice_get, Some, None}
+-- What a step of a change makes of a store.
+use Rattle.std.specs.Prelude.{◌≡◌, ℕ, ◌+◌, ◌<◌, ◌∷◌, map, slice_get, Some, None}
 use Rattle.inno_db.specs.declared.change.Change.{Change}
 use Rattle.inno_model.specs.declared.event.Event.TheVariants.{Changed}
-use Rattle.world.specs.{State.WorldState, State.Session, declared.undo_room.UndoRoom.UndoRoom}
+use Rattle.world.specs.State.{WorldState, Session}
 use Rattle.row_changes.specs.{declared.row_change.RowChange.RowChange, declared.row_change.RowChange.TheVariants.Record}
 use Rattle.row_changes.specs.{declared.row_change.RowChange.TheVariants.Keys, declared.reached.Reached.Reached, declared.reached.Reached.TheVariants.Went}
 use Rattle.row_changes.specs.{declared.reached.Reached.TheVariants.Done, declared.reached.Reached.TheVariants.Hindered, Rows.row_steps, Rows.table_of}
-use Rattle.undo_apply.specs.declared.work_room.WorkRoom.{WorkRoom}
 use Rattle.shared_lists.specs.Steps.{rows_of_change}
-use Rattle.desks.specs.{declared.desk.Desk.Desk, declared.desk.Doing.Doing, declared.desk.Doing.TheVariants.Nothing, declared.desk.Doing.TheVariants.Changing}
+use Rattle.desks.specs.{Store.Store, declared.desk.Doing.Doing, declared.desk.Doing.TheVariants.Nothing, declared.desk.Doing.TheVariants.Changing}
 use Rattle.desks.specs.{declared.desk.Doing.TheVariants.Lagging, Desks.with_doing, Shown.change_in, Undoing.keys_if, Holding.IsHeld}
 
 -- what is left of a change that is given up: one that the history tells is to be taken back; one that it doesn't tell was
@@ -61,9 +60,12 @@ Comes s old new change (Went next) = Nears s old new change next
 Comes s old new change Done = AddsNothing old new × (change_in change ≡ None)
 Comes s old new change (Hindered same why) = AddsNothing old new × (same ≡ change)
 
--- The lists hold with what is left of the change.
-pub record MakesChange (s : ℕ) (desks : List Desk) (cuts : ℕ) (undo : UndoRoom) (room : WorkRoom) (old new : WorldState) (change : RowChange)
-    (reached : Reached RowChange) : Type 0 where
-  pub held : IsHeld new (Some s) (with_doing s (doing_after change reached) desks) cuts undo room
-  pub leaves : LeavesLists old new
-  pub comes : Comes s old new change reached
+-- the store once a step of the session's change came so far
+abbrev pub made_to : ℕ → Store → WorldState → RowChange → Reached RowChange → Store
+made_to s store new change reached = record store { world = new; desks = with_doing s (doing_after change reached) store.desks }
+
+-- The store holds with what is left of the change.
+pub record MakesChange (s : ℕ) (store : Store) (new : WorldState) (change : RowChange) (reached : Reached RowChange) : Type 0 where
+  pub held : IsHeld (made_to s store new change reached)
+  pub leaves : LeavesLists store.world new
+  pub comes : Comes s store.world new change reached

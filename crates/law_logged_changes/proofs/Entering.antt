@@ -2,13 +2,13 @@
 use Rattle.law_logged_changes.proofs.{Leaving.stay_kept, GoingOn.work_again, GoingOn.agrees_beside}
 use Rattle.std.proofs.Common.{◌≡◌, ⊎_elim, ℕ, ◌^◌, ◌<◌, ◌==◌, Bool, true, false, cond, List, [], ◌∷◌, length, Option, Some, refl, sym, ap, subst, ◌∙◌, arith}
 use Rattle.std.specs.Prelude.{slice_get, unwrap_or, IsTrue, option_map}
-use Rattle.std.specs.Map.{lookup}
+use Rattle.std.specs.{Map.lookup, List.list_any}
 use Rattle.std.proofs.lemmas.{Bool.cases_eq, Option.slice_get_within}
 use Rattle.inno_types.specs.{declared.value.Value.Value, declared.value.Schema.Schema}
 use Rattle.store_api.specs.declared.answers.Undo.{Undo}
 use Rattle.row_versions.specs.{Versions.Versions, declared.place.Place.Place, declared.version.Version.Version}
 use Rattle.row_versions.specs.Chains.{Chains, is_same_place, versions_at, Pushes}
-use Rattle.law_past_agreement.specs.{Rows.place_in, Rows.row_of, Order.IsOfRow, Order.IsTabled}
+use Rattle.law_past_agreement.specs.{Rows.place_in, Rows.is_at, Rows.row_of, Order.IsOfRow, Order.IsTabled}
 use Rattle.law_stored_rows.specs.Records.{KeepsMore}
 use Rattle.law_stored_rows.proofs.Values.{same_place, place_itself}
 use Rattle.world.specs.{State.WorldState, State.Session, State.Work, State.HasWork, Indexes.KeepsIf, Told.IsTold}
@@ -22,6 +22,7 @@ use Rattle.row_changes.specs.Records.{Records, IsChangingRecord, ChangesRecord, 
 use Rattle.row_changes.specs.Rows.{IsChangingRow, row_after, primary_of, place_of, PushesEdit, ChangesRow}
 use Rattle.row_changes.specs.declared.reached.Reached.TheVariants.{Went, Done, Hindered}
 use Rattle.row_changes.proofs.{Ids.one_work, Sessions.one_session, Pushed.kept_more, Keying.beside_stay}
+use Rattle.law_logged_changes.specs.Logs.{IsAlone}
 use Rattle.law_logged_changes.specs.GoingOn.{StaysOpen, KeepsBeside, EntersAgreed, GoesOnAgreed, StaysAgreed, EndsAgreed}
 use Rattle.inno_db.proofs.Keys.{key_in-at}
 use Rattle.row_changes.specs.declared.record_change.RecordReached.TheVariants as records
@@ -73,10 +74,10 @@ module _ (s : ℕ) (old new : WorldState) (aside : StepsAside s old new) where
     own = aside_open;
   }
 
-  pub aside_agreed : (chains : Chains) (next : RowChange) → Agrees chains (Some s) old → IsTold new → IsChangingRow s chains new next
+  pub aside_agreed : (chains : Chains) (next : RowChange) → Agrees chains old → IsTold new → IsChangingRow s chains new next
       → StaysAgreed s chains old new next
   aside_agreed chains next agrees told changing = record {
-    agrees = unentered_agrees chains (Some s) old new agrees aside_entered;
+    agrees = unentered_agrees chains old new agrees aside_entered;
     changing = changing;
     past = ap (λ (state : WorldState). state.past) aside.rest;
     rows = ap (λ (state : WorldState). state.rows) aside.rest;
@@ -86,8 +87,8 @@ module _ (s : ℕ) (old new : WorldState) (aside : StepsAside s old new) where
 
 -- ---- all sessions are as they were
 
-module _ (s : ℕ) (chains : Chains) (old new : WorldState) (stays : StaysBesideKeys old new) (agrees : Agrees chains (Some s) old) (told : IsTold new) where
-  keys_agree : Agrees chains (Some s) new
+module _ (s : ℕ) (chains : Chains) (old new : WorldState) (stays : StaysBesideKeys old new) (agrees : Agrees chains old) (told : IsTold new) where
+  keys_agree : Agrees chains new
   keys_agree = agrees_beside stays.rest agrees
 
   keys_beside : KeepsBeside s old new
@@ -248,9 +249,9 @@ module _ (s : ℕ) (chains : Chains) (old new : WorldState) (change : RecordChan
     own = entered_open;
   }
 
-  pub entered : (next : KeysChange) (p : IsChangingRecord s old change) → Agrees chains (Some s) old → length new.past < 2 ^ 63
+  pub entered : (next : KeysChange) (p : IsChangingRecord s old change) → Agrees chains old → IsAlone s old → length new.past < 2 ^ 63
       → ((pushed : Chains) → PushesEdit s change old chains pushed → IsChangingKeys pushed new next) → EntersAgreed s chains old new change next
-  entered next p agrees few keys =
+  entered next p agrees alone few keys =
       let place = place_of p.schema change in
       let version : Version = record { writer = id_for p.work.id old.txns.next; row = row_after change.edit } in
       let after = with_version place version chains in
@@ -267,7 +268,8 @@ module _ (s : ℕ) (chains : Chains) (old new : WorldState) (change : RecordChan
         after = after;
         pushes = push;
         agrees =
-            changed_agrees chains after old new s (change_of change.table change.edit) place agrees (of_row change.table change.edit)
+            changed_agrees chains after old new s (change_of change.table change.edit) place agrees
+            (λ p at u differs. ap (list_any (is_at old.schemas p)) (alone u differs)) (of_row change.table change.edit)
             (place_there old.schemas change.table change.edit p.schema p.table.there)
             (tabled (length old.schemas) change.table change.edit (slice_get_within old.schemas change.table p.schema p.table.there)) changed_by pushed'
             (omega (arith, few, ap length changed_by.past));
@@ -278,29 +280,29 @@ module _ (s : ℕ) (chains : Chains) (old new : WorldState) (change : RecordChan
       }
 
 enters : (s : ℕ) (chains : Chains) (old new : WorldState) (change : RecordChange) (next : KeysChange) → IsChangingRecord s old change
-    → ChangesRecord s old new change (records.Recorded next.before) → IsTold new → Agrees chains (Some s) old → length new.past < 2 ^ 63
+    → ChangesRecord s old new change (records.Recorded next.before) → IsTold new → Agrees chains old → IsAlone s old → length new.past < 2 ^ 63
     → ((pushed : Chains) → PushesEdit s change old chains pushed → IsChangingKeys pushed new next) → EntersAgreed s chains old new change next
-enters s chains old new change next p c told agrees few keys =
-    ⊎_elim (λ first. entered s chains old new change _ _ first.0.records told next p agrees few keys)
-    (λ over. entered s chains old new change _ _ over.1.records told next p agrees few keys) c.2
+enters s chains old new change next p c told agrees alone few keys =
+    ⊎_elim (λ first. entered s chains old new change _ _ first.0.records told next p agrees alone few keys)
+    (λ over. entered s chains old new change _ _ over.1.records told next p agrees alone few keys) c.2
 
 -- ---- each step
 
-pub goes_on : (s : ℕ) (chains : Chains) (old new : WorldState) (change : RowChange) (reached : Reached RowChange) → Agrees chains (Some s) old
-    → IsChangingRow s chains old change → ChangesRow s chains old new change reached → IsTold new → length new.past < 2 ^ 63
+pub goes_on : (s : ℕ) (chains : Chains) (old new : WorldState) (change : RowChange) (reached : Reached RowChange) → Agrees chains old
+    → IsAlone s old → IsChangingRow s chains old change → ChangesRow s chains old new change reached → IsTold new → length new.past < 2 ^ 63
     → GoesOnAgreed s chains old new change reached
-goes_on s chains old new (Record change key after) (Went (Record next key' after')) agrees p c told few =
+goes_on s chains old new (Record change key after) (Went (Record next key' after')) agrees alone p c told few =
     aside_agreed s old new c.0.0.aside chains (Record next key' after') agrees told c.0.1
-goes_on s chains old new (Record change key after) (Went (Keys next)) agrees p c told few = enters s chains old new change next p.0 c.0.0 told agrees few c.0.1
-goes_on s chains old new (Keys change) (Went (Record next key after)) agrees p c told few = absurd c.0
-goes_on s chains old new (Keys change) (Went (Keys next)) agrees p c told few = keys_agreed s chains old new c.0.stays agrees told (Keys next) c.0.holds
-goes_on s chains old new (Record change key after) Done agrees p c told few = absurd c
-goes_on s chains old new (Keys change) Done agrees p c told few = keys_ended s chains old new (beside_stay old new c.0) agrees told c.1
-goes_on s chains old new (Record change key after) (Hindered same why) agrees p c told few = (
+goes_on s chains old new (Record change key after) (Went (Keys next)) agrees alone p c told few = enters s chains old new change next p.0 c.0.0 told agrees alone few c.0.1
+goes_on s chains old new (Keys change) (Went (Record next key after)) agrees alone p c told few = absurd c.0
+goes_on s chains old new (Keys change) (Went (Keys next)) agrees alone p c told few = keys_agreed s chains old new c.0.stays agrees told (Keys next) c.0.holds
+goes_on s chains old new (Record change key after) Done agrees alone p c told few = absurd c
+goes_on s chains old new (Keys change) Done agrees alone p c told few = keys_ended s chains old new (beside_stay old new c.0) agrees told c.1
+goes_on s chains old new (Record change key after) (Hindered same why) agrees alone p c told few = (
   c.0,
   aside_agreed s old new c.2.0 chains same agrees told (subst (IsChangingRow s chains new) (sym c.0) c.1),
 )
-goes_on s chains old new (Keys change) (Hindered same why) agrees p c told few = (
+goes_on s chains old new (Keys change) (Hindered same why) agrees alone p c told few = (
   c.0,
   keys_agreed s chains old new (beside_stay old new c.2.0) agrees told same (subst (IsChangingRow s chains new) (sym c.0) c.1),
 )

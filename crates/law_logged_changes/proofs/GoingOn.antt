@@ -28,10 +28,10 @@ work_again u session work old new rest has =
 pub own_beside : (u : ℕ) (old new : WorldState) → ChangesPairsAlone old new → own u new.past ≡ own u old.past
 own_beside u old new rest = ap (λ (state : WorldState). own u state.past) rest
 
-pub agrees_beside : {old new : WorldState} {chains : Chains} {writer : Option ℕ} → ChangesPairsAlone old new → Agrees chains writer old
-    → Agrees chains writer new
-agrees_beside {old} {new} {chains} {writer} rest agrees =
-    agrees_alike chains writer old new agrees (ap (λ (x : WorldState). x.names) rest) (ap (λ (x : WorldState). x.past) rest)
+pub agrees_beside : {old new : WorldState} {chains : Chains} → ChangesPairsAlone old new → Agrees chains old
+    → Agrees chains new
+agrees_beside {old} {new} {chains} rest agrees =
+    agrees_alike chains old new agrees (ap (λ (x : WorldState). x.names) rest) (ap (λ (x : WorldState). x.past) rest)
     (ap (λ (x : WorldState). x.schemas) rest) (ap (λ (x : WorldState). x.txns) rest) (ap (λ (x : WorldState). x.sessions) rest)
 
 pub logs_beside : (old new : WorldState) → ChangesPairsAlone old new → LeavesLogs OfAll old new

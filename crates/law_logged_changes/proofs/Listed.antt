@@ -12,11 +12,11 @@ use Rattle.law_world_agreement.proofs.Ending.{work_of, one_session_of}
 use Rattle.row_changes.specs.{declared.record_change.RecordStage.TheVariants.Enter, declared.row_change.RowChange.TheVariants.Record, Rows.IsChangingRow}
 use Rattle.row_changes.specs.{Rows.row_after, declared.row_edit.RowEdit.RowEdit, Edits.FitsEdit, Records.IsTable, Records.IsListed, Told.HasRows}
 
-module _ (chains : Chains) (writer : Option ℕ) (state : WorldState) (s : ℕ) (session : Session) (work : Work) (agrees : Agrees chains writer state)
+module _ (chains : Chains) (state : WorldState) (s : ℕ) (session : Session) (work : Work) (agrees : Agrees chains state)
     (has : HasWork s session work state) where
   pub listed_of : IsListed s work state
   listed_of =
-      let mine = work_of chains writer state s session work agrees has in
+      let mine = work_of chains state s session work agrees has in
       let found = (opens_of state.past agrees.lists.ordered).there s (ap is_some mine.level_is) in
       let open_txns = ap (λ (t : Txns). t.open_txns) agrees.lists.txns_are in
       let next : state.txns.next ≡ given state.past + 1 = ap (λ (t : Txns). t.next) agrees.lists.txns_are in
@@ -24,18 +24,18 @@ module _ (chains : Chains) (writer : Option ℕ) (state : WorldState) (s : ℕ) 
         there = rw (open_txns, ← mine.txn_is) found.0;
         id = rw (open_txns, ← mine.txn_is, ← mine.id_is) found.1;
         few = omega (arith, next, given_few state.past, agrees.lists.small);
-        alone = λ t other also theirs same. one_session_of chains writer state s t session other work also agrees has theirs same;
+        alone = λ t other also theirs same. one_session_of chains state s t session other work also agrees has theirs same;
       }
 
   pub small_of : work.id < 2 ^ 64
   small_of =
-      let mine = work_of chains writer state s session work agrees has in
+      let mine = work_of chains state s session work agrees has in
       omega (arith, mine.id_is, (ids_of state.past agrees.lists.ordered).below s, given_few state.past, agrees.lists.small)
 
-pub begun : (chains : Chains) (writer : Option ℕ) (state : WorldState) (s table : ℕ) (session : Session) (work : Work) (schema : Schema) (edit : RowEdit)
-    (key : List ℕ) → Agrees chains writer state → HasRows chains state → HasWork s session work state → IsTable table schema state → FitsEdit schema edit key
+pub begun : (chains : Chains) (state : WorldState) (s table : ℕ) (session : Session) (work : Work) (schema : Schema) (edit : RowEdit)
+    (key : List ℕ) → Agrees chains state → HasRows chains state → HasWork s session work state → IsTable table schema state → FitsEdit schema edit key
     → IsChangingRow s chains state (Record (record { table = table; edit = edit; key = key; stage = Enter }) key (row_after edit))
-begun chains writer state s table session work schema edit key agrees rows has there fits = (
+begun chains state s table session work schema edit key agrees rows has there fits = (
   record {
     schema = schema;
     table = there;
@@ -43,8 +43,8 @@ begun chains writer state s table session work schema edit key agrees rows has t
     session = session;
     work = work;
     has_work = has;
-    listed = listed_of chains writer state s session work agrees has;
-    small = small_of chains writer state s session work agrees has;
+    listed = listed_of chains state s session work agrees has;
+    small = small_of chains state s session work agrees has;
     stage = record {};
   },
   rows,

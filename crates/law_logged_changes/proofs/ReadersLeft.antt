@@ -43,9 +43,9 @@ module _ (old new : WorldState) (leaves : LeavesRows old new) where
 
   -- ---- the change
 
-  record_left : (s : ℕ) (chains : Chains) (writer : Option ℕ) (change : RecordChange) → IsChangingRecord s old change
-      → slice_get new.sessions s ≡ slice_get old.sessions s → Agrees chains writer new → IsChangingRecord s new change
-  record_left s chains writer change p session agrees =
+  record_left : (s : ℕ) (chains : Chains) (change : RecordChange) → IsChangingRecord s old change
+      → slice_get new.sessions s ≡ slice_get old.sessions s → Agrees chains new → IsChangingRecord s new change
+  record_left s chains change p session agrees =
       let has : HasWork s p.session p.work new = record { session_is = session ∙ p.has_work.session_is; work_is = p.has_work.work_is } in
       record {
         schema = p.schema;
@@ -54,7 +54,7 @@ module _ (old new : WorldState) (leaves : LeavesRows old new) where
         session = p.session;
         work = p.work;
         has_work = has;
-        listed = listed_of chains writer new s p.session p.work agrees has;
+        listed = listed_of chains new s p.session p.work agrees has;
         small = p.small;
         stage =
             stage_kept change.stage p.schema change.edit change.key p.session (old.indexes (clustered_index change.table))
@@ -82,8 +82,8 @@ module _ (old new : WorldState) (leaves : LeavesRows old new) where
       (entering_left p.schema change.table change.which change.after change.key) p.put)
       (so_far_left chains (record { table = change.table; key = p.value }) change.which (said_next change.put change.before p.older) p.older p.rows)
 
-  pub change_left : (s : ℕ) (chains : Chains) (writer : Option ℕ) (change : RowChange) → IsChangingRow s chains old change
-      → slice_get new.sessions s ≡ slice_get old.sessions s → Agrees chains writer new → IsChangingRow s chains new change
-  change_left s chains writer (Record change key after) p session agrees =
-      (record_left s chains writer change p.0 session agrees, has_rows_left chains p.1, p.2, p.3)
-  change_left s chains writer (Keys change) p session agrees = keys_left chains change p
+  pub change_left : (s : ℕ) (chains : Chains) (change : RowChange) → IsChangingRow s chains old change
+      → slice_get new.sessions s ≡ slice_get old.sessions s → Agrees chains new → IsChangingRow s chains new change
+  change_left s chains (Record change key after) p session agrees =
+      (record_left s chains change p.0 session agrees, has_rows_left chains p.1, p.2, p.3)
+  change_left s chains (Keys change) p session agrees = keys_left chains change p

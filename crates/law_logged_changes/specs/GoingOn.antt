@@ -41,7 +41,7 @@ pub record KeepsBeside (s : ℕ) (old new : WorldState) : Type 0 where
 
 -- no entry has come, and this is left of the change
 pub record StaysAgreed (s : ℕ) (chains : Chains) (old new : WorldState) (next : RowChange) : Type 0 where
-  pub agrees : Agrees chains (Some s) new
+  pub agrees : Agrees chains new
   pub changing : IsChangingRow s chains new next
   pub past : new.past ≡ old.past
   pub rows : new.rows ≡ old.rows
@@ -52,7 +52,7 @@ pub record StaysAgreed (s : ℕ) (chains : Chains) (old new : WorldState) (next 
 pub record EntersAgreed (s : ℕ) (chains : Chains) (old new : WorldState) (change : RecordChange) (next : KeysChange) : Type 0 where
   pub after : Chains
   pub pushes : PushesEdit s change old chains after
-  pub agrees : Agrees after (Some s) new
+  pub agrees : Agrees after new
   pub changing : IsChangingRow s after new (Keys next)
   pub past : new.past ≡ Changed s (change_of change.table change.edit) ∷ old.past
   pub rows : new.rows ≡ old.rows + rows_put change.edit
@@ -60,7 +60,7 @@ pub record EntersAgreed (s : ℕ) (chains : Chains) (old new : WorldState) (chan
 
 -- the change is over
 pub record EndsAgreed (s : ℕ) (chains : Chains) (old new : WorldState) : Type 0 where
-  pub agrees : Agrees chains (Some s) new
+  pub agrees : Agrees chains new
   pub coded : HasRows chains new
   pub past : new.past ≡ old.past
   pub rows : new.rows ≡ old.rows

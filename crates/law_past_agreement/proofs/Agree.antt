@@ -1,6 +1,7 @@
--- What becomes of the agreement of rows, transactions and writers with the past, and what readers find.
+-- What becomes of the agreement of rows and transactions with the past, and what readers find.
 use Rattle.std.proofs.Common.{◌≡◌, ◌≢◌, ℕ, ◌+◌, true, false, None, List, [], ◌∷◌, ◌++◌, length, refl, sym, ap, ◌∙◌, inl, inr, arith}
 use Rattle.std.proofs.lemmas.Bool.Decides.{nat_tests, eqb_tells}
+use Rattle.std.proofs.lemmas.Bool.{false≢true}
 use Rattle.std.specs.List.{AllByRecursion, list_any}
 use Rattle.std.specs.FinMap.{get}
 use Rattle.inno_types.specs.{declared.value.Schema.Schema}
@@ -45,15 +46,15 @@ view_now h ordered s =
 -- ---- rows
 
 -- a table that is made leaves all rows
-pub rows_created : {vs : List Version} (h : List Event) → IsOrdered h → (s : ℕ) (schema : Schema) → ((u : ℕ) → u ≢ s → own u h ≡ []) → (place : Place)
+pub rows_created : {vs : List Version} (h : List Event) → IsOrdered h → (s : ℕ) (schema : Schema) → (place : Place)
     → AreVersions h (row_opened h place) (is_at (created h) place) vs
     → AreVersions (Changed s (Create schema) ∷ h) (row_opened h place) (is_at (created h ++ schema ∷ []) place) vs
-rows_created h ordered s schema lone place v =
+rows_created h ordered s schema place v =
     let at = is_at (created h) place in
     let at' = is_at (created h ++ schema ∷ []) place in
     let alike : (changes : List Change) → AllByRecursion (IsTabled (length (created h))) changes → AllByRecursion (λ change. at' change ≡ at change) changes =
     all_weaker (IsTabled (length (created h))) (λ change. at' change ≡ at change) (at_stays (created h) (schema ∷ []) place) in
-    versions.rows_changed (row_opened h place) at' s (Create schema) h (ids_of h ordered) lone refl
+    versions.rows_changed (row_opened h place) at' s (Create schema) h (ids_of h ordered) (λ is. absurd (false≢true is)) refl
     (versions.rows_alike (row_opened h place) at at' h (λ u. alike (own u h) (own_tabled h ordered u))
     (λ n. alike (committed n h) (committed_tabled h ordered n)) v)
 

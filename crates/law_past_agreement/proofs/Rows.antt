@@ -2,7 +2,7 @@
 use Rattle.std.proofs.Common.{◌≡◌, ◌≢◌, ℕ, ◌+◌, ◌<◌, Bool, true, false, cond, nat_lt, Option, List, [], ◌∷◌, ◌++◌, length}
 use Rattle.std.proofs.Common.{◌==◌, ◌||◌, refl, sym, ap, subst, ◌∙◌, ◌⊎◌, inl, inr, arith}
 use Rattle.std.proofs.lemmas.Bool.Decides.{nat_tests, eqb_tells}
-use Rattle.std.proofs.lemmas.Bool.{cases_lt}
+use Rattle.std.proofs.lemmas.Bool.{cases_lt, cases_Bool, false≢true}
 use Rattle.std.specs.List.{AllByRecursion, list_any}
 use Rattle.inno_types.specs.declared.value.Value.{Value}
 use Rattle.inno_db.specs.declared.change.Change.{Change}
@@ -84,13 +84,14 @@ module _ (opened : Option (List Value)) (at : Change → Bool) where
     },
   )
 
-  -- Where a session alone has changes, it can be taken for the writer.
-  by_writer : {vs : List Version} (h : List Event) (t : ℕ) → ((s : ℕ) → s ≢ t → own s h ≡ []) → AreVersions h opened at vs → AreVersionsBy h t opened at vs
+  -- Where no other session has changes of the place, a session can be taken for its writer.
+  by_writer : {vs : List Version} (h : List Event) (t : ℕ) → ((s : ℕ) → s ≢ t → list_any at (own s h) ≡ false) → AreVersions h opened at vs
+      → AreVersionsBy h t opened at vs
   by_writer h t lone v =
       record {
         behind = v.1.behind;
-        parts = grind (arith, eqb_tells v.0 t, v.1.parts, lone v.0, versions_of-none (id_of h t) (own t h), v.1.alone t);
-        alone = λ s other. ap (list_any at) (lone s other);
+        parts = grind (arith, eqb_tells v.0 t, v.1.parts, versions_of-none (id_of h v.0) (own v.0 h), versions_of-none (id_of h t) (own t h), lone v.0, v.1.alone t);
+        alone = lone;
         are_settled = v.1.are_settled;
         reads = v.1.reads;
       }
@@ -109,20 +110,29 @@ module _ (opened : Option (List Value)) (at : Change → Bool) where
       → versions_of (id_of (Changed t change ∷ h) t) at (own t h) ≡ versions_of (id_of h t) at (own t h)
   own_versions t change h ids = grind (arith, nat_tests, ids.no_id t)
 
-  pub rows_changed : {old new : List Version} (t : ℕ) (change : Change) (h : List Event) → AreIds h → ((s : ℕ) → s ≢ t → own s h ≡ [])
+  -- the versions of who may be taken for the writer
+  changed_by : {old new : List Version} (w t : ℕ) (change : Change) (h : List Event) → AreIds h → (at change ≡ true → w ≡ t)
+      → new ≡ cond (at change) (record { writer = id_of (Changed t change ∷ h) t; row = row_of change } ∷ old) old
+      → AreVersionsBy h w opened at old → AreVersionsBy (Changed t change ∷ h) w opened at new
+  changed_by w t change h ids mine given by =
+      record {
+        behind = by.behind;
+        parts = grind (arith, nat_tests, given, mine, by.parts, own_versions t change h ids);
+        alone = λ s other. grind (arith, nat_tests, mine, by.alone s other);
+        are_settled = settled_on (Changed t change) h by.behind by.are_settled;
+        reads = λ n needed. by.reads n (needed_before (Changed t change) h n needed);
+      }
+
+  -- A change of the place, where no other session has one; or one that isn't of the place.
+  pub rows_changed : {old new : List Version} (t : ℕ) (change : Change) (h : List Event) → AreIds h
+      → (at change ≡ true → (s : ℕ) → s ≢ t → list_any at (own s h) ≡ false)
       → new ≡ cond (at change) (record { writer = id_of (Changed t change ∷ h) t; row = row_of change } ∷ old) old
       → AreVersions h opened at old → AreVersions (Changed t change ∷ h) opened at new
   rows_changed t change h ids lone given v =
-      let by = by_writer h t lone v in (
-        t,
-        record {
-          behind = by.behind;
-          parts = grind (arith, nat_tests, given, by.parts, own_versions t change h ids);
-          alone = λ s other. grind (arith, nat_tests, by.alone s other);
-          are_settled = settled_on (Changed t change) h by.behind by.are_settled;
-          reads = λ n needed. by.reads n (needed_before (Changed t change) h n needed);
-        },
-      )
+      elim (cases_Bool (at change)) [
+        | inl here ↦ (t, changed_by t t change h ids (λ is. refl) given (by_writer h t (lone here) v))
+        | inr apart ↦ (v.0, changed_by v.0 t change h ids (λ is. absurd (false≢true (sym apart ∙ is))) given v.1)
+      ]
 
   -- a change that is taken back
   pub rows_undone : {old new : List Version} (t keep : ℕ) (change : Change) (before : List Change) (h : List Event) → own t h ≡ change ∷ before

@@ -82,11 +82,6 @@ pub record IsOpenedWith (row : Option (List Value)) (versions : List Version) : 
   pub older : AllByRecursion (λ v. v.writer ≡ 0) versions
   pub row_is : newest versions ≡ row
 
--- Only the session that may write has changes, and it has an open transaction.
-abbrev pub WriterAgrees : List Event → Option ℕ → Type 0
-WriterAgrees h None = (s : ℕ) → own s h ≡ []
-WriterAgrees h (Some w) = IsOpen w h × ((s : ℕ) → s ≢ w → own s h ≡ [])
-
 -- ---- the room by which transactions and items can end
 
 -- the entries by which a transaction can end: one to undo each change, and then one or two
@@ -103,14 +98,14 @@ owed_by_item None = 0
 abbrev pub owed_by : List Event → ℕ → ℕ
 owed_by h s = owed_by_txn (level s h) (length (own s h)) (awaits_ack (of_item s h)) + owed_by_item (under_way s h)
 
+-- Who may write isn't spoken of: of each place at most one open transaction has changes.
 pub record IsAgreed (names : List (List ℕ)) (h : List Event) (schemas : List Schema) (chains : Chains) (txns : Txns) (slots : List Slot)
-    (writer : Option ℕ) : Type 0 where
+    : Type 0 where
   pub ordered : IsOrdered h
   pub small : length h < 2 ^ 63
   pub tables : schemas ≡ created h
   pub txns_are : txns ≡ txns_of h
   pub sessions : (s : ℕ) → SlotAgrees schemas h s (slice_index_or slots s fresh)
   pub rows : (place : Place) → AreVersions h (row_opened h place) (is_at schemas place) (versions_at place chains)
-  pub writes : WriterAgrees h writer
   -- nothing is owed to a session that hasn't joined
   pub strangers : (s : ℕ) → length names ≤ s → owed_by h s ≡ 0

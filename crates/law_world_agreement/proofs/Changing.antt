@@ -1,9 +1,10 @@
 -- A row that is changed, and a table that is made.
-use Rattle.std.proofs.Common.{◌≡◌, ℕ, ◌+◌, ◌<◌, ◌^◌, List, [], ◌∷◌, ◌++◌, length, option_map, is_some, Some, sym, ap, ◌∙◌, refl, arith}
+use Rattle.std.proofs.Common.{◌≡◌, ◌≢◌, ℕ, ◌+◌, ◌<◌, ◌^◌, true, false, List, [], ◌∷◌, ◌++◌, length, option_map, is_some, Some, sym, ap, ◌∙◌, refl, arith}
+use Rattle.std.specs.List.{list_any}
 use Rattle.std.proofs.lemmas.Bool.Decides.{nat_tests}
 use Rattle.inno_types.specs.declared.value.Schema.{Schema}
 use Rattle.inno_db.specs.{declared.change.Change.Change, declared.change.Change.TheVariants.Create}
-use Rattle.inno_model.specs.{declared.event.Event.Event, declared.event.Event.TheVariants.Changed, Past.IsOpen}
+use Rattle.inno_model.specs.{declared.event.Event.Event, declared.event.Event.TheVariants.Changed, Past.IsOpen, Past.own}
 use Rattle.row_versions.specs.{declared.place.Place.Place, Chains.Chains, Chains.Pushes, Chains.versions_at}
 use Rattle.law_past_agreement.specs.{Slots.id_for, Ids.id_of, Ids.txns_of, Rows.place_in, Rows.is_at, Rows.row_of, Rows.row_opened}
 use Rattle.law_past_agreement.specs.{Order.created, Order.IsOfRow, Order.IsTabled, Agreement.AreVersions}
@@ -22,7 +23,7 @@ one_work s a b v w state first second = let p = first.session_is in let q = seco
 tables_stay : (s : ℕ) (change : Change) (h : List Event) → IsOfRow change → created (Changed s change ∷ h) ≡ created h
 tables_stay s change h of-row = grind (arith, of-row)
 
-module _ {chains : Chains} {old new : WorldState} {s : ℕ} {change : Change} {tables : List Schema} (agrees : Agrees chains (Some s) old)
+module _ {chains : Chains} {old new : WorldState} {s : ℕ} {change : Change} {tables : List Schema} (agrees : Agrees chains old)
     (by : IsChangedBy s change tables old new) (tabled : IsTabled (length (created old.past)) change) where
   mine : IsKept old.past s by.work
   mine = kept_of agrees by.had
@@ -43,30 +44,30 @@ module _ {chains : Chains} {old new : WorldState} {s : ℕ} {change : Change} {t
       (λ id some same. grind (arith, nat_tests, some, same)) refl (option_map sight_of by.work.view) mine.view_is in
       grind (arith, nat_tests, mine, by.more, id_now, view)
 
-  -- no other session has changes
   pub changes : {chains' : Chains} → length old.past + 1 < 2 ^ 63
       → new.schemas ≡ created (Changed s change ∷ old.past)
       → ((place : Place) → AreVersions (Changed s change ∷ old.past) (row_opened old.past place) (is_at new.schemas place) (versions_at place chains'))
-      → Agrees chains' (Some s) new
+      → Agrees chains' new
   changes few tables-are rows =
       after agrees (Changed s change) s (mine_tells s) (was_open, tabled) few (joined_of agrees by.had.session_is)
       (record { past = by.past; names = by.names; count = by.count; others = λ u differs. ap (option_map (λ (x : Session). x.work)) (by.others u differs) })
       tables-are txns_now (Some by.work_now) (works_are by.has) kept_now rows
-      (was_open, λ u differ. grind (arith, nat_tests, agrees.lists.writes.1 u differ, differ))
 
-pub changed_agrees : (chains chains' : Chains) (old new : WorldState) (s : ℕ) (change : Change) (place : Place) → Agrees chains (Some s) old
+-- No other session has changes of the place.
+pub changed_agrees : (chains chains' : Chains) (old new : WorldState) (s : ℕ) (change : Change) (place : Place) → Agrees chains old
+    → ((p : Place) → is_at old.schemas p change ≡ true → (u : ℕ) → u ≢ s → list_any (is_at old.schemas p) (own u old.past) ≡ false)
     → IsOfRow change → place_in old.schemas change ≡ Some place → IsTabled (length old.schemas) change
     → (by : IsChangedBy s change old.schemas old new) → Pushes chains chains' place
-    (record { writer = id_for by.work.id old.txns.next; row = row_of change }) → length old.past + 1 < 2 ^ 63 → Agrees chains' (Some s) new
-changed_agrees chains chains' old new s change place agrees of_row place_is tabled by pushes few =
+    (record { writer = id_for by.work.id old.txns.next; row = row_of change }) → length old.past + 1 < 2 ^ 63 → Agrees chains' new
+changed_agrees chains chains' old new s change place agrees alone of_row place_is tabled by pushes few =
     let told : IsTabled (length (created old.past)) change = rw (← agrees.lists.tables) tabled in
     changes agrees by told few (by.schemas ∙ (agrees.lists.tables ∙ sym (tables_stay s change old.past of_row)))
     (λ p. rw by.schemas (rows_changed (row_opened old.past p) (is_at old.schemas p) s change old.past (ids_of old.past agrees.lists.ordered)
-    agrees.lists.writes.1 (grind (arith, pushes p, place_is, id_now agrees by told)) (agrees.lists.rows p)))
+    (alone p) (grind (arith, pushes p, place_is, id_now agrees by told)) (agrees.lists.rows p)))
 
-pub created_agrees : (chains : Chains) (old new : WorldState) (s : ℕ) (schema : Schema) → Agrees chains (Some s) old
-    → (by : IsChangedBy s (Create schema) (old.schemas ++ schema ∷ []) old new) → length old.past + 1 < 2 ^ 63 → Agrees chains (Some s) new
+pub created_agrees : (chains : Chains) (old new : WorldState) (s : ℕ) (schema : Schema) → Agrees chains old
+    → (by : IsChangedBy s (Create schema) (old.schemas ++ schema ∷ []) old new) → length old.past + 1 < 2 ^ 63 → Agrees chains new
 created_agrees chains old new s schema agrees by few =
     let more : new.schemas ≡ created old.past ++ schema ∷ [] = by.schemas ∙ ap (λ (ts : List Schema). ts ++ schema ∷ []) agrees.lists.tables in
     changes agrees by tt few more
-    (λ p. rw more (rows_created old.past agrees.lists.ordered s schema agrees.lists.writes.1 p (rows_told agrees p)))
+    (λ p. rw more (rows_created old.past agrees.lists.ordered s schema p (rows_told agrees p)))

@@ -1,5 +1,5 @@
 -- Entries that change no transaction, and a change that is put back.
-use Rattle.std.proofs.Common.{◌≡◌, ◌≢◌, ⊎_elim, ℕ, ◌+◌, ◌<◌, ◌^◌, false, List, ◌∷◌, length, slice_get, option_map, is_some, Option, Some, None}
+use Rattle.std.proofs.Common.{◌≡◌, ◌≢◌, ⊎_elim, ℕ, ◌+◌, ◌<◌, ◌^◌, false, List, ◌∷◌, length, slice_get, option_map, is_some, Some, None}
 use Rattle.std.proofs.Common.{inr, refl, sym, ap, subst, ◌∙◌, arith}
 use Rattle.std.proofs.lemmas.Bool.Decides.{nat_tests}
 use Rattle.std.proofs.lemmas.Option.{slice_get_cases}
@@ -33,9 +33,9 @@ record IsQuiet (e : Event) (h : List Event) : Type 0 where
 there_at : (xs : List Session) (s : ℕ) → s < length xs → (x : Session) × (slice_get xs s ≡ Some x)
 there_at xs s lt = ⊎_elim (λ there. (there.0, there.2)) (λ past. absurd (omega (arith, lt, past.0))) (slice_get_cases xs s).1
 
-module _ (chains : Chains) (writer : Option ℕ) (old new : WorldState) where
-  quiet : (e : Event) (s : ℕ) → IsQuiet e old.past → ((u : ℕ) → u ≢ s → is_of u e ≡ false) → MayCome old.past e → Agrees chains writer old
-      → s < length old.names → length old.past + 1 < 2 ^ 63 → IsEntered (e ∷ old.past) old new → Agrees chains writer new
+module _ (chains : Chains) (old new : WorldState) where
+  quiet : (e : Event) (s : ℕ) → IsQuiet e old.past → ((u : ℕ) → u ≢ s → is_of u e ≡ false) → MayCome old.past e → Agrees chains old
+      → s < length old.names → length old.past + 1 < 2 ^ 63 → IsEntered (e ∷ old.past) old new → Agrees chains new
   quiet e s is mine may agrees joined few entered =
       let h = old.past in
       let there = there_at old.sessions s (omega (arith, joined, agrees.count)) in
@@ -48,37 +48,36 @@ module _ (chains : Chains) (writer : Option ℕ) (old new : WorldState) where
       (subst (Keeps h s) was (keeps_of agrees s)))
       (λ place. rw (entered.schemas, is.opening_is) (rows_stay (row_opened h place) (is_at old.schemas place) e h (λ u. inr (is.id_is u)) is.own_is is.among_is
       is.committed_is (agrees.lists.rows place)))
-      (grind (arith, is.own_is, is.level_is, agrees.lists.writes))
 
   -- no entry was added
-  pub unentered_agrees : Agrees chains writer old → IsEntered old.past old new → Agrees chains writer new
+  pub unentered_agrees : Agrees chains old → IsEntered old.past old new → Agrees chains new
   unentered_agrees agrees entered =
-      agrees_alike chains writer (record new { past = old.past; names = old.names; schemas = old.schemas; txns = old.txns }) new
+      agrees_alike chains (record new { past = old.past; names = old.names; schemas = old.schemas; txns = old.txns }) new
       (agreeing agrees.lists.ordered agrees.lists.small agrees.lists.tables agrees.lists.txns_are
-      (λ u. subst (Keeps old.past u) (sym (entered.works u)) (keeps_of agrees u)) agrees.lists.rows agrees.lists.writes agrees.lists.strangers
+      (λ u. subst (Keeps old.past u) (sym (entered.works u)) (keeps_of agrees u)) agrees.lists.rows agrees.lists.strangers
       (entered.count ∙ agrees.count)) entered.names entered.past_is entered.schemas entered.txns refl
 
-  pub started_agrees : (s j : ℕ) (item : Item) → Agrees chains writer old → s < length old.names → under_way s old.past ≡ None → j ≡ started s old.past + 1
-      → length old.past + 1 < 2 ^ 63 → IsEntered (Started s j item ∷ old.past) old new → Agrees chains writer new
+  pub started_agrees : (s j : ℕ) (item : Item) → Agrees chains old → s < length old.names → under_way s old.past ≡ None → j ≡ started s old.past + 1
+      → length old.past + 1 < 2 ^ 63 → IsEntered (Started s j item ∷ old.past) old new → Agrees chains new
   started_agrees s j item agrees joined idle j_is = quiet (Started s j item) s (assumption) (mine_tells s) (idle, j_is) agrees joined
 
-  pub ended_agrees : (s j : ℕ) (reply : Reply) → Agrees chains writer old → s < length old.names → MayCome old.past (Ended s j reply)
-      → length old.past + 1 < 2 ^ 63 → IsEntered (Ended s j reply ∷ old.past) old new → Agrees chains writer new
+  pub ended_agrees : (s j : ℕ) (reply : Reply) → Agrees chains old → s < length old.names → MayCome old.past (Ended s j reply)
+      → length old.past + 1 < 2 ^ 63 → IsEntered (Ended s j reply ∷ old.past) old new → Agrees chains new
   ended_agrees s j reply agrees joined may = quiet (Ended s j reply) s (assumption) (mine_tells s) may agrees joined
 
-  pub acked_agrees : (s moment : ℕ) → Agrees chains writer old → s < length old.names → MayCome old.past (Acked s moment)
-      → length old.past + 1 < 2 ^ 63 → IsEntered (Acked s moment ∷ old.past) old new → Agrees chains writer new
+  pub acked_agrees : (s moment : ℕ) → Agrees chains old → s < length old.names → MayCome old.past (Acked s moment)
+      → length old.past + 1 < 2 ^ 63 → IsEntered (Acked s moment ∷ old.past) old new → Agrees chains new
   acked_agrees s moment agrees joined may = quiet (Acked s moment) s (assumption) (mine_tells s) may agrees joined
 
-  pub signal_agrees : (s : ℕ) (name : List ℕ) → Agrees chains writer old → s < length old.names → length old.past + 1 < 2 ^ 63
-      → IsEntered (Signal name ∷ old.past) old new → Agrees chains writer new
+  pub signal_agrees : (s : ℕ) (name : List ℕ) → Agrees chains old → s < length old.names → length old.past + 1 < 2 ^ 63
+      → IsEntered (Signal name ∷ old.past) old new → Agrees chains new
   signal_agrees s name agrees = quiet (Signal name) s (assumption) (λ u differs. refl) tt agrees
 
-pub taken_back_agrees : (chains chains' : Chains) (writer : Option ℕ) (old new : WorldState) (s keep : ℕ) (change : Change) (before : List Change)
-    (place : Place) → Agrees chains writer old → own s old.past ≡ change ∷ before → keep ≡ length before → IsOfRow change
+pub taken_back_agrees : (chains chains' : Chains) (old new : WorldState) (s keep : ℕ) (change : Change) (before : List Change)
+    (place : Place) → Agrees chains old → own s old.past ≡ change ∷ before → keep ≡ length before → IsOfRow change
     → place_in old.schemas change ≡ Some place → (by : IsTakenBackBy s keep old new) → Pops chains chains' place → length old.past + 1 < 2 ^ 63 → Agrees
-    chains' writer new
-taken_back_agrees chains chains' writer old new s keep change before place agrees own_is keep_is of_row place_is by pops few =
+    chains' new
+taken_back_agrees chains chains' old new s keep change before place agrees own_is keep_is of_row place_is by pops few =
     let h = old.past in
     let mine = kept_of agrees by.had in
     let undoable : IsUndoable keep (own s h) = rw own_is (of_row, sym keep_is) in
@@ -93,4 +92,3 @@ taken_back_agrees chains chains' writer old new s keep change before place agree
     grind (arith, nat_tests, mine, by, view, own_now, keep_is))
     (λ p. rw by.schemas (rows_undone (row_opened h p) (is_at old.schemas p) s keep change before h own_is count
     (grind (arith, pops p, place_is)) (agrees.lists.rows p)))
-    (grind (arith, nat_tests, own_is, agrees.lists.writes))

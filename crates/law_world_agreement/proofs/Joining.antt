@@ -8,7 +8,7 @@ use Rattle.law_world_agreement.specs.{Agreement.Agrees, Steps.IsJoined, Steps.Is
 use Rattle.law_world_agreement.proofs.Settled.{works_at, Keeps, keeps_of, agreeing}
 pub use Rattle.law_world_agreement.proofs.Settled.{agrees_alike}
 
-pub first_agrees : (chains : Chains) (state : WorldState) → IsFirst chains state → Agrees chains None state
+pub first_agrees : (chains : Chains) (state : WorldState) → IsFirst chains state → Agrees chains state
 first_agrees chains state first =
     let literal : WorldState =
     record state {
@@ -32,15 +32,15 @@ works_joined P f y closed [] (suc u) k = k
 works_joined P f y closed (x ∷ xs) zero k = k
 works_joined P f y closed (x ∷ xs) (suc u) k = works_joined P f y closed xs u k
 
-pub joined_agrees : (chains : Chains) (writer : Option ℕ) (old new : WorldState) (name : List ℕ) → Agrees chains writer old → IsJoined name old new
-    → Agrees chains writer new
-joined_agrees chains writer old new name agrees joined =
+pub joined_agrees : (chains : Chains) (old new : WorldState) (name : List ℕ) → Agrees chains old → IsJoined name old new
+    → Agrees chains new
+joined_agrees chains old new name agrees joined =
     let y = joined.session in
     let names = old.names ++ name ∷ [] in
     let more = length-append old.names (name ∷ []) in
-    agrees_alike chains writer (record old { names = names; sessions = old.sessions ++ y ∷ [] }) new
+    agrees_alike chains (record old { names = names; sessions = old.sessions ++ y ∷ [] }) new
     (agreeing agrees.lists.ordered agrees.lists.small agrees.lists.tables agrees.lists.txns_are
-    (λ u. works_joined (Keeps old.past u) (λ k. k.1) y joined.closed old.sessions u (keeps_of agrees u)) agrees.lists.rows agrees.lists.writes
+    (λ u. works_joined (Keeps old.past u) (λ k. k.1) y joined.closed old.sessions u (keeps_of agrees u)) agrees.lists.rows
     (λ u le. agrees.lists.strangers u (omega (arith, le, more)))
     (length-append old.sessions (y ∷ []) ∙ (ap (λ n. n + 1) agrees.count ∙ sym more)))
     joined.names joined.past joined.schemas joined.txns joined.sessions

@@ -1,6 +1,6 @@
 -- A transaction that is opened, and a view that is taken.
 use Rattle.std.proofs.Common.{◌≡◌, ◌≢◌, inr, ℕ, zero, suc, ◌+◌, ◌<◌, ◌^◌, eqb, true, false, List, [], ◌∷◌, length, slice_get, slice_set}
-use Rattle.std.proofs.Common.{option_map, is_some, Option, Some, None, refl, ap, subst, ◌∙◌, arith}
+use Rattle.std.proofs.Common.{option_map, is_some, Some, None, refl, ap, subst, ◌∙◌, arith}
 use Rattle.std.proofs.lemmas.Bool.Decides.{nat_tests}
 use Rattle.std.proofs.lemmas.List.{length-set}
 use Rattle.std.proofs.lemmas.Option.{slice_get_within}
@@ -39,24 +39,24 @@ replaced {s = s} {old = old} x past names sessions =
       others = λ u differs. ap (works_at u) sessions ∙ ap (option_map (λ (y : Session). y.work)) (set_other old.sessions s u x differs);
     }
 
-pub idle_of : (chains : Chains) (writer : Option ℕ) (state : WorldState) (s : ℕ) (session : Session) → Agrees chains writer state
+pub idle_of : (chains : Chains) (state : WorldState) (s : ℕ) (session : Session) → Agrees chains state
     → IsSession s session state → session.work ≡ None → IsIdle state.past s
-idle_of chains writer state s session agrees there none =
+idle_of chains state s session agrees there none =
     subst (Keeps state.past s) (ap (option_map (λ (x : Session). x.work)) there ∙ ap Some none) (keeps_of agrees s)
 
-pub joined_of : {chains : Chains} {writer : Option ℕ} {state : WorldState} {s : ℕ} {session : Session} → Agrees chains writer state
+pub joined_of : {chains : Chains} {state : WorldState} {s : ℕ} {session : Session} → Agrees chains state
     → slice_get state.sessions s ≡ Some session → s < length state.names
 joined_of {state = state} {s = s} {session = session} agrees there = omega (arith, slice_get_within state.sessions s session there, agrees.count)
 
 pub mine_tells : (s u : ℕ) → u ≢ s → eqb s u ≡ false
 mine_tells s u differ = grind (arith, nat_tests, differ)
 
-pub opened_agrees : (chains : Chains) (writer : Option ℕ) (old : WorldState) (s : ℕ) (level : Level) (session : Session) → Agrees chains writer old
-    → IsSession s session old → session.work ≡ None → length old.past + 1 < 2 ^ 63 → Agrees chains writer (opened s level session old)
-opened_agrees chains writer old s l session agrees there none few =
+pub opened_agrees : (chains : Chains) (old : WorldState) (s : ℕ) (level : Level) (session : Session) → Agrees chains old
+    → IsSession s session old → session.work ≡ None → length old.past + 1 < 2 ^ 63 → Agrees chains (opened s level session old)
+opened_agrees chains old s l session agrees there none few =
     let m = old.txns.begun + 1 in
     let h = old.past in
-    let idle = idle_of chains writer old s session agrees there none in
+    let idle = idle_of chains old s session agrees there none in
     let x1 = session_begun l session old in
     let work : Work = record (fresh_work m l) { can_end = true } in
     let x2 : Session = record x1 { can_begin = false; work = Some work } in
@@ -74,11 +74,10 @@ opened_agrees chains writer old s l session agrees there none few =
     (grind (arith, nat_tests))
     (λ place. rows_stay (row_opened h place) (is_at old.schemas place) (Begin s m l) h (λ u. grind (arith, nat_tests, idle.own_is))
     (λ u. grind (arith, nat_tests, idle.own_is)) (λ n id. refl) (λ n. refl) (agrees.lists.rows place))
-    (grind (arith, nat_tests, agrees.lists.writes))
 
-pub viewed_agrees : (chains : Chains) (writer : Option ℕ) (old : WorldState) (s : ℕ) (session : Session) (work : Work) → Agrees chains writer old
-    → HasWork s session work old → length old.past + 1 < 2 ^ 63 → Agrees chains writer (viewed s session work old)
-viewed_agrees chains writer old s session work agrees has few =
+pub viewed_agrees : (chains : Chains) (old : WorldState) (s : ℕ) (session : Session) (work : Work) → Agrees chains old
+    → HasWork s session work old → length old.past + 1 < 2 ^ 63 → Agrees chains (viewed s session work old)
+viewed_agrees chains old s session work agrees has few =
     let h = old.past in
     let mine = kept_of agrees has in
     let now : Work = record work { view = Some (record { active = active_of old.txns.open_txns; next = old.txns.next }) } in
@@ -90,4 +89,3 @@ viewed_agrees chains writer old s session work agrees has few =
     (record { level_is = mine.level_is; txn_is = mine.txn_is; id_is = mine.id_is; view_is = (commits h, view); own_is = mine.own_is })
     (λ place. rows_stay (row_opened h place) (is_at old.schemas place) (View s) h (λ u. inr refl) (λ u. refl) (λ n id. refl) (λ n. refl)
     (agrees.lists.rows place))
-    (grind (arith, agrees.lists.writes))

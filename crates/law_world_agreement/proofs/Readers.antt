@@ -1,5 +1,5 @@
 -- What readers find in a world that agrees with its past.
-use Rattle.std.proofs.Common.{◌≡◌, ℕ, Option, Some, ap, sym, subst, ◌∙◌, is_some, option_map}
+use Rattle.std.proofs.Common.{◌≡◌, ℕ, Some, ap, sym, subst, ◌∙◌, is_some, option_map}
 use Rattle.inno_model.specs.Past.{view_of}
 use Rattle.row_versions.specs.{declared.place.Place.Place, Chains.Chains, Chains.versions_at, Chains.first_seen, Chains.newest, Chains.sees}
 use Rattle.law_past_agreement.specs.{Rows.row_seen, Rows.IsNewestSeen, Agreement.ViewAgrees}
@@ -8,7 +8,7 @@ use Rattle.world.specs.State.{WorldState, Session, Work, Seen, HasWork}
 use Rattle.law_world_agreement.specs.Agreement.{sight_of, Agrees}
 use Rattle.law_world_agreement.proofs.Settled.{kept_of, rows_told}
 
-module _ (chains : Chains) (writer : Option ℕ) (state : WorldState) (agrees : Agrees chains writer state) where
+module _ (chains : Chains) (state : WorldState) (agrees : Agrees chains state) where
   -- by the view of an open transaction
   pub seen_by_view : (s n : ℕ) (session : Session) (work : Work) (seen : Seen) (place : Place) → HasWork s session work state → work.view ≡ Some seen
       → view_of s state.past ≡ Some n

@@ -8,7 +8,7 @@ use Rattle.inno_model.proofs.Untouched.{untouched}
 use Rattle.row_versions.specs.{declared.place.Place.Place, Chains.Chains, Chains.versions_at}
 use Rattle.law_past_agreement.specs.{Slots.Slot, Slots.fresh, Ids.id_of, Ids.txns_of, Order.created, Order.IsOrdered, Order.MayCome, Rows.place_in, Rows.is_at}
 use Rattle.law_past_agreement.specs.{Rows.row_opened}
-use Rattle.law_past_agreement.specs.Agreement.{IsIdle, ViewAgrees, WorkAgrees, SlotAgrees, AreVersions, WriterAgrees, owed_by}
+use Rattle.law_past_agreement.specs.Agreement.{IsIdle, ViewAgrees, WorkAgrees, SlotAgrees, AreVersions, owed_by}
 use Rattle.law_past_agreement.proofs.{Ids.AreIds, Ids.ids_of, Standing.other_id, Standing.other_owed, Standing.view_agrees}
 use Rattle.world.specs.State.{WorldState, Session, Work, HasWork}
 use Rattle.law_world_agreement.specs.Agreement.{sight_of, work_at, slot_of, slots_from, Agrees}
@@ -53,7 +53,7 @@ Keeps h s (Some work) = KeepsWork h s work
 pub works_are : {s : ℕ} {session : Session} {work : Work} {state : WorldState} → HasWork s session work state → works_at s state.sessions ≡ Some (Some work)
 works_are has = ap (option_map (λ (x : Session). x.work)) has.session_is ∙ ap Some has.work_is
 
-module _ {chains : Chains} {writer : Option ℕ} {state : WorldState} (agrees : Agrees chains writer state) where
+module _ {chains : Chains} {state : WorldState} (agrees : Agrees chains state) where
   keeps_if : (s : ℕ) (found : Option Session) → slice_get state.sessions s ≡ found
       → SlotAgrees state.schemas state.past s (slot_if state.past state.schemas s found) → Keeps state.past s (option_map (λ (x : Session). x.work) found)
   keeps_if s found there slot = grind (arith, there, slot, agrees.own s)
@@ -78,12 +78,12 @@ slot_from : (h : List Event) (schemas : List Schema) (s : ℕ) (found : Option S
 slot_from h schemas s found k = grind (arith, k, work_from h schemas s)
 
 -- a world agrees with its past where each of its parts does
-pub agreeing : {chains : Chains} {writer : Option ℕ} {state : WorldState} → IsOrdered state.past → length state.past < 2 ^ 63
+pub agreeing : {chains : Chains} {state : WorldState} → IsOrdered state.past → length state.past < 2 ^ 63
     → state.schemas ≡ created state.past → state.txns ≡ txns_of state.past → ((s : ℕ) → Keeps state.past s (works_at s state.sessions))
     → ((place : Place) → AreVersions state.past (row_opened state.past place) (is_at state.schemas place) (versions_at place chains))
-    → WriterAgrees state.past writer → ((s : ℕ) → length state.names ≤ s → owed_by state.past s ≡ 0) → length state.sessions ≡ length state.names
-    → Agrees chains writer state
-agreeing {state = state} ordered small tables txns keeps rows writes strangers count =
+    → ((s : ℕ) → length state.names ≤ s → owed_by state.past s ≡ 0) → length state.sessions ≡ length state.names
+    → Agrees chains state
+agreeing {state = state} ordered small tables txns keeps rows strangers count =
     record {
       lists = record {
         ordered = ordered;
@@ -92,7 +92,6 @@ agreeing {state = state} ordered small tables txns keeps rows writes strangers c
         txns_are = txns;
         sessions = λ s. rw (slot_at s state.past state.schemas state.sessions) (slot_from state.past state.schemas s (slice_get state.sessions s) (keeps s));
         rows = rows;
-        writes = writes;
         strangers = strangers;
       };
       count = count;
@@ -100,9 +99,9 @@ agreeing {state = state} ordered small tables txns keeps rows writes strangers c
     }
 
 -- indexes, versions and counts are not spoken of
-pub agrees_alike : (chains : Chains) (writer : Option ℕ) (a b : WorldState) → Agrees chains writer a → b.names ≡ a.names → b.past ≡ a.past
-    → b.schemas ≡ a.schemas → b.txns ≡ a.txns → b.sessions ≡ a.sessions → Agrees chains writer b
-agrees_alike chains writer a b agrees names past schemas txns sessions =
+pub agrees_alike : (chains : Chains) (a b : WorldState) → Agrees chains a → b.names ≡ a.names → b.past ≡ a.past
+    → b.schemas ≡ a.schemas → b.txns ≡ a.txns → b.sessions ≡ a.sessions → Agrees chains b
+agrees_alike chains a b agrees names past schemas txns sessions =
     record {
       lists = rw (names, past, schemas, txns, sessions) agrees.lists;
       count = rw (names, sessions) agrees.count;
@@ -135,19 +134,18 @@ pub record Adds (e : Event) (s : ℕ) (old new : WorldState) : Type 0 where
   pub others : (u : ℕ) → u ≢ s → works_at u new.sessions ≡ works_at u old.sessions
 
 -- The world agrees then, once its tables, its transactions, the session's work, its rows and who may write do.
-pub after : {chains chains' : Chains} {writer writer' : Option ℕ} {old new : WorldState} → Agrees chains writer old → (e : Event) (s : ℕ)
+pub after : {chains chains' : Chains} {old new : WorldState} → Agrees chains old → (e : Event) (s : ℕ)
     → ((u : ℕ) → u ≢ s → is_of u e ≡ false) → MayCome old.past e → length old.past + 1 < 2 ^ 63 → s < length old.names → Adds e s old new
     → new.schemas ≡ created (e ∷ old.past) → new.txns ≡ txns_of (e ∷ old.past)
     → (work : Option Work) → works_at s new.sessions ≡ Some work → KeepsWork (e ∷ old.past) s work
-    → ((place : Place) → AreVersions (e ∷ old.past) (row_opened (e ∷ old.past) place) (is_at new.schemas place) (versions_at place chains'))
-    → WriterAgrees (e ∷ old.past) writer' → Agrees chains' writer' new
-after {chains' = chains'} {writer' = writer'} {old = old} {new = new} agrees e s mine may few joined by tables txns work here keeps rows writes =
+    → ((place : Place) → AreVersions (e ∷ old.past) (row_opened (e ∷ old.past) place) (is_at new.schemas place) (versions_at place chains')) → Agrees chains' new
+after {chains' = chains'} {old = old} {new = new} agrees e s mine may few joined by tables txns work here keeps rows =
     let h = e ∷ old.past in
     let each : (u : ℕ) → Keeps h u (works_at u new.sessions) =
     λ u. ⊎_elim (λ same. subst (λ v. Keeps h v (works_at v new.sessions)) (sym same) (subst (Keeps h s) (sym here) keeps))
     (λ differs. subst (Keeps h u) (sym (by.others u differs))
     (other_stays e old.past u may (ids_of old.past agrees.lists.ordered) (mine u differs) (works_at u old.sessions) (keeps_of agrees u))) (cases_eq u s) in
-    agrees_alike chains' writer' (record new { past = h; names = old.names }) new
-    (agreeing (may, agrees.lists.ordered) (omega (arith, few)) tables txns each rows writes
+    agrees_alike chains' (record new { past = h; names = old.names }) new
+    (agreeing (may, agrees.lists.ordered) (omega (arith, few)) tables txns each rows
     (λ u le. other_owed e old.past u (mine u (omega (arith, joined, le))) ∙ agrees.lists.strangers u le) (by.count ∙ agrees.count))
     by.names by.past refl refl refl

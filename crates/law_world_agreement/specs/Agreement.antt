@@ -28,8 +28,8 @@ abbrev pub slots_from : ℕ → List Event → List Schema → List Session → 
 slots_from s past schemas [] = []
 slots_from s past schemas (session ∷ sessions) = slot_of past schemas s session ∷ slots_from (s + 1) past schemas sessions
 
--- The world's tables, transactions and sessions are what its past says, and so are these rows; who may write is this.
-pub record Agrees (chains : Chains) (writer : Option ℕ) (state : WorldState) : Type 0 where
-  pub lists : IsAgreed state.names state.past state.schemas chains state.txns (slots_from 0 state.past state.schemas state.sessions) writer
+-- The world's tables, transactions and sessions are what its past says, and so are these rows.
+pub record Agrees (chains : Chains) (state : WorldState) : Type 0 where
+  pub lists : IsAgreed state.names state.past state.schemas chains state.txns (slots_from 0 state.past state.schemas state.sessions)
   pub count : length state.sessions ≡ length state.names
   pub own : (s : ℕ) (session : Session) (work : Work) → HasWork s session work state → work.own ≡ length (own s state.past)

@@ -49,10 +49,10 @@ module _ {state : WorldState} {writer : Option ℕ} {desks : List Desk} {cuts : 
     has work work_is = record { session_is = is; work_is = work_is }
 
     work_says : (work : Work) → session.work ≡ Some work → IsWorkOf state.schemas state.past s (work_at (map (place_in state.schemas) (own s state.past)) work)
-    work_says work work_is = work_of held.chains writer state s session work held.agrees (has work work_is)
+    work_says work work_is = work_of held.chains state s session work held.agrees (has work work_is)
 
     idle_says : session.work ≡ None → IsIdle state.past s
-    idle_says none = idle_of held.chains writer state s session held.agrees is none
+    idle_says none = idle_of held.chains state s session held.agrees is none
 
     by_work : {P : Type 0} → (session.work ≡ None → P) → ((work : Work) → session.work ≡ Some work → P) → P
     by_work {P} none some = go session.work refl
