@@ -8,7 +8,7 @@ use Rattle.entries.specs.Calls.{Inserts, Replaces, Delays, IsKeptOff, Fetches, N
 use Rattle.std.specs.Prelude.{IfSome, is_some, ◌<◌, length, slice_get}
 use Rattle.world.specs.Indexes.{InsertsWith, ReplacesWith, InIndex, Calls, Changes}
 use Rattle.world.specs.State.{WorldState, Session, Work}
-use Rattle.law_stored_rows.specs.Edits.{with_value, clustered_index, key_index}
+use Rattle.law_stored_rows.specs.{Edits.with_value, Edits.clustered_index, Edits.key_index, Tables.Said}
 use Rattle.row_changes.specs.{Entries.IsThere, Entering.Enters, Rows.IsChangingRow, Rows.table_of, Pairs.RowsStay, Pairs.PutsPair, Pairs.Hinders}
 use Rattle.row_changes.specs.{declared.record_change.RecordChange.RecordChange, declared.row_change.RowChange.TheVariants.Record, Keys.IsChangingKeys}
 use Rattle.row_changes.specs.{declared.entry_put.EntryPut.EntryPut, declared.keys_change.KeysChange.KeysChange, declared.row_change.RowChange.RowChange}
@@ -208,22 +208,24 @@ key_of_table table which schemas schema there within =
     record { schema = schema; there = there; which = 1 + which; within = omega arith; number = omega arith }
 
 -- the index is that of a key
-pub key_awaits : (actor index which : ℕ) (old new : WorldState) (change : KeysChange) (chains : Chains) (is : IsChangingKeys chains old change)
+pub key_awaits : (actor index which : ℕ) (old new : WorldState) (change : KeysChange) (chains : Chains) (beside : Said)
+    (is : IsChangingKeys chains beside old change)
     → which < length is.schema.keys → index ≡ key_index change.table which → AwaitsAt actor index old new → AwaitsIn actor change.table old new
-key_awaits actor index which old new change chains is within number awaits =
+key_awaits actor index which old new change chains beside is within number awaits =
     awaits_in actor index change.table old new
     (rw number (key_of_table change.table which old.schemas is.schema is.table.there (omega (arith, within)))) awaits
 
 -- the entry that is being put stands in an index of the table
-pub put_awaits : (chains : Chains) (actor : ℕ) (old new : WorldState) (change : KeysChange) (put : EntryPut) → change.put ≡ Some put
-    → IsChangingKeys chains old change → AwaitsAt actor put.index old new → AwaitsIn actor change.table old new
-put_awaits chains actor old new change put put_is is awaits =
-    let e = rw put_is at is.put in key_awaits actor put.index change.which old new change chains is e.within e.index_is awaits
+pub put_awaits : (chains : Chains) (beside : Said) (actor : ℕ) (old new : WorldState) (change : KeysChange) (put : EntryPut) → change.put ≡ Some put
+    → IsChangingKeys chains beside old change → AwaitsAt actor put.index old new → AwaitsIn actor change.table old new
+put_awaits chains beside actor old new change put put_is is awaits =
+    let e = rw put_is at is.put in key_awaits actor put.index change.which old new change chains beside is e.within e.index_is awaits
 
 -- a change that is at its record
-pub record_awaits_at : (chains : Chains) (s : ℕ) (old new : WorldState) (mine : RowChange) (change : RecordChange) (key : List ℕ) (after : Option (List Value))
-    → mine ≡ Record change key after → IsChangingRow s chains old mine → AwaitsAt s (clustered_index change.table) old new → AwaitsIn s (table_of mine) old new
-record_awaits_at chains s old new mine change key after mine_is is awaits =
+pub record_awaits_at : (chains : Chains) (beside : Said) (s : ℕ) (old new : WorldState) (mine : RowChange) (change : RecordChange) (key : List ℕ)
+    (after : Option (List Value)) → mine ≡ Record change key after → IsChangingRow s chains beside old mine
+    → AwaitsAt s (clustered_index change.table) old new → AwaitsIn s (table_of mine) old new
+record_awaits_at chains beside s old new mine change key after mine_is is awaits =
     let holds = rw mine_is at is in
     rw mine_is (awaits_in s (clustered_index change.table) change.table old new
     (clustered_of_table change.table old.schemas holds.0.schema holds.0.table.there) awaits)

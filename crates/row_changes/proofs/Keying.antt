@@ -12,19 +12,21 @@ use Rattle.row_versions.specs.{declared.place.Place.Place, declared.version.Vers
 use Rattle.row_versions.specs.Chains.{Chains, versions_at, is_same_place, newest}
 use Rattle.row_codec.specs.Rows.{version_code}
 use Rattle.law_stored_rows.specs.{Edits.key_index, Edits.clustered_index, Entries.value_in, Entries.entry_of, Entries.TellAlike, Records.shown}
-use Rattle.law_stored_rows.specs.{Tables.Said, Tables.AreCodedAs, Tables.SaysNow, Storable.IsStorable}
+use Rattle.law_stored_rows.specs.{Tables.Said, Tables.AreCodedAs, Tables.SaysNow, Tables.SayTheSameBut, Storable.IsStorable}
 use Rattle.law_stored_rows.specs.Steps.{PutsEntry as PutsStored}
-use Rattle.row_changes.specs.{Told.HasRows, Told.AreRowsAs, declared.entry_put.PutPhase.TheVariants.Look, Edits.IsRowFor, declared.entry_put.PutPhase.PutPhase}
+use Rattle.row_changes.specs.{Told.HasRowsAt, Told.AreRowsAs, Edits.IsRowFor, declared.entry_put.PutPhase.PutPhase}
+use Rattle.row_changes.specs.declared.entry_put.PutPhase.TheVariants.{Look}
 use Rattle.row_changes.specs.{declared.entry_put.EntryPut.EntryPut, declared.keys_change.KeysChange.KeysChange, declared.key_entries.KeyEntries.KeyEntries}
 use Rattle.row_changes.specs.{declared.reached.Reached.TheVariants.Hindered, Pairs.Hinders, Pairs.RowsStay, Pairs.PutsPair}
 use Rattle.row_changes.specs.Keys.{StaysBesideKeys, gone, SaySoFar, said_next, keys_next, without_row, keys_steps, HasRowsSoFar, ChangesKeys, IsEntering}
 use Rattle.row_changes.specs.Keys.{IsChangingKeys, GoesOnWithKeys, value_stays, AreEntries, StayBetween, IsEntryIn, IsEntryFor}
 use Rattle.row_changes.specs.Entries.{marked, unmarked, PutsEntry, GoesOnPutting, HindersEntry, put_steps}
-use Rattle.law_stored_rows.proofs.{Pairs.no_key, Values.same_place, Values.same_value, Steps.old_marked, Steps.new_put, Steps.first_put, Coding.short_entries}
+use Rattle.law_stored_rows.proofs.{Pairs.no_key, Values.same_place, Values.place_itself, Values.same_value, Coding.short_entries}
+use Rattle.law_stored_rows.proofs.Steps.{old_marked, new_put, first_put}
 use Rattle.law_stored_rows.proofs.{Coding.value_in-kind, Keys.now_says, Keys.others_say, Keys.lag_says, Keys.said_alike, Keys.change_over}
 use Rattle.law_stored_rows.proofs.Entries.{value_again, without_row as tells_no_row}
 use Rattle.row_changes.proofs.{Sessions.one_found, Pushed.at_primary, Pushed.plain, Pushed.code_of, Pushed.table_kept}
-use Rattle.row_changes.proofs.Telling.{stays_told, rows_again, coded_again, put_told, put_pairs}
+use Rattle.row_changes.proofs.Telling.{stays_told, rows_again, rows_at, coded_again, put_told, put_pairs}
 use Rattle.world.specs.{State.IsIndex, State.WorldState, Told.pairs_of, Told.IsTold}
 use Rattle.store_api.specs.declared.moves.Move.TheVariants as moves
 
@@ -33,24 +35,28 @@ abbrev pub says_of : Said → Place → ℕ → List Version → Said
 says_of was place which versions table key value =
     cond (key == which && is_same_place place (record { table = table; key = value })) versions (was table key value)
 
+-- what is said once all keys say this of the place
+abbrev pub says_all : Said → Place → List Version → Said
+says_all was place versions table which value = cond (is_same_place place (record { table = table; key = value })) versions (was table which value)
+
 -- the next key says something else now
-say_here : (chains : Chains) (place : Place) (done : ℕ) (next now older : List Version) (said : Said) → SaySoFar chains place done next older said
-    → SaySoFar chains place done now older (says_of said place done now)
-say_here chains place done next now older said so =
+say_here : (chains : Chains) (beside : Said) (place : Place) (done : ℕ) (next now older : List Version) (said : Said)
+    → SaySoFar chains beside place done next older said → SaySoFar chains beside place done now older (says_of said place done now)
+say_here chains beside place done next now older said so =
     let kept =
     λ (which : ℕ) (differs : which ≢ done).
     others_say said (says_of said place done now) place done now (λ t k v. refl) place.table which place.key differs in
     record {
-      lag = lag_says said (says_of said place done now) place done now (λ t k v. refl) chains so.lag;
+      lag = lag_says said (says_of said place done now) place done now (λ t k v. refl) beside so.lag;
       first = λ which below. kept which (omega arith) ∙ so.first which below;
       here = now_says said (says_of said place done now) place done now (λ t k v. refl);
       later = λ which above. kept which (omega arith) ∙ so.later which above;
     }
 
 -- the next key is done
-say_more : (chains : Chains) (place : Place) (done : ℕ) (older : List Version) (said : Said)
-    → SaySoFar chains place done (versions_at place chains) older said → SaySoFar chains place (done + 1) older older said
-say_more chains place done older said so =
+say_more : (chains : Chains) (beside : Said) (place : Place) (done : ℕ) (older : List Version) (said : Said)
+    → SaySoFar chains beside place done (versions_at place chains) older said → SaySoFar chains beside place (done + 1) older older said
+say_more chains beside place done older said so =
     record {
       lag = so.lag;
       first =
@@ -71,19 +77,19 @@ stays_alike column (Some before) (Some after) version older was is stays =
     value_again column before version older after was is (same_value (value_in column before) (value_in column after) stays)
 stays_alike column before after version older was is stays = absurd (cc)
 
-so_far_kept : (chains : Chains) (place : Place) (done : ℕ) (next older : List Version) (old new : WorldState) → RowsStay old new
-    → HasRowsSoFar chains place done next older old → HasRowsSoFar chains place done next older new
-so_far_kept chains place done next older old new stay rows told =
+so_far_kept : (chains : Chains) (beside : Said) (place : Place) (done : ℕ) (next older : List Version) (old new : WorldState) → RowsStay old new
+    → HasRowsSoFar chains beside place done next older old → HasRowsSoFar chains beside place done next older new
+so_far_kept chains beside place done next older old new stay rows told =
     let was = rows (stays_told old new stay told) in
     (was.0, rows_again old new chains was.0 stay told was.1, was.2)
 
 -- what is known of the change at its next step
-pub changing_next : (chains : Chains) (old new : WorldState) (change : KeysChange) (which : ℕ) (put : Option EntryPut) (p : IsChangingKeys chains old change)
-    → new.schemas ≡ old.schemas → (IsTold new → IsTold old) → which ≤ length p.schema.keys
-    → IfSome put (IsEntering p.schema change.table which change.after change.key new) → HasRowsSoFar chains (record { table = change.table; key = p.value })
-    which (said_next put change.before p.older) p.older new
-    → IsChangingKeys chains new (record change { which = which; put = put })
-changing_next chains old new change which put p same back within entering rows =
+pub changing_next : (chains : Chains) (beside : Said) (old new : WorldState) (change : KeysChange) (which : ℕ) (put : Option EntryPut)
+    (p : IsChangingKeys chains beside old change) → new.schemas ≡ old.schemas → (IsTold new → IsTold old) → which ≤ length p.schema.keys
+    → IfSome put (IsEntering p.schema change.table which change.after change.key new)
+    → HasRowsSoFar chains beside (record { table = change.table; key = p.value }) which (said_next put change.before p.older) p.older new
+    → IsChangingKeys chains beside new (record change { which = which; put = put })
+changing_next chains beside old new change which put p same back within entering rows =
     record {
       schema = p.schema;
       table = table_kept change.table p.schema old new same p.table;
@@ -139,7 +145,7 @@ short_entry schema which (Some row) primary entry storable fits is =
 
 -- ---- a step of the change
 
-module _ (chains : Chains) (old new : WorldState) (change : KeysChange) (p : IsChangingKeys chains old change) where
+module _ (chains : Chains) (beside : Said) (old new : WorldState) (change : KeysChange) (p : IsChangingKeys chains beside old change) where
   abbrev place : Place
   place = record { table = change.table; key = p.value }
 
@@ -148,11 +154,11 @@ module _ (chains : Chains) (old new : WorldState) (change : KeysChange) (p : IsC
 
   -- what the keys say of the place, where told
   abbrev SaySo : ℕ → List Version → WorldState → Type 0
-  SaySo done next state = HasRowsSoFar chains place done next p.older state
+  SaySo done next state = HasRowsSoFar chains beside place done next p.older state
 
   -- the keys say so much of the place before the step
   abbrev SayOf : ℕ → List Version → Type 0
-  SayOf done next = (said : Said) × AreRowsAs chains said old × SaySoFar chains place done next p.older said
+  SayOf done next = (said : Said) × AreRowsAs chains said old × SaySoFar chains beside place done next p.older said
 
   few : (which : ℕ) → which < keys → which < 4
   few which within = let most = p.table.storable.few in omega arith
@@ -167,7 +173,7 @@ module _ (chains : Chains) (old new : WorldState) (change : KeysChange) (p : IsC
     said_alike _ _ _ _ _ _ says.1
         (λ table which s k s_there k_there value. alike_if (which == done) (is_same_place place (record { table = table; key = value })) k.column
         (says.0 table which value) (versions_at place chains) (here table which s k s_there k_there value)),
-    say_more chains place done p.older _ (say_here chains place done p.older (versions_at place chains) p.older says.0 says.2),
+    say_more chains beside place done p.older _ (say_here chains beside place done p.older (versions_at place chains) p.older says.0 says.2),
   )
     where
       here : (table which : ℕ) (s : Schema) (k : Key) → slice_get old.schemas table ≡ Some s → slice_get s.keys which ≡ Some k → (value : Value)
@@ -196,7 +202,7 @@ module _ (chains : Chains) (old new : WorldState) (change : KeysChange) (p : IsC
       → SaySo (done + 1) p.older state
   so_far_done done next state is rows told =
       let now = rows told in
-      (now.0, now.1, say_more chains place done p.older now.0 (rw is at now.2))
+      (now.0, now.1, say_more chains beside place done p.older now.0 (rw is at now.2))
 
   -- whatever the keys said, this one says something else of the row's place, and the pairs are as it says
   abbrev MovesOn : ℕ → List Version → List Version → List Value → Type 0
@@ -215,7 +221,7 @@ module _ (chains : Chains) (old new : WorldState) (change : KeysChange) (p : IsC
         says_of says.0 place done now,
         coded_again _ _ _ _ _ _ _ _ (ap (λ (state : WorldState). state.schemas) puts.rest) refl (puts.versions.kept told.versions)
             (law told says.0 says.1 (ap (says.0 change.table done) home ∙ says.2.here) (rw home (λ t w v. refl))),
-        say_here chains place done next now p.older says.0 says.2,
+        say_here chains beside place done next now p.older says.0 says.2,
       )
 
   -- the entry of a row of the place has been put
@@ -244,13 +250,21 @@ module _ (chains : Chains) (old new : WorldState) (change : KeysChange) (p : IsC
       (λ which key from' below is. stays_alike key.column change.before change.after p.pushed.version p.older (p.was told) p.pushed.is
       (stay which key from' below is)) (waiting told)
 
-  -- all keys say what is there
-  pub over : change.put ≡ None → StayBetween p.schema change.which keys change.before change.after → HasRows chains old
-  over none stay told =
+  -- all keys say of the place what is there
+  pub over : change.put ≡ None → StayBetween p.schema change.which keys change.before change.after → HasRowsAt chains beside change.table change.key old
+  over none stay =
+      rows_at chains beside change.table p.schema p.value change.key old p.table.there p.at (λ told.
       let says = rows_passed keys none p.within stay told in
-      change_over old.schemas (pairs_of old) old.versions.kept_at chains place says.0 says.1 says.2.lag
-      (λ which s k s_there k_there value. ap (entry_of k.column value) (says.2.first which (slice_get_within p.schema.keys which k
-      (ap (λ (x : Schema). slice_get x.keys which) (one_found p.schema s p.table.there s_there) ∙ k_there))))
+      let lags : SayTheSameBut place beside (says_all says.0 place (versions_at place chains)) =
+      λ table which value apart. rw apart (says.2.lag table which value apart) in (
+        says_all says.0 place (versions_at place chains),
+        change_over old.schemas (pairs_of old) old.versions.kept_at chains place beside says.0 _ says.1 says.2.lag lags
+            (λ which s k s_there k_there value. rw (place_itself place) (ap (entry_of k.column value) (says.2.first which
+            (slice_get_within p.schema.keys which k
+            (ap (λ (x : Schema). slice_get x.keys which) (one_found p.schema s p.table.there s_there) ∙ k_there))))),
+        lags,
+        λ which. rw (place_itself place) refl,
+      ))
 
   -- ---- the next step
 
@@ -258,7 +272,7 @@ module _ (chains : Chains) (old new : WorldState) (change : KeysChange) (p : IsC
   goes_on : (which : ℕ) (put : Option EntryPut) → StaysBesideKeys old new → which ≤ keys
       → IfSome put (IsEntering p.schema change.table which change.after change.key new) → SaySo which (said_next put change.before p.older) new
       → keys_steps (keys - which) put < keys_steps (keys - change.which) change.put
-      → GoesOnWithKeys chains old new change (record change { which = which; put = put })
+      → GoesOnWithKeys chains beside old new change (record change { which = which; put = put })
   goes_on which put stays within entering rows nears =
       record {
         stays = stays;
@@ -266,15 +280,16 @@ module _ (chains : Chains) (old new : WorldState) (change : KeysChange) (p : IsC
         key_is = refl;
         before_is = refl;
         after_is = refl;
-        holds = changing_next chains old new change which put p (ap (λ (state : WorldState). state.schemas) stays.rest) stays.told within entering rows;
+        holds = changing_next chains beside old new change which put p (ap (λ (state : WorldState). state.schemas) stays.rest) stays.told within entering rows;
         nears = λ schema there. rw (one_found schema p.schema there p.table.there) nears;
       }
 
   changing_kept : RowsStay old new → IfSome change.put (IsEntering p.schema change.table change.which change.after change.key new)
-      → IsChangingKeys chains new change
+      → IsChangingKeys chains beside new change
   changing_kept stay entering =
-      changing_next chains old new change change.which change.put p (ap (λ (state : WorldState). state.schemas) stay.rest) (stays_told old new stay) p.within
-      entering (so_far_kept chains place change.which (said_next change.put change.before p.older) p.older old new stay p.rows)
+      changing_next chains beside old new change change.which change.put p (ap (λ (state : WorldState). state.schemas) stay.rest)
+      (stays_told old new stay) p.within entering
+      (so_far_kept chains beside place change.which (said_next change.put change.before p.older) p.older old new stay p.rows)
 
   -- an entry has changed, and the index of a key holds no records
   beside_put : (which : ℕ) (key : List ℕ) (value : Option (List ℕ)) → which < keys → PutsPair (key_index change.table which) key value old new
@@ -292,7 +307,7 @@ module _ (chains : Chains) (old new : WorldState) (change : KeysChange) (p : IsC
 
   pub mark_hindered : (actor index which : ℕ) (entry : List ℕ) (why : Move) → change.put ≡ None → change.which ≤ which
       → index ≡ key_index change.table which → RowsStay old new → HindersEntry actor entry (old.indexes index) (new.indexes index) why
-      → ChangesKeys actor chains old new change (Hindered change why)
+      → ChangesKeys actor chains beside old new change (Hindered change why)
   mark_hindered actor index which entry why none from is stay because = (
     refl,
     stay,
@@ -306,7 +321,7 @@ module _ (chains : Chains) (old new : WorldState) (change : KeysChange) (p : IsC
   -- the new row's entry is put next
   put_next : (entries : KeyEntries) (entry : List ℕ) → change.put ≡ None → AreEntries p.schema change.which change.before change.after change.key entries
       → IsEntryFor p.schema entries.which change.after change.key (Some entry) → StaysBesideKeys old new
-      → SaySo entries.which (without_row change.before p.older) new → GoesOnWithKeys chains old new change
+      → SaySo entries.which (without_row change.before p.older) new → GoesOnWithKeys chains beside old new change
       (keys_next change (key_index change.table entries.which) entries.which (Some entry))
   put_next entries entry none all new_entry stays rows =
       let within = all.within in
@@ -339,7 +354,7 @@ module _ (chains : Chains) (old new : WorldState) (change : KeysChange) (p : IsC
   pub marked_on : (entries : KeyEntries) (entry : List ℕ) → change.put ≡ None
       → AreEntries p.schema change.which change.before change.after change.key entries → entries.old ≡ Some entry
       → PutsPair (key_index change.table entries.which) entry (Some marked) old new
-      → GoesOnWithKeys chains old new change (keys_next change (key_index change.table entries.which) entries.which entries.new)
+      → GoesOnWithKeys chains beside old new change (keys_next change (key_index change.table entries.which) entries.which entries.new)
   marked_on entries entry none all old_is puts =
       go change.before change.after entries.new refl refl (rw old_is at all.old_is) all.new_is
     where
@@ -358,7 +373,7 @@ module _ (chains : Chains) (old new : WorldState) (change : KeysChange) (p : IsC
 
       go : (before after : Option (List Value)) (next : Option (List ℕ)) → change.before ≡ before → change.after ≡ after
           → IsEntryFor p.schema entries.which before change.key (Some entry) → IsEntryFor p.schema entries.which after change.key next
-          → GoesOnWithKeys chains old new change (keys_next change (key_index change.table entries.which) entries.which next)
+          → GoesOnWithKeys chains beside old new change (keys_next change (key_index change.table entries.which) entries.which next)
       go (Some row) None None was now e new_e =
           let within = all.within in
           let from = all.first.from_there in
@@ -373,20 +388,21 @@ module _ (chains : Chains) (old new : WorldState) (change : KeysChange) (p : IsC
   -- there is no old entry
   pub nothing_marked : (entries : KeyEntries) → change.put ≡ None
       → AreEntries p.schema change.which change.before change.after change.key entries → entries.old ≡ None → RowsStay old new
-      → GoesOnWithKeys chains old new change (keys_next change (key_index change.table entries.which) entries.which entries.new)
+      → GoesOnWithKeys chains beside old new change (keys_next change (key_index change.table entries.which) entries.which entries.new)
   nothing_marked entries none all old_is stay =
       go change.before change.after entries.new refl refl (rw old_is at all.old_is) all.new_is
     where
       go : (before after : Option (List Value)) (next : Option (List ℕ)) → change.before ≡ before → change.after ≡ after
           → IsEntryFor p.schema entries.which before change.key None → IsEntryFor p.schema entries.which after change.key next
-          → GoesOnWithKeys chains old new change (keys_next change (key_index change.table entries.which) entries.which next)
+          → GoesOnWithKeys chains beside old new change (keys_next change (key_index change.table entries.which) entries.which next)
       go None None None was now e new_e =
           let key = some_key p.schema entries.which all.within in
           let differs : value_stays key.0.column None None ≡ false = rw (was, now) at (all.first.changes key.0 key.1) in
           absurd (cc)
       go None (Some later) (Some bytes) was now e new_e =
           put_next entries bytes none all (rw now new_e) (beside_stay old new stay)
-          (rw was (so_far_kept chains place entries.which p.older p.older old new stay (rows_passed entries.which none all.first.from_there all.first.stay)))
+          (rw was (so_far_kept chains beside place entries.which p.older p.older old new stay
+          (rows_passed entries.which none all.first.from_there all.first.stay)))
       go before after next was now e new_e = absurd (search rules)
 
   -- ---- the new entry
@@ -401,15 +417,15 @@ module _ (chains : Chains) (old new : WorldState) (change : KeysChange) (p : IsC
     steps : keys_steps (keys - change.which) change.put ≡ 4 * ((keys - change.which) - 1) + put_steps put.phase
     steps = ap (keys_steps (keys - change.which)) put_is
 
-    pub put_went : (next : EntryPut) → GoesOnPutting old new put next → GoesOnWithKeys chains old new change (record change { put = Some next })
+    pub put_went : (next : EntryPut) → GoesOnPutting old new put next → GoesOnWithKeys chains beside old new change (record change { put = Some next })
     put_went next g =
         goes_on change.which (Some next) (beside_stay old new g.stays) p.within
         (record { index_is = g.index_is ∙ entering.index_is; entry_is = rw g.entry_is entering.entry_is; within = entering.within; putting = g.holds })
-        (so_far_kept chains place change.which (without_row change.before p.older) p.older old new g.stays waiting)
+        (so_far_kept chains beside place change.which (without_row change.before p.older) p.older old new g.stays waiting)
         (let nearer = g.nears in omega (arith, steps, nearer))
 
     pub put_done : PutsPair put.index put.entry (Some unmarked) old new
-        → GoesOnWithKeys chains old new change (record change { which = change.which + 1; put = None })
+        → GoesOnWithKeys chains beside old new change (record change { which = change.which + 1; put = None })
     put_done puts =
         let within = entering.within in
         goes_on (change.which + 1) None stays (omega (arith, within)) (record {}) (rows change.before change.after refl refl entering.entry_is)
@@ -448,7 +464,7 @@ module _ (chains : Chains) (old new : WorldState) (change : KeysChange) (p : IsC
                 new_put _ _ _ _ _ said _ _ _ _ _ (coded row) are gone p.older changed refl said_is refl
 
     pub put_waits : (actor : ℕ) (same : EntryPut) (why : Move) → PutsEntry actor old new put (Hindered same why)
-        → ChangesKeys actor chains old new change (Hindered (record change { put = Some same }) why)
+        → ChangesKeys actor chains beside old new change (Hindered (record change { put = Some same }) why)
     put_waits actor same why h = (
       ap (λ (o : Option EntryPut). let c : KeysChange = record change { put = o } in c) (ap Some h.0 ∙ sym put_is),
       h.1,

@@ -5,3 +5,4 @@ pub mod Telling
 pub mod Keying
 pub mod Pushed
 pub mod Awaited
+pub mod Alone

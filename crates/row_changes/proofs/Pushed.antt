@@ -11,11 +11,12 @@ use Rattle.row_versions.specs.{declared.kept.Kept.Kept, declared.version.Version
 use Rattle.row_versions.specs.Versions.{Versions}
 use Rattle.row_codec.specs.Rows.{version_code}
 use Rattle.law_stored_rows.specs.{Edits.clustered_index, Edits.Puts, Records.IsCodeOf, Records.shown, Records.row_shown, Records.KeepsMore}
-use Rattle.law_stored_rows.specs.Tables.{AreCodedAs, AreCoded, what_is_there, place_in}
+use Rattle.law_stored_rows.specs.Tables.{Said, AreCodedAs, place_in}
 use Rattle.law_stored_rows.proofs.{Values.one_key, Values.key_there, Steps.new_record, Steps.replaced_record, FromTables.decoded, FromTables.absent}
-use Rattle.law_stored_rows.proofs.Tables.{lag_stays, pushed_here, pushed_elsewhere, coded_still}
+use Rattle.law_stored_rows.proofs.Tables.{pushed_here, coded_still}
 use Rattle.row_changes.specs.{declared.row_edit.RowEdit.RowEdit, declared.keys_change.KeysChange.KeysChange, declared.row_edit.RowEdit.TheVariants.Remove}
-use Rattle.row_changes.specs.{Asides.StepsAside, Told.HasRows, Records.PutsFirst, Records.PutsOver, Records.IsTable, Records.PutsVersion, Records.RecordsEdit}
+use Rattle.row_changes.specs.{Told.HasRowsBeside, Told.HasRowsAt}
+use Rattle.row_changes.specs.{Asides.StepsAside, Records.PutsFirst, Records.PutsOver, Records.IsTable, Records.PutsVersion, Records.RecordsEdit}
 use Rattle.row_changes.specs.{declared.reached.Reached.TheVariants.Went, declared.row_change.RowChange.RowChange, declared.row_edit.RowEdit.TheVariants.Put}
 use Rattle.row_changes.specs.{declared.reached.Reached.TheVariants.Hindered, declared.reached.Reached.Reached, declared.row_change.RowChange.TheVariants.Keys}
 use Rattle.row_changes.specs.{declared.record_change.RecordStage.RecordStage, Records.IsChangingRecord, declared.row_change.RowChange.TheVariants.Record}
@@ -26,7 +27,7 @@ use Rattle.row_changes.specs.Rows.{primary_of, PushesEdit, IsChangingRow, row_af
 use Rattle.std.proofs.lemmas.Bool.{cases_eq, cond_both}
 use Rattle.world.specs.{State.WorldState, State.Session, State.Work, State.HasWork, Indexes.KeepsVersion, Told.pairs_of, Told.IsTold}
 use Rattle.row_changes.proofs.{Sessions.one_found, Sessions.one_session, Ids.one_work}
-use Rattle.row_changes.proofs.Telling.{HasPut, told_if, rows_if, pairs_told, puts_pairs, tells}
+use Rattle.row_changes.proofs.Telling.{HasPut, told_if, rows_if, pairs_told, puts_pairs, tells, coded_again}
 use Rattle.row_changes.specs.declared.record_change.RecordReached.TheVariants as records
 
 -- ---- the version and its place
@@ -108,33 +109,37 @@ module _ (schemas : List Schema) (old new : ℕ → List Pair) (before after : C
       let home = at_primary schema (primary_of schema edit) key bytes (version_by edit former writer pointer) (key_at schema edit key fits) code in
       rw (version_shown edit former writer pointer, home) pushes
 
-  pub first_rows : (kept : ℕ → Option Kept) → IsPut edit → value_of key (old (clustered_index table)) ≡ None
-      → Puts old new (clustered_index table) key (Some (version_code schema (version_by edit [] writer 0))) → AreCoded schemas old kept before
-      → AreCodedAs schemas new kept after (what_is_there before)
-  first_rows kept put none puts is =
+  pub first_rows : (kept : ℕ → Option Kept) {said : Said} → IsPut edit → value_of key (old (clustered_index table)) ≡ None
+      → Puts old new (clustered_index table) key (Some (version_code schema (version_by edit [] writer 0))) → AreCodedAs schemas old kept before said
+      → AreCodedAs schemas new kept after said
+  first_rows kept {said} put none puts is =
       let coded = version_by edit [] writer 0 in
       let code = code_of_edit schema edit key [] (plain [] 0) writer 0 fits (inl put) small (omega arith) in
-      new_record schemas old new kept before after (what_is_there before) table schema key (version_code schema coded) coded is
+      new_record schemas old new kept before after said table schema key (version_code schema coded) coded is
       (record { there = there; code_is = code; puts = puts }) none (written_pointer edit [] writer 0) (pushes_version [] 0 (version_code schema coded) code)
 
-  next_rows : (kept : ℕ → Option Kept) (former : Coded) (pointer : ℕ) (found : Kept) → value_of key (old (clustered_index table)) ≡ Some found.bytes
+  next_rows : (kept : ℕ → Option Kept) {said : Said} (former : Coded) (pointer : ℕ) (found : Kept)
+      → value_of key (old (clustered_index table)) ≡ Some found.bytes
       → IsCodeOf schema key found.bytes former → IsCodeOf schema key found.bytes found.version → pointer ≢ 0 → pointer < 2 ^ 64 → kept pointer ≡ Some found
-      → Puts old new (clustered_index table) key (Some (version_code schema (version_by edit former.row writer pointer))) → AreCoded schemas old kept before
-      → AreCodedAs schemas new kept after (what_is_there before)
-  next_rows kept former pointer found some code found_code leads low keeps puts is =
+      → Puts old new (clustered_index table) key (Some (version_code schema (version_by edit former.row writer pointer)))
+      → AreCodedAs schemas old kept before said
+      → AreCodedAs schemas new kept after said
+  next_rows kept {said} former pointer found some code found_code leads low keeps puts is =
       let coded = version_by edit former.row writer pointer in
       let coded_is = code_of_edit schema edit key found.bytes former writer pointer fits (inr code) small low in
       let same = written_pointer edit former.row writer pointer in
-      replaced_record schemas old new kept before after (what_is_there before) table schema key (version_code schema coded) coded is found
+      replaced_record schemas old new kept before after said table schema key (version_code schema coded) coded is found
       (record { there = there; code_is = coded_is; puts = puts }) some found_code
       (λ zero. leads (sym same ∙ zero)) (ap kept same ∙ keeps) (pushes_version former.row pointer (version_code schema coded) coded_is)
 
 -- ---- while the record is not there yet
 
-rows_aside : (s : ℕ) (chains : Chains) (old new : WorldState) → StepsAside s old new → HasRows chains old → HasRows chains new
-rows_aside s chains old new aside rows told =
-    rows_if old new chains (what_is_there chains) (ap (λ (state : WorldState). state.schemas) aside.rest) aside.pairs aside.versions told
-    (rows (told_if old new aside.pairs aside.versions told))
+rows_aside : (s : ℕ) (chains : Chains) (beside : Said) (table : ℕ) (key : List ℕ) (old new : WorldState) → StepsAside s old new
+    → HasRowsAt chains beside table key old → HasRowsAt chains beside table key new
+rows_aside s chains beside table key old new aside rows schema value there at told =
+    let same = ap (λ (state : WorldState). state.schemas) aside.rest in
+    let says = rows schema value (rw same at there) at (told_if old new aside.pairs aside.versions told) in
+    (says.0, rows_if old new chains says.0 same aside.pairs aside.versions told says.1, says.2, says.3)
 
 -- ---- the record stands
 
@@ -167,8 +172,8 @@ module _ {s : ℕ} {old new : WorldState} {change : RecordChange} {former : Code
       record { record_is = kept_over.kept.record_is; numbers = kept_over.kept.small } in
       rw (one_found kept_over.kept.schema p.schema kept_over.kept.there p.table.there) at code
 
-module _ (s : ℕ) (chains pushed : Chains) (old new : WorldState) (change : RecordChange) (p : IsChangingRecord s old change) (rows : HasRows chains old)
-    (push : PushesEdit s change old chains pushed) where
+module _ (s : ℕ) (chains : Chains) (beside : Said) (pushed : Chains) (old new : WorldState) (change : RecordChange) (p : IsChangingRecord s old change)
+    (all : HasRowsAt chains beside change.table change.key old) (push : PushesEdit s change old chains pushed) where
   abbrev writer : ℕ
   writer = id_for p.work.id old.txns.next
 
@@ -196,12 +201,16 @@ module _ (s : ℕ) (chains pushed : Chains) (old new : WorldState) (change : Rec
   at : IsKeyAt p.schema (primary_of p.schema change.edit) change.key
   at = key_at p.schema change.edit change.key p.fits
 
+  -- what the keys say before it, where told
+  rows : HasRowsBeside chains beside (place_of p.schema change) old
+  rows = all p.schema (primary_of p.schema change.edit) p.table.there at
+
   -- the keys come next
   keys_next : (before : Option (List Value)) (former : List Value) (pointer : ℕ) (undo : Undo) {session : Session} {work : Work} → HasWork s session work old
       → RecordsEdit s change p.schema former (id_for work.id old.txns.next) pointer undo old new → (IsTrue new.versions.told → IsTrue old.versions.told)
       → IfSome before (λ row. IsRowFor p.schema row change.key) → (IsTold old → newest (versions_at (place_of p.schema change) chains) ≡ before)
-      → (IsTrue new.versions.told → IsTold old → Puts (pairs_of old) (pairs_of new) index change.key (Some (written former pointer))
-      → AreCodedAs old.schemas (pairs_of new) new.versions.kept_at pushed (what_is_there chains)) → IsChangingKeys pushed new (taken before)
+      → (IsTrue new.versions.told → (told : IsTold old) → Puts (pairs_of old) (pairs_of new) index change.key (Some (written former pointer))
+      → AreCodedAs old.schemas (pairs_of new) new.versions.kept_at pushed (rows told).0) → IsChangingKeys pushed beside new (taken before)
   keys_next before former pointer undo {session} {work} had records tells_on fits was coded =
       record {
         schema = p.schema;
@@ -222,14 +231,14 @@ module _ (s : ℕ) (chains pushed : Chains) (old new : WorldState) (change : Rec
             };
         was = λ told. was (was_told told);
         rows = λ told. (
-          what_is_there chains,
-          rw records.rest (coded told.versions (was_told told) (puts_pairs index change.key (Some (written former pointer)) old new stands told)),
+          (rows (was_told told)).0,
+          coded_again _ _ _ _ _ _ _ _ (ap (λ (state : WorldState). state.schemas) records.rest) refl refl
+              (coded told.versions (was_told told) (puts_pairs index change.key (Some (written former pointer)) old new stands told)),
           record {
-            lag = lag_stays chains pushed (place_of p.schema change) (what_is_there chains)
-                (pushed_elsewhere chains pushed (place_of p.schema change) pushed_version pushes) (λ t w v apart. refl);
+            lag = (rows (was_told told)).2;
             first = λ which below. absurd (omega arith);
-            here = refl;
-            later = λ which above. refl;
+            here = (rows (was_told told)).3 0;
+            later = λ which above. (rows (was_told told)).3 which;
           },
         );
       }
@@ -240,37 +249,37 @@ module _ (s : ℕ) (chains pushed : Chains) (old new : WorldState) (change : Rec
       was_told : IsTold new → IsTold old
       was_told told = record { pairs = pairs_told index change.key (Some (written former pointer)) old new stands told; versions = tells_on told.versions }
 
-  first_keys : (f : PutsFirst s old new change p.schema) → IsChangingKeys pushed new (taken None)
+  first_keys : (f : PutsFirst s old new change p.schema) → IsChangingKeys pushed beside new (taken None)
   first_keys f =
       keys_next None [] 0 _ f.had f.records f.records.work.versions.told (record {})
-      (λ told. ap newest (absent _ _ _ _ change.table p.schema at.column (primary_of p.schema change.edit) (rows told).clustered p.table.there at.primary
+      (λ told. ap newest (absent _ _ _ _ change.table p.schema at.column (primary_of p.schema change.edit) (rows told).1.clustered p.table.there at.primary
       (λ has. rw (← at.spelled) (nothing told))))
-      (λ now told puts. rw (f.records.work.versions.kept now)
-      (first_rows _ _ _ _ _ change.table p.schema change.edit change.key p.table.there p.fits writer small pushes _ f.is_put (nothing told) puts (rows told)))
+      (λ now told puts. coded_again _ _ _ _ _ _ _ _ refl refl (f.records.work.versions.kept now)
+      (first_rows _ _ _ _ _ change.table p.schema change.edit change.key p.table.there p.fits writer small pushes _ f.is_put (nothing told) puts (rows told).1))
     where
       nothing : IsTold old → value_of change.key (pairs_of old index) ≡ None
       nothing told = none_of _ (tells (λ pairs. is_some (value_of change.key pairs) ≡ false) (old.indexes index).pairs f.absent (told.pairs index))
 
-  next_keys : (former : Coded) (o : PutsOver s old new change p.schema former) → IsChangingKeys pushed new (taken (row_shown former.marked former.row))
+  next_keys : (former : Coded) (o : PutsOver s old new change p.schema former) → IsChangingKeys pushed beside new (taken (row_shown former.marked former.row))
   next_keys former o =
       keys_next (row_shown former.marked former.row) former.row o.session.next_pointer _ o.had o.records (kept_over p o).told
       (shown_fits p.schema change.key o.bytes former.marked former o.was.code_is)
       (λ told. ap (λ (k : Value). newest (versions_at (record { table = change.table; key = k }) chains))
       (sym (at_primary p.schema (primary_of p.schema change.edit) change.key o.bytes former at o.was.code_is))
-      ∙ ap newest (decoded _ _ _ _ change.table p.schema change.key o.bytes former (rows told).clustered p.table.there (there told) o.was.code_is).0)
+      ∙ ap newest (decoded _ _ _ _ change.table p.schema change.key o.bytes former (rows told).1.clustered p.table.there (there told) o.was.code_is).0)
       (λ now told puts.
       next_rows _ _ _ _ _ change.table p.schema change.edit change.key p.table.there p.fits writer small pushes _ former o.session.next_pointer
       (record { version = (kept_over p o).version; bytes = o.bytes }) (there told) o.was.code_is
       (kept_code p o) o.leads o.small ((kept_over p o).here now) puts
       (coded_still _ _ _ _ _ _ (kept_more _ o.session.next_pointer (undo_of_former change.table change.key o.bytes) _ _ (kept_over p o) now)
-      (rows told)))
+      (rows told).1))
     where
       there : IsTold old → value_of change.key (pairs_of old index) ≡ Some o.bytes
       there told = tells (λ pairs. value_of change.key pairs ≡ Some o.bytes) (old.indexes index).pairs o.was.there (told.pairs index)
 
   recorded_keys : (before after : Option (List Value)) (key : List ℕ) → key ≡ change.key → after ≡ row_after change.edit
       → ChangesRecord s old new change (records.Recorded before)
-      → IsChangingKeys pushed new (record { table = change.table; key = key; before = before; after = after; which = 0; put = None })
+      → IsChangingKeys pushed beside new (record { table = change.table; key = key; before = before; after = after; which = 0; put = None })
   recorded_keys before after key key_is after_is h =
       let puts_it : PutsVersion s old new change p.schema before = rw (one_found h.0 p.schema h.1.there p.table.there) at h.2 in
       rw (key_is, after_is) (⊎_elim (λ (f : PutsFirst s old new change p.schema × (before ≡ None)). rw f.1 (first_keys f.0))
@@ -279,34 +288,42 @@ module _ (s : ℕ) (chains pushed : Chains) (old new : WorldState) (change : Rec
 
 -- ---- a step that is made where the change lies
 
-module _ (s : ℕ) (chains : Chains) {old : WorldState} (new : WorldState) {mine : RowChange} {change : RecordChange} {key : List ℕ}
-    {after : Option (List Value)} (at : mine ≡ Record change key after) (p : IsChangingRow s chains old mine) where
+module _ (s : ℕ) (chains : Chains) (beside : Said) {old : WorldState} (new : WorldState) {mine : RowChange} {change : RecordChange} {key : List ℕ}
+    {after : Option (List Value)} (at : mine ≡ Record change key after) (p : IsChangingRow s chains beside old mine) where
   at_record : (reached : Reached RowChange)
-      → (IsChangingRow s chains old (Record change key after) → ChangesRow s chains old new (Record change key after) reached)
-      → ChangesRow s chains old new mine reached
-  at_record reached made = subst (λ (r : RowChange). IsChangingRow s chains old r → ChangesRow s chains old new r reached) (sym at) made p
+      → (IsChangingRow s chains beside old (Record change key after) → ChangesRow s chains beside old new (Record change key after) reached)
+      → ChangesRow s chains beside old new mine reached
+  at_record reached made = subst (λ (r : RowChange). IsChangingRow s chains beside old r → ChangesRow s chains beside old new r reached) (sym at) made p
 
-  pub record_went : (next : RecordChange) → GoesOnWithRecord s old new change next → ChangesRow s chains old new mine (Went (Record next key after))
+  pub record_went : (next : RecordChange) → GoesOnWithRecord s old new change next → ChangesRow s chains beside old new mine (Went (Record next key after))
   record_went next g =
       at_record (Went (Record next key after)) (λ is. (
-        (g, (g.holds, rows_aside s chains old new g.aside is.1, is.2 ∙ sym g.key_is, is.3 ∙ ap row_after (sym g.edit_is))),
+        (
+          g,
+          (
+            g.holds,
+            rw (g.table_is, g.key_is) (rows_aside s chains beside _ _ old new g.aside is.1),
+            is.2 ∙ sym g.key_is,
+            is.3 ∙ ap row_after (sym g.edit_is),
+          ),
+        ),
         λ schema there. let nearer = g.nears in omega arith,
       ))
 
   pub record_recorded : (before : Option (List Value)) (keys : KeysChange)
       → keys ≡ record { table = change.table; key = key; before = before; after = after; which = 0; put = None }
-      → ChangesRecord s old new change (records.Recorded before) → ChangesRow s chains old new mine (Went (Keys keys))
+      → ChangesRecord s old new change (records.Recorded before) → ChangesRow s chains beside old new mine (Went (Keys keys))
   record_recorded before keys keys_is h =
       rw keys_is (at_record (Went (Keys (record { table = change.table; key = key; before = before; after = after; which = 0; put = None }))) (λ is. (
-        (h, λ pushed push. recorded_keys s chains pushed old new change is.0 is.1 push before after key is.2 is.3 h, refl, is.2),
+        (h, λ pushed push. recorded_keys s chains beside pushed old new change is.0 is.1 push before after key is.2 is.3 h, refl, is.2),
         λ schema there. let some = some_record_step change.stage in omega arith,
       )))
 
   pub record_waits : (same : RecordChange) (why : Move) → ChangesRecord s old new change (records.Hindered same why)
-      → ChangesRow s chains old new mine (Hindered (Record same key after) why)
+      → ChangesRow s chains beside old new mine (Hindered (Record same key after) why)
   record_waits same why h =
       at_record (Hindered (Record same key after) why) (λ is. (
         ap (λ (c : RecordChange). let r : RowChange = Record c key after in r) h.0,
-        (h.2, rows_aside s chains old new h.1 is.1, is.2, is.3),
+        (h.2, rows_aside s chains beside _ _ old new h.1 is.1, is.2, is.3),
         (h.1, h.3, h.4, h.5),
       ))

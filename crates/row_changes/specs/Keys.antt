@@ -2,10 +2,10 @@
 use Rattle.std.specs.Prelude.{◌≡◌, ℕ, ◌<◌, ◌≤◌, Bool, true, false, List, length, slice_get, Option, None, Some, ◌+◌, ◌-◌, ◌*◌, ◌^◌, ◌∷◌, IfSome}
 use Rattle.inno_types.specs.{declared.value.Value.Value, declared.value.Column.Column, declared.value.Key.Key, declared.value.Schema.Schema}
 use Rattle.key_codec.specs.Keys.{entry_code}
-use Rattle.law_stored_rows.specs.{Entries.value_in, Entries.is_same_value, Edits.clustered_index, Edits.key_index, Tables.Said, Tables.LagAt}
+use Rattle.law_stored_rows.specs.{Entries.value_in, Entries.is_same_value, Edits.clustered_index, Edits.key_index, Tables.Said, Tables.SayTheSameBut}
 use Rattle.row_changes.specs.{declared.key_entries.KeyEntries.KeyEntries, declared.entry_put.EntryPut.EntryPut, declared.entry_put.PutPhase.TheVariants.Look}
 use Rattle.row_changes.specs.{declared.keys_change.KeysChange.KeysChange, declared.reached.Reached.Reached, Pairs.RowsStay, Entries.IsPutting}
-use Rattle.row_changes.specs.{Entries.put_steps, Entries.HindersEntry, Edits.IsRowFor, Edits.IsKeyAt, Records.IsTable, Told.AreRowsAs, Told.HasRows}
+use Rattle.row_changes.specs.{Entries.put_steps, Entries.HindersEntry, Edits.IsRowFor, Edits.IsKeyAt, Records.IsTable, Told.AreRowsAs, Told.HasRowsAt}
 use Rattle.row_changes.specs.declared.reached.Reached.TheVariants.{Went, Done, Hindered}
 use Rattle.store_api.specs.declared.moves.Move.{Move}
 use Rattle.entries.specs.Index.{AreKept}
@@ -71,17 +71,18 @@ abbrev pub said_next : Option EntryPut → Option (List Value) → List Version 
 said_next None before older = older
 said_next (Some put) before older = without_row before older
 
--- Of all places but this one the keys say what is there. Of this one the first keys say what is there, the next one says
--- this, and the later ones what was there before.
-pub record SaySoFar (chains : Chains) (place : Place) (done : ℕ) (next older : List Version) (said : Said) : Type 0 where
-  pub lag : LagAt place chains said
+-- Of all places but this one the keys say what is said beside it. Of this one the first keys say what is there, the next one
+-- says this, and the later ones what was there before.
+pub record SaySoFar (chains : Chains) (beside : Said) (place : Place) (done : ℕ) (next older : List Version) (said : Said) : Type 0 where
+  pub lag : SayTheSameBut place beside said
   pub first : (which : ℕ) → which < done → said place.table which place.key ≡ versions_at place chains
   pub here : said place.table done place.key ≡ next
   pub later : (which : ℕ) → done < which → said place.table which place.key ≡ older
 
 -- where told, the rows are these, and the keys say so much of the place
-abbrev pub HasRowsSoFar : Chains → Place → ℕ → List Version → List Version → WorldState → Type 0
-HasRowsSoFar chains place done next older state = IsTold state → (said : Said) × AreRowsAs chains said state × SaySoFar chains place done next older said
+abbrev pub HasRowsSoFar : Chains → Said → Place → ℕ → List Version → List Version → WorldState → Type 0
+HasRowsSoFar chains beside place done next older state =
+    IsTold state → (said : Said) × AreRowsAs chains said state × SaySoFar chains beside place done next older said
 
 -- a version came to the place, over these older ones, and its row is this
 pub record IsPushed (chains : Chains) (place : Place) (older : List Version) (after : Option (List Value)) : Type 0 where
@@ -97,7 +98,7 @@ pub record IsEntering (schema : Schema) (table which : ℕ) (row : Option (List 
   pub within : which < length schema.keys
   pub putting : IsPutting state put
 
-pub record IsChangingKeys (chains : Chains) (state : WorldState) (change : KeysChange) : Type 0 where
+pub record IsChangingKeys (chains : Chains) (beside : Said) (state : WorldState) (change : KeysChange) : Type 0 where
   pub schema : Schema
   pub table : IsTable change.table schema state
   pub value : Value
@@ -109,7 +110,7 @@ pub record IsChangingKeys (chains : Chains) (state : WorldState) (change : KeysC
   pub older : List Version
   pub pushed : IsPushed chains (record { table = change.table; key = value }) older change.after
   pub was : IsTold state → newest older ≡ change.before
-  pub rows : HasRowsSoFar chains (record { table = change.table; key = value }) change.which (said_next change.put change.before older) older state
+  pub rows : HasRowsSoFar chains beside (record { table = change.table; key = value }) change.which (said_next change.put change.before older) older state
 
 -- the new row's entry comes next, or the next key where there is none
 abbrev pub keys_next : KeysChange → ℕ → ℕ → Option (List ℕ) → KeysChange
@@ -131,13 +132,13 @@ pub record StaysBesideKeys (old new : WorldState) : Type 0 where
   pub later : StoreGoes old.paged new.paged
 
 -- the same change, some steps nearer
-pub record GoesOnWithKeys (chains : Chains) (old new : WorldState) (change next : KeysChange) : Type 0 where
+pub record GoesOnWithKeys (chains : Chains) (beside : Said) (old new : WorldState) (change next : KeysChange) : Type 0 where
   pub stays : StaysBesideKeys old new
   pub table_is : next.table ≡ change.table
   pub key_is : next.key ≡ change.key
   pub before_is : next.before ≡ change.before
   pub after_is : next.after ≡ change.after
-  pub holds : IsChangingKeys chains new next
+  pub holds : IsChangingKeys chains beside new next
   pub nears : (schema : Schema) → slice_get old.schemas change.table ≡ Some schema
       → keys_steps (length schema.keys - next.which) next.put < keys_steps (length schema.keys - change.which) change.put
 
@@ -148,8 +149,8 @@ pub record HindersKeys (actor : ℕ) (old new : WorldState) (change : KeysChange
   pub entry : List ℕ
   pub cause : HindersEntry actor entry (old.indexes (key_index change.table which)) (new.indexes (key_index change.table which)) why
 
-abbrev pub ChangesKeys : ℕ → Chains → WorldState → WorldState → KeysChange → Reached KeysChange → Type 0
-ChangesKeys actor chains old new change (Went next) = GoesOnWithKeys chains old new change next
-ChangesKeys actor chains old new change Done = RowsStay old new × HasRows chains new
-ChangesKeys actor chains old new change (Hindered same why) =
-    (same ≡ change) × RowsStay old new × IsChangingKeys chains new change × HindersKeys actor old new change why
+abbrev pub ChangesKeys : ℕ → Chains → Said → WorldState → WorldState → KeysChange → Reached KeysChange → Type 0
+ChangesKeys actor chains beside old new change (Went next) = GoesOnWithKeys chains beside old new change next
+ChangesKeys actor chains beside old new change Done = RowsStay old new × HasRowsAt chains beside change.table change.key new
+ChangesKeys actor chains beside old new change (Hindered same why) =
+    (same ≡ change) × RowsStay old new × IsChangingKeys chains beside new change × HindersKeys actor old new change why

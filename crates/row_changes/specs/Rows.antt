@@ -4,10 +4,11 @@ use Rattle.inno_types.specs.{declared.value.Value.Value, declared.value.Schema.S
 use Rattle.inno_db.specs.Database.{key_of}
 use Rattle.store_api.specs.declared.moves.Move.{Move}
 use Rattle.row_versions.specs.{declared.place.Place.Place, Chains.Chains, Chains.Pushes}
+use Rattle.law_stored_rows.specs.Tables.{Said, what_is_there}
 use Rattle.world.specs.State.{WorldState, Session, Work, HasWork}
 use Rattle.row_changes.specs.{declared.row_edit.RowEdit.RowEdit, declared.row_edit.RowEdit.TheVariants.Put, declared.row_edit.RowEdit.TheVariants.Remove}
 use Rattle.row_changes.specs.{declared.record_change.RecordChange.RecordChange, declared.row_change.RowChange.RowChange, declared.reached.Reached.Reached}
-use Rattle.row_changes.specs.{Pairs.RowsStay, Asides.StepsAside, Told.HasRows, Keys.IsChangingKeys, Keys.GoesOnWithKeys, Keys.HindersKeys, Keys.keys_steps}
+use Rattle.row_changes.specs.{Pairs.RowsStay, Asides.StepsAside, Told.HasRowsAt, Keys.IsChangingKeys, Keys.GoesOnWithKeys, Keys.HindersKeys, Keys.keys_steps}
 use Rattle.row_changes.specs.declared.row_change.RowChange.TheVariants.{Record, Keys}
 use Rattle.row_changes.specs.declared.reached.Reached.TheVariants.{Went, Done, Hindered}
 use Rattle.row_changes.specs.Records.{IsTable, IsChangingRecord, GoesOnWithRecord, HindersRecord, ChangesRecord, record_steps, id_for}
@@ -36,11 +37,16 @@ pub record PushesEdit (s : ℕ) (change : RecordChange) (state : WorldState) (be
   pub has_work : HasWork s session work state
   pub pushes : Pushes before after (place_of schema change) (record { writer = id_for work.id state.txns.next; row = row_after change.edit })
 
--- Before the record, the indexes are the rows before; then keys take over what was pushed.
-abbrev pub IsChangingRow : ℕ → Chains → WorldState → RowChange → Type 0
-IsChangingRow s chains state (Record change key after) =
-    IsChangingRecord s state change × HasRows chains state × (key ≡ change.key) × (after ≡ row_after change.edit)
-IsChangingRow s chains state (Keys change) = IsChangingKeys chains state change
+-- Before the record, the indexes are the rows before; then keys take over what was pushed. Of all places but that of the
+-- change, the keys say what is said beside it.
+abbrev pub IsChangingRow : ℕ → Chains → Said → WorldState → RowChange → Type 0
+IsChangingRow s chains beside state (Record change key after) =
+    IsChangingRecord s state change × HasRowsAt chains beside change.table change.key state × (key ≡ change.key) × (after ≡ row_after change.edit)
+IsChangingRow s chains beside state (Keys change) = IsChangingKeys chains beside state change
+
+-- The same while no other change is under way: of all other places the keys say what is there.
+abbrev pub IsChangingRowAlone : ℕ → Chains → WorldState → RowChange → Type 0
+IsChangingRowAlone s chains state change = IsChangingRow s chains (what_is_there chains) state change
 
 -- how many steps are left at most, where the table has so many keys
 abbrev pub row_steps : ℕ → RowChange → ℕ
@@ -48,14 +54,15 @@ row_steps keys (Record change key after) = 4 * keys + record_steps change.stage
 row_steps keys (Keys change) = keys_steps (keys - change.which) change.put
 
 -- one of the two parts has gone on; or the version stands, the history tells it, and the keys come next
-abbrev pub GoesOnWithRow : ℕ → Chains → WorldState → WorldState → RowChange → RowChange → Type 0
-GoesOnWithRow s chains old new (Record change key after) (Record next key' after') =
-    GoesOnWithRecord s old new change next × IsChangingRow s chains new (Record next key' after')
-GoesOnWithRow s chains old new (Record change key after) (Keys next) =
+abbrev pub GoesOnWithRow : ℕ → Chains → Said → WorldState → WorldState → RowChange → RowChange → Type 0
+GoesOnWithRow s chains beside old new (Record change key after) (Record next key' after') =
+    GoesOnWithRecord s old new change next × IsChangingRow s chains beside new (Record next key' after')
+GoesOnWithRow s chains beside old new (Record change key after) (Keys next) =
     ChangesRecord s old new change (records.Recorded next.before) ×
-    ((pushed : Chains) → PushesEdit s change old chains pushed → IsChangingKeys pushed new next) × (next.table ≡ change.table) × (next.key ≡ change.key)
-GoesOnWithRow s chains old new (Keys change) (Record next key after) = ⊥
-GoesOnWithRow s chains old new (Keys change) (Keys next) = GoesOnWithKeys chains old new change next
+    ((pushed : Chains) → PushesEdit s change old chains pushed → IsChangingKeys pushed beside new next) ×
+    (next.table ≡ change.table) × (next.key ≡ change.key)
+GoesOnWithRow s chains beside old new (Keys change) (Record next key after) = ⊥
+GoesOnWithRow s chains beside old new (Keys change) (Keys next) = GoesOnWithKeys chains beside old new change next
 
 -- why neither has gone on
 abbrev pub HindersRow : ℕ → WorldState → WorldState → RowChange → Move → Type 0
@@ -68,12 +75,17 @@ abbrev pub table_of : RowChange → ℕ
 table_of (Record change key after) = change.table
 table_of (Keys change) = change.table
 
--- The last step leaves the indexes as the rows that are there now.
-abbrev pub ChangesRow : ℕ → Chains → WorldState → WorldState → RowChange → Reached RowChange → Type 0
-ChangesRow s chains old new change (Went next) =
-    GoesOnWithRow s chains old new change next ×
+-- The last step leaves the indexes as the rows that are there now, and of the place of the change the keys say so.
+abbrev pub ChangesRow : ℕ → Chains → Said → WorldState → WorldState → RowChange → Reached RowChange → Type 0
+ChangesRow s chains beside old new change (Went next) =
+    GoesOnWithRow s chains beside old new change next ×
     ((schema : Schema) → slice_get old.schemas (table_of change) ≡ Some schema → row_steps (length schema.keys) next < row_steps (length schema.keys)
     change)
-ChangesRow s chains old new (Record change key after) Done = ⊥
-ChangesRow s chains old new (Keys change) Done = RowsStay old new × HasRows chains new
-ChangesRow s chains old new change (Hindered same why) = (same ≡ change) × IsChangingRow s chains new change × HindersRow s old new change why
+ChangesRow s chains beside old new (Record change key after) Done = ⊥
+ChangesRow s chains beside old new (Keys change) Done = RowsStay old new × HasRowsAt chains beside change.table change.key new
+ChangesRow s chains beside old new change (Hindered same why) =
+    (same ≡ change) × IsChangingRow s chains beside new change × HindersRow s old new change why
+
+-- the same while no other change is under way
+abbrev pub ChangesRowAlone : ℕ → Chains → WorldState → WorldState → RowChange → Reached RowChange → Type 0
+ChangesRowAlone s chains old new change reached = ChangesRow s chains (what_is_there chains) old new change reached

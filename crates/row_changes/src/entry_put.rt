@@ -44,7 +44,7 @@ impl EntryPut {
         }
     }
 
-    /// One step. It asks that nobody else changes the index's keys between the steps.
+    /// One step. It asks that nobody else puts or removes this entry between the steps.
     pub fn step<W: World>(&mut self, alloc: Global, world: &mut W, actor: u32) -> Came
         requires { IsPutting (W.state world.old) self.old }
         ensures puts { PutsEntry actor (W.state world.old) (W.state world.new) self.old (reached_at self.new result) }

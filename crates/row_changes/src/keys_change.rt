@@ -4,7 +4,7 @@
 ghost use Rattle.std.specs.Prelude.{◌≡◌, ◌<◌, Some, None, IfOk, MatchOption, length, slice_get};
 ghost use Rattle.inno_types.specs.declared.value.Schema.{Schema};
 ghost use Rattle.row_versions.specs.Chains.{Chains};
-ghost use Rattle.law_stored_rows.specs.Edits.{key_index};
+ghost use Rattle.law_stored_rows.specs.{Edits.key_index, Tables.Said};
 ghost use Rattle.row_changes.specs.Keys.{StayBetween, AreEntries};
 ghost use Rattle.row_changes.specs.Awaited.{AwaitsIn};
 ghost use Rattle.row_changes.specs.Keys.{IsChangingKeys, ChangesKeys, keys_next};
@@ -37,10 +37,11 @@ pub struct KeysChange {
 }
 
 impl KeysChange {
-    /// One step. It asks that nobody else changes rows between the steps.
+    /// One step. Between the steps others may change other rows, and what keys say of those. It asks that nobody else changes
+    /// this row.
     pub fn advance<W: World>(&mut self, alloc: Global, world: &mut W, actor: u32) -> Came
-        requires { (chains : Chains) × IsChangingKeys chains (W.state world.old) self.old }
-        ensures changes { (chains : Chains) → IsChangingKeys chains (W.state world.old) self.old → ChangesKeys actor chains (W.state world.old) (W.state world.new) self.old (reached_at self.new result) }
+        requires { (chains : Chains) × (beside : Said) × IsChangingKeys chains beside (W.state world.old) self.old }
+        ensures changes { (chains : Chains) (beside : Said) → IsChangingKeys chains beside (W.state world.old) self.old → ChangesKeys actor chains beside (W.state world.old) (W.state world.new) self.old (reached_at self.new result) }
         ensures awaits { AwaitsIn actor self.old.table (W.state world.old) (W.state world.new) }
     {
         let Some(put) = &mut self.put else {
@@ -59,9 +60,9 @@ impl KeysChange {
 
     /// Comes to the next key whose value doesn't stay.
     fn pass<W: World>(&mut self, alloc: Global, world: &mut W, actor: u32) -> Came
-        requires changing { (chains : Chains) × IsChangingKeys chains (W.state world.old) self.old }
+        requires changing { (chains : Chains) × (beside : Said) × IsChangingKeys chains beside (W.state world.old) self.old }
         requires none { self.old.put ≡ None }
-        ensures changes { (chains : Chains) → IsChangingKeys chains (W.state world.old) self.old → ChangesKeys actor chains (W.state world.old) (W.state world.new) self.old (reached_at self.new result) }
+        ensures changes { (chains : Chains) (beside : Said) → IsChangingKeys chains beside (W.state world.old) self.old → ChangesKeys actor chains beside (W.state world.old) (W.state world.new) self.old (reached_at self.new result) }
         ensures awaits { AwaitsIn actor self.old.table (W.state world.old) (W.state world.new) }
     {
         match self.entries(alloc, world) {
@@ -73,7 +74,7 @@ impl KeysChange {
 
     /// The entries in the next key whose value doesn't stay, if there is one.
     fn entries<W: World>(&self, alloc: Global, world: &W) -> Result<Option<KeyEntries>, NoMemory>
-        requires { (chains : Chains) × IsChangingKeys chains (W.state world.now) self.now }
+        requires { (chains : Chains) × (beside : Said) × IsChangingKeys chains beside (W.state world.now) self.now }
         ensures { IfOk result (λ found. (schema : Schema) → slice_get (W.state world.now).schemas self.now.table ≡ Some schema → MatchOption found (StayBetween schema self.now.which (length schema.keys) self.now.before self.now.after) (AreEntries schema self.now.which self.now.before self.now.after self.now.key)) }
     {
         match world.schema(self.table) {
@@ -97,10 +98,10 @@ impl KeysChange {
         world: &mut W,
         actor: u32,
     ) -> Came
-        requires changing { (chains : Chains) × IsChangingKeys chains (W.state world.old) self.old }
+        requires changing { (chains : Chains) × (beside : Said) × IsChangingKeys chains beside (W.state world.old) self.old }
         requires none { self.old.put ≡ None }
         requires entries { (schema : Schema) → slice_get (W.state world.old).schemas self.old.table ≡ Some schema → AreEntries schema self.old.which self.old.before self.old.after self.old.key entries }
-        ensures changes { (chains : Chains) → IsChangingKeys chains (W.state world.old) self.old → ChangesKeys actor chains (W.state world.old) (W.state world.new) self.old (reached_at self.new result) }
+        ensures changes { (chains : Chains) (beside : Said) → IsChangingKeys chains beside (W.state world.old) self.old → ChangesKeys actor chains beside (W.state world.old) (W.state world.new) self.old (reached_at self.new result) }
         ensures awaits { AwaitsIn actor self.old.table (W.state world.old) (W.state world.new) }
     {
         let KeyEntries { which, old, new } = entries;
@@ -120,11 +121,11 @@ impl KeysChange {
         world: &mut W,
         actor: u32,
     ) -> Came
-        requires changing { (chains : Chains) × IsChangingKeys chains (W.state world.old) self.old }
+        requires changing { (chains : Chains) × (beside : Said) × IsChangingKeys chains beside (W.state world.old) self.old }
         requires none { self.old.put ≡ None }
         requires index { mark.index ≡ key_index self.old.table which }
         requires entries { (schema : Schema) → slice_get (W.state world.old).schemas self.old.table ≡ Some schema → AreEntries schema self.old.which self.old.before self.old.after self.old.key (record { which = which; old = Some mark.entry; new = new }) }
-        ensures changes { (chains : Chains) → IsChangingKeys chains (W.state world.old) self.old → ChangesKeys actor chains (W.state world.old) (W.state world.new) self.old (reached_at self.new result) }
+        ensures changes { (chains : Chains) (beside : Said) → IsChangingKeys chains beside (W.state world.old) self.old → ChangesKeys actor chains beside (W.state world.old) (W.state world.new) self.old (reached_at self.new result) }
         ensures awaits { AwaitsIn actor self.old.table (W.state world.old) (W.state world.new) }
     {
         let index = mark.index;

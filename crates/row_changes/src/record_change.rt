@@ -66,7 +66,7 @@ pub enum RecordCame {
 }
 
 impl RecordChange {
-    /// One step. It asks that nobody else changes rows between the steps.
+    /// One step. It asks that nobody else changes this row's record between the steps.
     pub fn step<W: World>(&mut self, alloc: Global, world: &mut W, s: u32) -> RecordCame
         requires { IsChangingRecord s (W.state world.old) self.old }
         ensures changes { ChangesRecord s (W.state world.old) (W.state world.new) self.old (record_reached self.new result) }

@@ -2,6 +2,7 @@
 
 ghost use Rattle.std.specs.Prelude.{◌≡◌, None, IfOk};
 ghost use Rattle.row_versions.specs.Chains.{Chains};
+ghost use Rattle.law_stored_rows.specs.Tables.{Said};
 ghost use Rattle.row_changes.specs.Awaited.{AwaitsIn};
 ghost use Rattle.row_changes.specs.InPlace.{reached_at};
 ghost use Rattle.row_changes.specs.Rows.{IsChangingRow, ChangesRow, row_after, table_of};
@@ -40,10 +41,11 @@ impl RowChange {
         Ok(RowChange::Record(change, copy, after))
     }
 
-    /// One step. It asks that nobody else changes rows between the steps.
+    /// One step. Between the steps others may change other rows, and what keys say of those. It asks that nobody else changes
+    /// this row.
     pub fn advance<W: World>(&mut self, alloc: Global, world: &mut W, s: u32) -> Came
-        requires { (chains : Chains) × IsChangingRow s chains (W.state world.old) self.old }
-        ensures changes { (chains : Chains) → IsChangingRow s chains (W.state world.old) self.old → ChangesRow s chains (W.state world.old) (W.state world.new) self.old (reached_at self.new result) }
+        requires { (chains : Chains) × (beside : Said) × IsChangingRow s chains beside (W.state world.old) self.old }
+        ensures changes { (chains : Chains) (beside : Said) → IsChangingRow s chains beside (W.state world.old) self.old → ChangesRow s chains beside (W.state world.old) (W.state world.new) self.old (reached_at self.new result) }
         ensures awaits { AwaitsIn s (table_of self.old) (W.state world.old) (W.state world.new) }
     {
         match self {

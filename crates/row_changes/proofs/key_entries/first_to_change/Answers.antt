@@ -1,6 +1,5 @@
-use Rattle.std.proofs.Common.{◌≡◌, length, get_or, sym, ap, ◌∙◌, arith, ⊎_elim, true, false, Some, slice_get}
+use Rattle.std.proofs.Common.{◌≡◌, length, get_or, sym, ap, ◌∙◌, arith, ⊎_elim, Some, slice_get}
 use Rattle.std.proofs.lemmas.{Bool.cases_eq, Option.slice_get_within, Option.slice_get-get_or}
-use Rattle.row_changes.specs.Keys.{value_stays}
 use Rattle.row_changes.proofs.Sessions.{one_found}
 use Rattle.row_changes.proofs.key_entries.first_to_change.Goals as goal
 

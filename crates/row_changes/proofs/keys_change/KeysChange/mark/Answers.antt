@@ -3,17 +3,17 @@ use Rattle.row_changes.proofs.{Keying.marked_on, Keying.mark_hindered, Awaited.k
 use Rattle.row_changes.proofs.keys_change.KeysChange.mark.Goals as goal
 
 abbrev pub returns-in-Ok-clause-changes : goal.returns-in-Ok-clause-changes
-returns-in-Ok-clause-changes g c = λ chains p.
+returns-in-Ok-clause-changes g c = λ chains beside p.
     rw (c.next.ensures, c.requires.index)
-    (marked_on _ _ _ _ p (record { which = c.args.which; old = Some c.args.mark.entry; new = c.args.new }) c.args.mark.entry c.requires.none
+    (marked_on _ _ _ _ _ p (record { which = c.args.which; old = Some c.args.mark.entry; new = c.args.new }) c.args.mark.entry c.requires.none
     (c.requires.entries p.schema p.table.there) refl (rw c.requires.index at c.in-Ok.ensures.marks))
 
 abbrev pub returns-clause-changes : goal.returns-clause-changes
-returns-clause-changes g c = λ chains p.
+returns-clause-changes g c = λ chains beside p.
     let h = c.in-Err.ensures.marks in
-    mark_hindered _ _ _ _ p _ _ _ _ _ c.requires.none (c.requires.entries p.schema p.table.there).first.from_there c.requires.index h.0 h.2
+    mark_hindered _ _ _ _ _ p _ _ _ _ _ c.requires.none (c.requires.entries p.schema p.table.there).first.from_there c.requires.index h.0 h.2
 
 pub returns-clause-awaits : goal.returns-clause-awaits
 returns-clause-awaits g c =
-    let p = c.requires.changing.1 in
-    key_awaits _ _ _ _ _ _ _ p (c.requires.entries p.schema p.table.there).within c.requires.index c.step.ensures.awaits
+    let p = c.requires.changing.2 in
+    key_awaits _ _ _ _ _ _ _ _ p (c.requires.entries p.schema p.table.there).within c.requires.index c.step.ensures.awaits
