@@ -19,9 +19,9 @@ first_agrees chains state first =
       txns = record
           { open_txns = []; begun = 0; next = 1 };
     } in
-    agrees_alike chains None literal state
+    agrees_alike chains literal state
     (agreeing (refl, tt) (omega arith) refl refl (λ s. (refl, record { level_is = refl; own_is = refl }))
-    (λ place. opened_versions first.db place (versions_at place chains) (first.opened place)) (λ s. refl) (λ s le. refl) refl)
+    (λ place. opened_versions first.db place (versions_at place chains) (first.opened place)) (λ s le. refl) refl)
     first.names first.past first.schemas first.txns first.sessions
 
 -- what holds of nobody's work and of a session without a transaction holds of each session once one has joined
