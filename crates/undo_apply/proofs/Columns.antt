@@ -3,7 +3,7 @@ use Rattle.std.proofs.Common.{◌≡◌, ◌≢◌, ◌⊎◌, inl, inr, ℕ, Bo
 use Rattle.std.proofs.Common.{suc, ◌+◌, ◌-◌, ◌<◌, ◌≤◌, slice_get, length}
 use Rattle.std.specs.Prelude.{◌==◌, not, All, cond}
 use Rattle.std.proofs.Math.Bool.{or-true}
-use Rattle.std.proofs.lemmas.{Option.slice_get_within, Bool.cond-true, Bool.cond-false, Bool.ne_eqb}
+use Rattle.std.proofs.lemmas.{Option.slice_get_within, Bool.cond-false, Bool.ne_eqb}
 use Rattle.std.proofs.lemmas.List.Elements.{All-head, All-tail}
 use Rattle.inno_types.specs.{declared.value.Value.Value, declared.value.Schema.Schema, declared.value.Key.Key}
 use Rattle.inno_db.specs.Database.{key_of}
@@ -15,7 +15,7 @@ use Rattle.entries.specs.Pairs.{Pair, value_of, key_cmp, without_key}
 use Rattle.row_versions.specs.{declared.kept.Kept.Kept, declared.place.Place.Place, declared.version.Version.Version}
 use Rattle.row_versions.specs.Chains.{Chains, versions_at, newest, older}
 use Rattle.law_stored_rows.specs.{Edits.key_index, Records.row_shown, Records.shown, Records.IsCodeOf, Records.IsRecordWith}
-use Rattle.law_stored_rows.specs.{Records.LeadTo, Tables.place_in, Tables.AreClustered, Storable.IsStorable, Storable.IsKeyOn}
+use Rattle.law_stored_rows.specs.{Records.LeadTo, Tables.place_in, Tables.Said, Tables.AreClustered, Storable.IsStorable, Storable.IsKeyOn}
 use Rattle.law_stored_rows.specs.Entries.{value_in, has_value, entry_of as entry_said}
 use Rattle.law_stored_rows.proofs.Values.{one_key, key_there, entry_there, place_itself, value_itself}
 use Rattle.law_stored_rows.proofs.RowRecords.{record_read, pointer_followed, leads_nowhere}
@@ -165,13 +165,13 @@ absent_stays key (pair ∷ pairs) none = go (is_at (key_cmp key) pair.0) (absent
   go true rest none = absurd (cc)
   go false rest none = ap (λ (l : List Pair). pair ∷ l) (rest none)
 
-module _ (chains : Chains) (place : Place) (undo : Undo) (schema : Schema) (rows : Rows) (tells : TellsOf undo schema place rows.schemas) where
-  says_here : (said : ℕ → List Version) (which : ℕ) → said_but chains place said undo.table which place.key ≡ said which
+module _ (chains : Chains) (beside : Said) (place : Place) (undo : Undo) (schema : Schema) (rows : Rows) (tells : TellsOf undo schema place rows.schemas) where
+  says_here : (said : ℕ → List Version) (which : ℕ) → said_but beside place said undo.table which place.key ≡ said which
   says_here said which = rw (← tells.table_is, place_itself place)
 
   -- the entry of a record of the place holds what the key says
   pub entry_says : (said : ℕ → List Version) (which : ℕ) (version : Coded) (bytes : List ℕ) → which < length schema.keys
-      → AreCodedBut rows.schemas rows.pairs rows.kept chains place said → IsCodeOf schema undo.key bytes version
+      → AreCodedBut rows.schemas rows.pairs rows.kept chains beside place said → IsCodeOf schema undo.key bytes version
       → value_of (entry_of schema (which + 1) version.row undo.key) (rows.pairs (key_index undo.table which)) ≡ entry_said (column_of schema which)
       (value_in (column_of schema which) version.row) (said which)
   entry_says said which version bytes within are code =

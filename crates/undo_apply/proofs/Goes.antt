@@ -11,7 +11,7 @@ use Rattle.store_api.specs.declared.answers.Version.{Version as Coded}
 use Rattle.store_api.specs.declared.moves.Move.TheVariants.{Done, Step, End, NoMemory}
 use Rattle.key_codec.proofs.Once.{same_entry}
 use Rattle.law_stored_rows.specs.{Storable.IsStorable, Records.row_shown, Records.shown, Records.IsCodeOf, Records.LeadTo, Entries.is_same_value}
-use Rattle.law_stored_rows.specs.{Entries.value_in, Entries.has_value, Edits.key_index, Edits.with_value, Edits.clustered_index}
+use Rattle.law_stored_rows.specs.{Entries.value_in, Entries.has_value, Edits.key_index, Edits.with_value, Edits.clustered_index, Tables.Said}
 use Rattle.row_versions.specs.{declared.kept.Kept.Kept, declared.version.Version.Version, declared.place.Place.Place, Chains.Chains}
 use Rattle.row_versions.specs.Versions.{Versions, leads, IsPointer}
 use Rattle.secondary.specs.Entries.{entry_of}
@@ -131,10 +131,10 @@ as_long undo schema kept bytes coded before code leads_on (inr (kind, leads, for
 pub not_done_test : (answer : Move) → answer ≢ Done → is_done answer ≡ false
 not_done_test other differs = search rules
 
-module _ {chains : Chains} {place : Place} (actor : ℕ) {undo : Undo} {room : WorkRoom} {old : WorldState}
-    (is : IsPuttingBack chains place undo room old) where
+module _ {chains : Chains} {beside : Said} {place : Place} (actor : ℕ) {undo : Undo} {room : WorkRoom} {old : WorldState}
+    (is : IsPuttingBack chains beside place undo room old) where
   abbrev Back : WorkRoom → WorldState → Move → Type 0
-  Back next new answer = PutsBack chains place actor undo room next old new answer
+  Back next new answer = PutsBack chains beside place actor undo room next old new answer
 
   -- what the room and the answer have become is a step
   abbrev HandsOn : (WorkRoom → Move → Type 0) → WorldState → Type 0
@@ -148,10 +148,11 @@ module _ {chains : Chains} {place : Place} (actor : ℕ) {undo : Undo} {room : W
 
   -- what is known at a stage, of rows
   abbrev At : Rows → Stage → Type 0
-  At rows stage = StageHolds chains place undo is.schema rows room.newest.items stage
+  At rows stage = StageHolds chains beside place undo is.schema rows room.newest.items stage
 
   is_back : (next : WorkRoom) (new : WorldState) → new.schemas ≡ old.schemas → IsWhole next → FitsKeys keys undo next.stage
-      → (IsTold new → StageHolds chains place undo is.schema (rows_of new) next.newest.items next.stage) → IsPuttingBack chains place undo next new
+      → (IsTold new → StageHolds chains beside place undo is.schema (rows_of new) next.newest.items next.stage)
+      → IsPuttingBack chains beside place undo next new
   is_back next new schemas whole fits holds =
       record { schema = is.schema; tells = rw schemas is.tells; whole = whole; fits = fits; holds = holds }
 
@@ -160,7 +161,7 @@ module _ {chains : Chains} {place : Place} (actor : ℕ) {undo : Undo} {room : W
 
   -- The step was made.
   went : (next : WorkRoom) (new : WorldState) → new.schemas ≡ old.schemas → ChangesOneEntry is.schema undo old new → IsWhole next
-      → FitsKeys keys undo next.stage → (IsTold new → StageHolds chains place undo is.schema (rows_of new) next.newest.items next.stage)
+      → FitsKeys keys undo next.stage → (IsTold new → StageHolds chains beside place undo is.schema (rows_of new) next.newest.items next.stage)
       → Nears is.schema undo new room.stage next.stage → Back next new Step
   went next new schemas changes whole fits holds nears = inl (record {
     changes = λ schema there. rw (← one_schema schema new schemas there) changes;
@@ -168,7 +169,7 @@ module _ {chains : Chains} {place : Place} (actor : ℕ) {undo : Undo} {room : W
     nears = λ schema there. rw (← one_schema schema new schemas there) nears;
   })
 
-  hindrance_is : (next : WorkRoom) (new : WorldState) (answer : Move) → answer ≢ Done → IsHindered chains place actor undo room next old new answer
+  hindrance_is : (next : WorkRoom) (new : WorldState) (answer : Move) → answer ≢ Done → IsHindered chains beside place actor undo room next old new answer
       → Back next new answer
   hindrance_is next new other not_done is = search rules
 
@@ -186,7 +187,7 @@ module _ {chains : Chains} {place : Place} (actor : ℕ) {undo : Undo} {room : W
   -- ---- the versions before
 
   module _ {rows : Rows} {bytes : List ℕ} {coded : Coded} {done : ℕ} {Says : List Version → Type 0} (tells : TellsOf undo is.schema place rows.schemas)
-      (way : IsUnderWay chains place undo is.schema rows bytes coded done Says) where
+      (way : IsUnderWay chains beside place undo is.schema rows bytes coded done Says) where
     -- the older versions, and whether there was a row
     what_stood : LeadTo is.schema undo.key rows.kept coded.pointer before × (WasThere undo is.schema before ⊎ WasNot undo before)
     what_stood =
@@ -300,7 +301,7 @@ module _ {chains : Chains} {place : Place} (actor : ℕ) {undo : Undo} {room : W
 
   -- the change stands yet
   abbrev Stands : Type 0
-  Stands = (read : List ℕ) × (coded : Coded) × IsUnderWay chains place undo is.schema (rows_of old) read coded 0 (IsLagging (shown coded) before)
+  Stands = (read : List ℕ) × (coded : Coded) × IsUnderWay chains beside place undo is.schema (rows_of old) read coded 0 (IsLagging (shown coded) before)
 
   -- the record was looked for
   module _ (is_at : room.stage ≡ Find) (read : Vec ℕ Global) (holds : vec_capacity room.newest ≤ vec_capacity read) (new : WorldState) where
@@ -333,7 +334,8 @@ module _ {chains : Chains} {place : Place} (actor : ℕ) {undo : Undo} {room : W
       again = λ told gone. (
         stays,
         rw (rows_stay stays told) (⊎_elim
-            (λ (way : Stands). absurd (stands chains place undo is.schema (rows_of old) way.0 way.1 0 (IsLagging (shown way.1) before) is.tells way.2 gone))
+            (λ (way : Stands). absurd
+            (stands chains beside place undo is.schema (rows_of old) way.0 way.1 0 (IsLagging (shown way.1) before) is.tells way.2 gone))
             (λ taken. taken) (held Find is_at (stays_told old new stays told))),
       );
     }
@@ -346,7 +348,7 @@ module _ {chains : Chains} {place : Place} (actor : ℕ) {undo : Undo} {room : W
     find_none calls =
         is_left (fetched End calls) (λ told. let none = told_of (λ pairs. value_of undo.key pairs ≡ None) old records told calls.index_is.here.0 in
         ⊎_elim (λ (way : Stands). absurd (let e : None ≡ Some way.0 = sym none ∙ way.2.newest.there in cc))
-        (λ (taken : IsTakenBack chains undo (rows_of old)). taken.there) (held Find is_at told))
+        (λ (taken : IsTakenBack chains beside place undo (rows_of old)). taken.there) (held Find is_at told))
 
     pub find_on : Fetching Done → (Some read.items ≡ was_before undo → ⊥) → Back (at_stage (Key 0) found) new Step
     find_on calls differs =
@@ -356,7 +358,7 @@ module _ {chains : Chains} {place : Place} (actor : ℕ) {undo : Undo} {room : W
         rw (rows_stay stays told) (⊎_elim (λ (way : Stands).
         let some : Some way.0 ≡ Some read.items = sym way.2.newest.there ∙ there calls was in
         let one : way.0 ≡ read.items = cc in
-        (way.1, rw one at way.2)) (λ (taken : IsTakenBack chains undo (rows_of old)). absurd (differs (sym (there calls was) ∙ taken.there)))
+        (way.1, rw one at way.2)) (λ (taken : IsTakenBack chains beside place undo (rows_of old)). absurd (differs (sym (there calls was) ∙ taken.there)))
         (held Find is_at was))) (inl (rw is_at (omega arith)))
 
     pub find_stopped : (answer : Move) → Fetching answer → read.items ≡ room.newest.items → answer ≢ Done → answer ≢ End → Back found new answer
@@ -382,10 +384,10 @@ module _ {chains : Chains} {place : Place} (actor : ℕ) {undo : Undo} {room : W
       anew = refl;
       popped = λ told differs after pops.
           let h = held Record is_at (put_told records undo.key (was_before undo) old new puts told) in
-          rw (rows_after puts told) (ends chains (rows_of old) is.tells h.1 after pops);
+          rw (rows_after puts told) (ends chains beside (rows_of old) is.tells h.1 after pops);
       again = λ told gone.
           let h = held Record is_at (put_told records undo.key (was_before undo) old new puts told) in
-          absurd (stands chains place undo is.schema (rows_of old) room.newest.items h.0 keys (IsLagging (shown h.0) before) is.tells h.1 gone);
+          absurd (stands chains beside place undo is.schema (rows_of old) room.newest.items h.0 keys (IsLagging (shown h.0) before) is.tells h.1 gone);
     }
 
     -- the call was done, and all is; or the room is as it was
@@ -456,7 +458,7 @@ module _ {chains : Chains} {place : Place} (actor : ℕ) {undo : Undo} {room : W
 
     -- the rows once the entry of a record has this value
     abbrev Put : Coded → Option (List ℕ) → Rows
-    Put version value = with_entry chains (rows_of old) is.tells which version value
+    Put version value = with_entry chains beside (rows_of old) is.tells which version value
 
     entry_done : (stage next : Stage) → room.stage ≡ stage → (entry : List ℕ) (value now : Option (List ℕ)) (new : WorldState) → which < keys
         → PutsPair number entry value old new → value ≡ now → FitsKeys keys undo next → steps_left keys next < steps_left keys stage
@@ -481,7 +483,7 @@ module _ {chains : Chains} {place : Place} (actor : ℕ) {undo : Undo} {room : W
       pub fits : FitsKeys keys undo next
       pub nearer : steps_left keys next < 5 * (keys - which) + 3
       pub holds : (rows : Rows) (coded : Coded) → TellsOf undo is.schema place rows.schemas
-          → IsUnderWay chains place undo is.schema rows room.newest.items coded which (IsCleared before) → At rows next
+          → IsUnderWay chains beside place undo is.schema rows room.newest.items coded which (IsCleared before) → At rows next
 
     comes : which < keys → Comes following
     comes within = go (had_row undo) refl where
@@ -493,7 +495,7 @@ module _ {chains : Chains} {place : Place} (actor : ℕ) {undo : Undo} {room : W
         holds = λ rows coded tells way. (
           coded,
           ⊎_elim (λ (was : WasThere undo is.schema before). absurd (true≢false (sym was.had ∙ had)))
-              (λ (was : WasNot undo before). passed chains rows tells was way) (what_stood tells way).1,
+              (λ (was : WasNot undo before). passed chains beside rows tells was way) (what_stood tells way).1,
         );
       }
 
@@ -505,7 +507,7 @@ module _ {chains : Chains} {place : Place} (actor : ℕ) {undo : Undo} {room : W
       pub version : Coded
       pub code : IsCodeOf is.schema undo.key value version
       pub said : ℕ → List Version
-      pub coded_but : AreCodedBut old.schemas (pairs_of old) old.versions.kept_at chains place said
+      pub coded_but : AreCodedBut old.schemas (pairs_of old) old.versions.kept_at chains beside place said
       pub some : some_has is.schema which version (said which) ≡ true
       pub holds : At (Put version now) next
 
@@ -530,7 +532,7 @@ module _ {chains : Chains} {place : Place} (actor : ℕ) {undo : Undo} {room : W
         there : IsTold old → IsThereAs entry mark old number
         there told =
             let it = marked told in
-            let says = entry_says chains place undo is.schema (rows_of old) is.tells it.said which it.version value within it.coded_but it.code in
+            let says = entry_says chains beside place undo is.schema (rows_of old) is.tells it.said which it.version value within it.coded_but it.code in
             let one = one_byte (column_of is.schema which) (value_in (column_of is.schema which) it.version.row) (it.said which) it.some in
             (one.0 ∷ [], rw (written_is value entry result it.version writes within it.code).1 (says ∙ one.1), sym (ap length mark_is))
 
@@ -546,7 +548,7 @@ module _ {chains : Chains} {place : Place} (actor : ℕ) {undo : Undo} {room : W
           coded_but = h.1.coded_but;
           some = lagging_any (column_of is.schema which) _ (shown h.0) before (h.1.said which) h.2.found_is h.1.says.here;
           holds = (comes within).holds (Put h.0 (Some (1 ∷ []))) h.0 is.tells
-              (dropped chains (rows_of old) is.tells which true within h.1 h.2.plain h.2.found_is);
+              (dropped chains beside (rows_of old) is.tells which true within h.1 h.2.plain h.2.found_is);
         })
 
     pub mark_unwritten : room.stage ≡ Mark which → Unwritten room.newest.items
@@ -580,7 +582,7 @@ module _ {chains : Chains} {place : Place} (actor : ℕ) {undo : Undo} {room : W
           let h = held (Remove which) is_at told in (
             h.0,
             (written_is room.newest.items entry result h.0 writes within h.1.newest.code_is).1,
-            (comes within).holds (Put h.0 None) h.0 is.tells (dropped chains (rows_of old) is.tells which false within h.1 h.2.plain h.2.found_is),
+            (comes within).holds (Put h.0 None) h.0 is.tells (dropped chains beside (rows_of old) is.tells which false within h.1 h.2.plain h.2.found_is),
           )
 
       remove_ended : Removing End → Back (at_stage following (written entry)) new Step
@@ -620,7 +622,7 @@ module _ {chains : Chains} {place : Place} (actor : ℕ) {undo : Undo} {room : W
           said = h.1.said;
           coded_but = h.1.coded_but;
           some = cleared_any column _ before (h.1.said which) (newest_any column was.former.row before was.first) h.1.says.here;
-          holds = (h.0, unmarked_now chains (rows_of old) is.tells which was fits.0 h.1);
+          holds = (h.0, unmarked_now chains beside (rows_of old) is.tells which was fits.0 h.1);
         })
 
     pub unmark_unwritten : room.stage ≡ Unmark which → Unwritten undo.value
@@ -640,7 +642,7 @@ module _ {chains : Chains} {place : Place} (actor : ℕ) {undo : Undo} {room : W
 
       -- the keys are done
       look_last : {count : ℕ} → Counts count → count ≤ which → (next : Stage) → FitsKeys keys undo next
-          → ((coded : Coded) → LagsAt chains place undo is.schema (rows_of old) room.newest.items keys coded → At (rows_of old) next)
+          → ((coded : Coded) → LagsAt chains beside place undo is.schema (rows_of old) room.newest.items keys coded → At (rows_of old) next)
           → steps_left keys next < 6 → Back (at_stage next room) old Step
       look_last {count} counted more next fits holds near =
           let all : which ≡ keys = (let fits = fitting (Key which) is_at in omega (arith, more, fits, counted is.schema is.tells.there)) in
@@ -663,7 +665,7 @@ module _ {chains : Chains} {place : Place} (actor : ℕ) {undo : Undo} {room : W
         look_gone is_marked =
             moved room room_leaves (Key which) following is_at old (same_rows old) (comes within).fits (λ told h.
             let gone = mark_of h.0 h.1.newest.code_is ∙ is_marked in
-            (comes within).holds (rows_of old) h.0 is.tells (clear_unless_row chains (rows_of old) is.tells gone h.1))
+            (comes within).holds (rows_of old) h.0 is.tells (clear_unless_row chains beside (rows_of old) is.tells gone h.1))
             (follows (Key which) within (omega arith))
 
         abbrev OneEntry : Bool → Type 0
@@ -685,7 +687,7 @@ module _ {chains : Chains} {place : Place} (actor : ℕ) {undo : Undo} {room : W
             (one is.schema h.0 was.former is.tells.there code.numbers was.code_is.numbers code.record_is was.code_is.record_is
             (entry_short which is.tells within code) (entry_short which is.tells within was.code_is)).0 is_same in
             let values = values_same which is.tells.storable within code was.code_is entries in
-            (h.0, clear_of_same chains (rows_of old) is.tells was (mark_of h.0 code ∙ not_marked) (sym values) h.1)) (omega arith)
+            (h.0, clear_of_same chains beside (rows_of old) is.tells was (mark_of h.0 code ∙ not_marked) (sym values) h.1)) (omega arith)
 
         -- a walk begins
         pub look_on : marked ≡ false → (pointer : ℕ) → ((marks : Bool) (writer leads : ℕ) (fields : List ℕ) → leads < 2 ^ 64
@@ -803,9 +805,9 @@ module _ {chains : Chains} {place : Place} (actor : ℕ) {undo : Undo} {room : W
               (nears_by looks.either))
 
 -- Steps that change no row leave what is known.
-pub others_leave : (chains : Chains) (place : Place) (undo : Undo) (room : WorkRoom) (old new : WorldState) → IsPuttingBack chains place undo room old
-    → LeavesRows old new → IsPuttingBack chains place undo room new
-others_leave chains place undo room old new is leaves = record {
+pub others_leave : (chains : Chains) (beside : Said) (place : Place) (undo : Undo) (room : WorkRoom) (old new : WorldState)
+    → IsPuttingBack chains beside place undo room old → LeavesRows old new → IsPuttingBack chains beside place undo room new
+others_leave chains beside place undo room old new is leaves = record {
   schema = is.schema;
   tells = rw leaves.schemas is.tells;
   whole = is.whole;

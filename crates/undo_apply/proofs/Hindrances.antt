@@ -1,10 +1,10 @@
 -- Who is awaited after a step of a taking back, and that nothing hinders it in memory where nobody else is awaited.
-use Rattle.std.proofs.Common.{◌≡◌, ◌⊎◌, inl, inr, ⊎_elim, ℕ, ◌<◌, Option, Some, None, refl, subst, arith, length, rules}
+use Rattle.std.proofs.Common.{◌≡◌, ◌⊎◌, inl, inr, ⊎_elim, ℕ, ◌<◌, Option, Some, None, refl, arith, length, rules}
 use Rattle.store_api.specs.{declared.answers.Undo.Undo, declared.moves.Move.Move}
 use Rattle.store_api.specs.declared.moves.Move.TheVariants.{Done, Step, Latch, Failed}
 use Rattle.entries.specs.{Index.Index, Index.Paged, Calls.IsPutOff, Calls.Delays, Calls.IsKeptOff}
 use Rattle.row_versions.specs.{declared.place.Place.Place, Chains.Chains}
-use Rattle.law_stored_rows.specs.Edits.{clustered_index, key_index}
+use Rattle.law_stored_rows.specs.{Edits.clustered_index, Edits.key_index, Tables.Said}
 use Rattle.world.specs.{State.WorldState, Memory.IsInMemory}
 use Rattle.world.proofs.Memory.{no_pages}
 use Rattle.row_changes.specs.Awaited.{AwaitsAt, AwaitsIn, IsAwaitedAlone}
@@ -14,8 +14,8 @@ use Rattle.undo_apply.specs.Stages.{FitsKeys, IsPuttingBack, PutsBack, Stops, St
 use Rattle.row_versions.specs.Calls as chain
 use Rattle.row_versions.specs.Versions as versions
 
-module _ {chains : Chains} {place : Place} {actor : ℕ} {undo : Undo} {room : WorkRoom} {old new : WorldState}
-    (is : IsPuttingBack chains place undo room old) where
+module _ {chains : Chains} {beside : Said} {place : Place} {actor : ℕ} {undo : Undo} {room : WorkRoom} {old new : WorldState}
+    (is : IsPuttingBack chains beside place undo room old) where
   pub rows_await : AwaitsAt actor (clustered_index undo.table) old new → AwaitsIn actor undo.table old new
   rows_await =
       awaits_in actor (clustered_index undo.table) undo.table old new (clustered_of_table undo.table old.schemas is.schema is.tells.there)
@@ -57,8 +57,8 @@ module _ (actor : ℕ) (old new : WorldState) (memory : IsInMemory old) (alone :
   never_stops_at undo other why h = never_stops (index_at undo other) why h
 
   -- a step is made, or it was the last one
-  pub never_hindered : (chains : Chains) (place : Place) (undo : Undo) (room next : WorkRoom) (answer : Move)
-      → PutsBack chains place actor undo room next old new answer → (answer ≡ Done) ⊎ (answer ≡ Step)
-  never_hindered chains place undo room next Done puts = inl refl
-  never_hindered chains place undo room next Step puts = inr refl
-  never_hindered chains place undo room next other puts = absurd (never_stops_at undo room.stage other puts.cause)
+  pub never_hindered : (chains : Chains) (beside : Said) (place : Place) (undo : Undo) (room next : WorkRoom) (answer : Move)
+      → PutsBack chains beside place actor undo room next old new answer → (answer ≡ Done) ⊎ (answer ≡ Step)
+  never_hindered chains beside place undo room next Done puts = inl refl
+  never_hindered chains beside place undo room next Step puts = inr refl
+  never_hindered chains beside place undo room next other puts = absurd (never_stops_at undo room.stage other puts.cause)

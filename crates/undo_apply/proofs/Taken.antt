@@ -2,21 +2,21 @@
 use Rattle.std.proofs.Common.{◌≡◌, ◌≢◌, ⊎_elim, ℕ, ◌+◌, Bool, true, false, cond, List, Option, Some, refl, sym, ap, subst, ◌∙◌, arith, slice_get, inl, inr}
 use Rattle.std.proofs.Common.{◌<◌, [], ◌∷◌, None, length}
 use Rattle.std.proofs.lemmas.Bool.Decides.{nat_tests}
-use Rattle.law_stored_rows.specs.Tables.{place_in}
 use Rattle.std.specs.Prelude.{◌==◌, ◌&&◌}
 use Rattle.std.proofs.lemmas.{Bool.cases_eq, Bool.cond-true, Bool.cond-false, Bool.eq-eqb, Bool.ne_eqb, Option.slice_get_within}
 use Rattle.inno_types.specs.{declared.value.Value.Value, declared.value.Key.Key, declared.value.Schema.Schema}
 use Rattle.key_codec.specs.Keys.{entry_code}
-use Rattle.entries.specs.Pairs.{value_of}
+use Rattle.entries.specs.Pairs.{Pair, value_of}
 use Rattle.row_versions.specs.{declared.kept.Kept.Kept, declared.place.Place.Place, declared.version.Version.Version}
-use Rattle.row_versions.specs.Chains.{Chains, is_same_place, Pops, newest, older}
-use Rattle.law_stored_rows.specs.{Tables.in_table, Tables.AreCodedAs, Tables.LagAt, Tables.SaysNow, Edits.clustered_index, Edits.key_index, Edits.Puts}
+use Rattle.row_versions.specs.Chains.{Chains, versions_at, is_same_place, Pops, newest, older}
+use Rattle.law_stored_rows.specs.Tables.{what_is_there, Said, AreCodedAs, AreCoded, SayTheSameBut, SaysNow, place_in}
+use Rattle.law_stored_rows.specs.{Edits.clustered_index, Edits.key_index, Edits.Puts}
 use Rattle.law_stored_rows.specs.{Records.shown, Records.IsCodeOf, Records.LeadTo, Steps.PutsRecord}
 use Rattle.law_stored_rows.specs.Entries.{TellAlike, value_in, has_value, entry_of as entry_said, TellAlikeBut}
 use Rattle.secondary.specs.Entries.{entry_of}
-use Rattle.law_stored_rows.proofs.{Tables.at, Tables.popped_here, Pairs.no_key, Pairs.value_now, Values.place_itself, Values.same_place, Values.value_itself}
+use Rattle.law_stored_rows.proofs.{Tables.at, Tables.popped_here, Pairs.no_key, Pairs.value_now, Values.place_itself, Values.value_itself}
 use Rattle.law_stored_rows.proofs.{Tables.popped_elsewhere, Steps.record_taken_back, Steps.record_removed, RowRecords.pointer_followed, RowRecords.one_lead}
-use Rattle.law_stored_rows.proofs.Keys.{said_alike, entry_changed, change_over}
+use Rattle.law_stored_rows.proofs.Keys.{entry_changed, change_over}
 use Rattle.law_stored_rows.proofs.Entries.{marked, taken, is_taken, unmarked, is_unmarked, without_row, value_again}
 use Rattle.undo_apply.specs.{Told.Rows}
 use Rattle.undo_apply.specs.Standing.{said_but, AreCodedBut, IsLagging, SayBefore, TellsOf, IsNewest, IsCleared, IsUnderWay, versions_before, column_of}
@@ -57,25 +57,20 @@ module _ (newest : Version) (before : List Version) (said : ℕ → List Version
 
 -- ---- what keys say of all places
 
-pub says_place : (chains : Chains) (place : Place) (said : ℕ → List Version) (which : ℕ) → said_but chains place said place.table which place.key ≡ said which
-says_place chains place said which = cond-true (is_same_place place place) (said which) (in_table place.table chains place.key) (place_itself place)
+pub says_place : (beside : Said) (place : Place) (said : ℕ → List Version) (which : ℕ) → said_but beside place said place.table which place.key ≡ said which
+says_place beside place said which = cond-true (is_same_place place place) (said which) (beside place.table which place.key) (place_itself place)
 
-pub lags_there : (chains : Chains) (place : Place) (said : ℕ → List Version) → LagAt place chains (said_but chains place said)
-lags_there chains place said table which value apart = cond-false (is_same_place place (at table value)) (said which) (in_table table chains value) apart
+-- of other places keys say what `beside` has: where that is what is there, they lag at this place alone
+pub lags_there : (beside : Said) (place : Place) (said : ℕ → List Version) → SayTheSameBut place beside (said_but beside place said)
+lags_there beside place said table which value apart = cond-false (is_same_place place (at table value)) (said which) (beside table which value) apart
 
-pub sets_there : (chains : Chains) (place : Place) (said : ℕ → List Version) (which : ℕ) (versions : List Version)
-    → SaysNow (said_but chains place said) (said_but chains place (set_said said which versions)) place which versions
-sets_there chains place said which versions table key value = go (key == which) (is_same_place place (at table value)) where
+pub sets_there : (beside : Said) (place : Place) (said : ℕ → List Version) (which : ℕ) (versions : List Version)
+    → SaysNow (said_but beside place said) (said_but beside place (set_said said which versions)) place which versions
+sets_there beside place said which versions table key value = go (key == which) (is_same_place place (at table value)) where
   go : (b t : Bool)
-      → cond t (cond b versions (said key)) (in_table table chains value) ≡ cond (b && t) versions (cond t (said key) (in_table table chains value))
+      → cond t (cond b versions (said key)) (beside table key value) ≡ cond (b && t) versions (cond t (said key) (beside table key value))
   go true t = grind (arith, nat_tests)
   go false t = refl
-
--- what holds of both ends of a choice holds of the choice
-by_test : (R : List Version → List Version → Type 0) (t : Bool) (a b c d : List Version) → (t ≡ true → R a b) → (t ≡ false → R c d)
-    → R (cond t a c) (cond t b d)
-by_test R true a b c d first second = first refl
-by_test R false a b c d first second = second refl
 
 -- ---- what the change of one entry makes of a change that is being taken back
 
@@ -119,7 +114,7 @@ module _ (column : ℕ) (value : Value) (first : Version) (before : List Version
 
 -- ---- all keys
 
-module _ (chains : Chains) {place : Place} {undo : Undo} {schema : Schema} (rows : Rows) (tells : TellsOf undo schema place rows.schemas) where
+module _ (chains : Chains) (beside : Said) {place : Place} {undo : Undo} {schema : Schema} (rows : Rows) (tells : TellsOf undo schema place rows.schemas) where
   abbrev before : List Version
   before = versions_before chains place
 
@@ -141,26 +136,26 @@ module _ (chains : Chains) {place : Place} {undo : Undo} {schema : Schema} (rows
 
   -- the entry of a record of the place is changed
   entry_put : (said : ℕ → List Version) (which : ℕ) (it : IsKeyAt schema tells.storable which) (version : Coded) (bytes : List ℕ) (versions : List Version)
-      (value : Option (List ℕ)) → AreCodedBut rows.schemas rows.pairs rows.kept chains place said → IsCodeOf schema undo.key bytes version
+      (value : Option (List ℕ)) → AreCodedBut rows.schemas rows.pairs rows.kept chains beside place said → IsCodeOf schema undo.key bytes version
       → TellAlikeBut (value_in it.key.column version.row) it.key.column (said which) versions
       → entry_said it.key.column (value_in it.key.column version.row) versions ≡ value
-      → AreCodedBut rows.schemas (with_entry which version value).pairs rows.kept chains place (set_said said which versions)
+      → AreCodedBut rows.schemas (with_entry which version value).pairs rows.kept chains beside place (set_said said which versions)
   entry_put said which it version bytes versions value are code alike told =
       let here = place_is undo schema place rows.schemas tells bytes version code in
       let column = it.key.column in
       let puts : Puts rows.pairs (with_entry which version value).pairs (key_index undo.table which)
       (entry_code it.on.column.kind (value_in column version.row) undo.key) (entry_said column (value_in column version.row) versions)
       = rw (← it.entry_is version.row undo.key, told) (λ other. refl) in
-      let was = said_but chains place said in
-      let now = said_but chains place (set_said said which versions) in
+      let was = said_but beside place said in
+      let now = said_but beside place (set_said said which versions) in
       let Alike : List Version → Type 0 = λ v. TellAlikeBut (value_in it.key.column version.row) it.key.column v versions in
-      let alike_there = subst (λ (p : Place). Alike (was p.table which p.key)) (sym here) (subst Alike (sym (says_place chains place said which)) alike) in
+      let alike_there = subst (λ (p : Place). Alike (was p.table which p.key)) (sym here) (subst Alike (sym (says_place beside place said which)) alike) in
       entry_changed rows.schemas rows.pairs (with_entry which version value).pairs rows.kept chains undo.table schema which it.key it.on.column undo.key bytes
       version was now versions are tells.there it.key_is it.on.there code alike_there puts
-      (subst (λ (p : Place). SaysNow was now p which versions) (sym here) (sets_there chains place said which versions))
+      (subst (λ (p : Place). SaysNow was now p which versions) (sym here) (sets_there beside place said which versions))
 
   abbrev UnderWay : Rows → List ℕ → Coded → ℕ → (List Version → Type 0) → Type 0
-  UnderWay now bytes coded done Holds = IsUnderWay chains place undo schema now bytes coded done Holds
+  UnderWay now bytes coded done Holds = IsUnderWay chains beside place undo schema now bytes coded done Holds
 
   -- The newest row's entry is marked, or removed.
   pub dropped : {bytes : List ℕ} {coded : Coded} (which : ℕ) (found : Bool) → which < length schema.keys
@@ -203,13 +198,14 @@ module _ (chains : Chains) {place : Place} {undo : Undo} {schema : Schema} (rows
     newest = way.newest;
     said = set_said way.said which versions;
     coded_but =
-        said_alike rows.schemas rows.pairs rows.kept chains (said_but chains place way.said) (said_but chains place (set_said way.said which versions))
-        way.coded_but (λ table number other key there key_is value. by_test (TellAlike key.column) (is_same_place place (at table value)) _ _ _ _ (λ same.
-        let table_is : table ≡ undo.table = sym (ap (λ (p : Place). p.table) (same_place place (at table value) same)) ∙ tells.table_is in
-        let there_too = rw table_is at there in
+        change_over rows.schemas rows.pairs rows.kept chains place beside (said_but beside place way.said)
+        (said_but beside place (set_said way.said which versions)) way.coded_but (lags_there beside place way.said)
+        (lags_there beside place (set_said way.said which versions)) (λ number other key there key_is.
+        let there_too = rw tells.table_is at there in
         let one : other ≡ schema = cc (there_too, tells.there) in
-        ⊎_elim (λ e. rw e (rw (set_here way.said which versions) (alike key (rw (one, e) at key_is))))
-        (λ differs. rw (set_others way.said which versions number differs) (λ v. refl)) (cases_eq number which)) (λ apart v. refl));
+        rw (says_place beside place way.said number, says_place beside place (set_said way.said which versions) number)
+        (⊎_elim (λ e. rw e (rw (set_here way.said which versions) (alike key (rw (one, e) at key_is))))
+        (λ differs. rw (set_others way.said which versions number differs) (λ v. refl)) (cases_eq number which)));
     says = says;
   }
 
@@ -252,47 +248,49 @@ module _ (chains : Chains) {place : Place} {undo : Undo} {schema : Schema} (rows
 
 -- ---- the record is put back last
 
-module _ (chains : Chains) {place : Place} {undo : Undo} {schema : Schema} (rows : Rows) (tells : TellsOf undo schema place rows.schemas) where
+module _ (chains : Chains) (beside : Said) {place : Place} {undo : Undo} {schema : Schema} (rows : Rows) (tells : TellsOf undo schema place rows.schemas) where
   -- the rows once the record is what it was before
   abbrev pub put_back : Rows
   put_back = record rows { pairs = pairs_after (clustered_index undo.table) undo.key (was_before undo) rows.pairs }
 
-  -- the record is taken back where its pointer leads to what was before, and the keys say of the place what they said
+  -- keys say of the place what is there
+  abbrev there_now : Chains → ℕ → List Version
+  there_now after which = versions_at place after
+
+  -- the record is taken back where its pointer leads to what was before, and the keys say what they said
   taken_back : (after : Chains) (bytes : List ℕ) (coded : Coded) (said : ℕ → List Version) → IsNewest undo schema rows.pairs rows.kept bytes coded
-      → AreCodedBut rows.schemas rows.pairs rows.kept chains place said → Pops chains after place
-      → AreCodedBut rows.schemas put_back.pairs rows.kept after place said
-  taken_back after bytes coded said is are pops =
-      said_alike rows.schemas put_back.pairs rows.kept after (said_but chains place said) (said_but after place said) (go is.before)
-      (λ table which schema key there also value. by_test (TellAlike key.column) (is_same_place place (at table value)) _ _ _ _ (λ same other. refl)
-      (λ apart other. ap (entry_said key.column other) (sym (popped_elsewhere chains after place pops (at table value) apart)))) where
-        step : (value : Option (List ℕ)) → was_before undo ≡ value
-            → PutsRecord rows.schemas rows.pairs put_back.pairs undo.table schema undo.key bytes coded value
-        step value now = record { there = tells.there; code_is = is.code_is; puts = rw (← now) (λ other. refl) }
+      → AreCodedBut rows.schemas rows.pairs rows.kept chains beside place said → Pops chains after place
+      → AreCodedBut rows.schemas put_back.pairs rows.kept after beside place said
+  taken_back after bytes coded said is are pops = go is.before where
+    step : (value : Option (List ℕ)) → was_before undo ≡ value
+        → PutsRecord rows.schemas rows.pairs put_back.pairs undo.table schema undo.key bytes coded value
+    step value now = record { there = tells.there; code_is = is.code_is; puts = rw (← now) (λ other. refl) }
 
-        there : Pops chains after (place_in undo.table schema coded.row)
-        there = subst (λ (p : Place). Pops chains after p) (sym (place_is undo schema place rows.schemas tells bytes coded is.code_is)) pops
+    there : Pops chains after (place_in undo.table schema coded.row)
+    there = subst (λ (p : Place). Pops chains after p) (sym (place_is undo schema place rows.schemas tells bytes coded is.code_is)) pops
 
-        go : LeadsBack undo rows.kept coded.pointer → AreCodedAs rows.schemas put_back.pairs rows.kept after (said_but chains place said)
-        go (inl new) =
-            record_removed rows.schemas rows.pairs put_back.pairs rows.kept chains after (said_but chains place said) undo.table schema undo.key bytes coded
-            are (step None (before_new undo new.0)) is.there new.1 there
-        go (inr (kind, leads, former, keeps, same)) =
-            record_taken_back rows.schemas rows.pairs put_back.pairs rows.kept chains after (said_but chains place said) undo.table schema undo.key bytes
-            coded are former (step (Some former.bytes) (before_kept undo kind ∙ ap Some (sym same))) is.there leads keeps there
+    go : LeadsBack undo rows.kept coded.pointer → AreCodedBut rows.schemas put_back.pairs rows.kept after beside place said
+    go (inl new) =
+        record_removed rows.schemas rows.pairs put_back.pairs rows.kept chains after (said_but beside place said) undo.table schema undo.key bytes coded
+        are (step None (before_new undo new.0)) is.there new.1 there
+    go (inr (kind, leads, former, keeps, same)) =
+        record_taken_back rows.schemas rows.pairs put_back.pairs rows.kept chains after (said_but beside place said) undo.table schema undo.key bytes
+        coded are former (step (Some former.bytes) (before_kept undo kind ∙ ap Some (sym same))) is.there leads keeps there
 
   -- Once all keys say the versions before, all is what it was without the newest version.
   pub ends : {bytes : List ℕ} {coded : Coded}
-      → IsUnderWay chains place undo schema rows bytes coded (length schema.keys) (IsLagging (shown coded) (versions_before chains place))
-      → (after : Chains) → Pops chains after place → IsTakenBack after undo put_back
+      → IsUnderWay chains beside place undo schema rows bytes coded (length schema.keys) (IsLagging (shown coded) (versions_before chains place))
+      → (after : Chains) → Pops chains after place → IsTakenBack after beside place undo put_back
   ends {bytes} {coded} way after pops = record {
     all =
-        change_over rows.schemas put_back.pairs rows.kept after place (said_but after place way.said)
-        (taken_back after bytes coded way.said way.newest way.coded_but pops) (lags_there after place way.said)
+        change_over rows.schemas put_back.pairs rows.kept after place beside (said_but beside place way.said) (said_but beside place (there_now after))
+        (taken_back after bytes coded way.said way.newest way.coded_but pops) (lags_there beside place way.said) (lags_there beside place (there_now after))
         (λ which other key there key_is value.
         let there_too = rw tells.table_is at there in
         let one : other ≡ schema = cc (there_too, tells.there) in
         let within : which < length schema.keys = slice_get_within schema.keys which key (rw one at key_is) in
-        ap (entry_said key.column value) (says_place after place way.said which ∙ way.says.first which within ∙ sym (popped_here chains after place pops)));
+        ap (entry_said key.column value) (says_place beside place way.said which ∙ way.says.first which within ∙ sym (popped_here chains after place pops)
+        ∙ sym (says_place beside place (there_now after) which)));
     there =
         rw (eq-eqb (clustered_index undo.table) (clustered_index undo.table) refl)
         (value_now undo.key (was_before undo) (rows.pairs (clustered_index undo.table)) (way.coded_but.clustered.tables undo.table schema tells.there).rising);
@@ -313,9 +311,45 @@ stands_yet undo schema kept bytes coded before code leads_on (inr (kind, leads, 
     let twice = one_lead schema undo.key kept coded.pointer (older before) before (rw one at read.2) leads_on in
     absurd (omega (arith, ap length (twice ∙ read.1)))
 
-pub stands : (chains : Chains) (place : Place) (undo : Undo) (schema : Schema) (rows : Rows) (bytes : List ℕ) (coded : Coded) (done : ℕ)
-    (Holds : List Version → Type 0) → TellsOf undo schema place rows.schemas → IsUnderWay chains place undo schema rows bytes coded done Holds
+pub stands : (chains : Chains) (beside : Said) (place : Place) (undo : Undo) (schema : Schema) (rows : Rows) (bytes : List ℕ) (coded : Coded) (done : ℕ)
+    (Holds : List Version → Type 0) → TellsOf undo schema place rows.schemas → IsUnderWay chains beside place undo schema rows bytes coded done Holds
     → value_of undo.key (rows.pairs (clustered_index undo.table)) ≢ was_before undo
-stands chains place undo schema rows bytes coded done Holds tells way same =
+stands chains beside place undo schema rows bytes coded done Holds tells way same =
     let read = newest_read undo schema place rows.schemas tells rows.pairs rows.kept chains bytes coded way.coded_but.clustered way.newest in
     stands_yet undo schema rows.kept bytes coded (versions_before chains place) way.newest.code_is read.1 way.newest.before (sym way.newest.there ∙ same)
+
+-- ---- what keys say of other places
+
+module _ (schemas : List Schema) (pairs : ℕ → List Pair) (kept : ℕ → Option Kept) (chains : Chains) (beside : Said) (place : Place) where
+  -- Whatever keys say of the place, a change of it may be under way by that.
+  pub as_but : (said : Said) → AreCodedAs schemas pairs kept chains said → SayTheSameBut place beside said
+      → AreCodedBut schemas pairs kept chains beside place (λ which. said place.table which place.key)
+  as_but said are same =
+      let here : ℕ → List Version = λ which. said place.table which place.key in
+      change_over schemas pairs kept chains place beside said (said_but beside place here) are same (lags_there beside place here)
+      (λ which schema key is_there key_is value. ap (entry_said key.column value) (sym (says_place beside place here which)))
+
+  -- Where keys say of the place what is there, and of others too, they say so of all.
+  pub as_all : AreCodedBut schemas pairs kept chains beside place (λ which. versions_at place chains) → SayTheSameBut place beside (what_is_there chains)
+      → AreCoded schemas pairs kept chains
+  as_all are same =
+      let there : ℕ → List Version = λ which. versions_at place chains in
+      change_over schemas pairs kept chains place beside (said_but beside place there) (what_is_there chains) are (lags_there beside place there) same
+      (λ which schema key is_there key_is value. ap (entry_said key.column value) (says_place beside place there which))
+
+-- Where nothing else is under way, all keys say what is there: before a change is taken back, once it is, and where it had been.
+pub begun_whole : (schemas : List Schema) (pairs : ℕ → List Pair) (kept : ℕ → Option Kept) (chains : Chains) (place : Place)
+    → AreCoded schemas pairs kept chains → AreCodedBut schemas pairs kept chains (what_is_there chains) place (λ which. versions_at place chains)
+begun_whole schemas pairs kept chains place are =
+    as_but schemas pairs kept chains (what_is_there chains) place (what_is_there chains) are (λ table which value apart. refl)
+
+pub taken_whole : (chains after : Chains) (place : Place) (undo : Undo) (rows : Rows) → Pops chains after place
+    → IsTakenBack after (what_is_there chains) place undo rows → AreCoded rows.schemas rows.pairs rows.kept after
+taken_whole chains after place undo rows pops back =
+    as_all rows.schemas rows.pairs rows.kept after (what_is_there chains) place back.all
+    (λ table which value apart. popped_elsewhere chains after place pops (at table value) apart)
+
+pub whole_yet : (chains : Chains) (place : Place) (undo : Undo) (rows : Rows) → IsTakenBack chains (what_is_there chains) place undo rows
+    → AreCoded rows.schemas rows.pairs rows.kept chains
+whole_yet chains place undo rows back =
+    as_all rows.schemas rows.pairs rows.kept chains (what_is_there chains) place back.all (λ table which value apart. refl)

@@ -6,7 +6,7 @@ use Rattle.store_api.specs.declared.answers.Version.{Version as Coded}
 use Rattle.store_api.specs.declared.moves.Move.TheVariants.{Done, Step, Latch, Again, Failed, Bad}
 use Rattle.entries.specs.Pairs.{value_of}
 use Rattle.row_versions.specs.{Calls.IsUnseen, declared.place.Place.Place, declared.version.Version.Version, Chains.Chains, Chains.Pops}
-use Rattle.law_stored_rows.specs.{Edits.clustered_index, Edits.key_index, Records.shown, Records.LeadTo}
+use Rattle.law_stored_rows.specs.{Edits.clustered_index, Edits.key_index, Records.shown, Records.LeadTo, Tables.Said}
 use Rattle.world.specs.{State.WorldState, Told.IsTold}
 use Rattle.row_changes.specs.Pairs.{RowsStay, PutsPair, Hinders}
 use Rattle.undo_apply.specs.{declared.work_room.WorkRoom.WorkRoom, declared.work_room.Stage.Stage, Rooms.IsWhole, Rooms.steps_left, Told.Rows, Told.rows_of}
@@ -31,33 +31,34 @@ pub record IsFound (schema : Schema) (which : ℕ) (coded : Coded) (before : Lis
   pub plain : coded.marked ≡ false
   pub found_is : some_has schema which coded before ≡ found
 
-module _ (chains : Chains) (place : Place) (undo : Undo) (schema : Schema) (rows : Rows) (bytes : List ℕ) where
+module _ (chains : Chains) (beside : Said) (place : Place) (undo : Undo) (schema : Schema) (rows : Rows) (bytes : List ℕ) where
   -- so many keys are done, and the next one lags
   abbrev pub LagsAt : ℕ → Coded → Type 0
-  LagsAt done coded = IsUnderWay chains place undo schema rows bytes coded done (IsLagging (shown coded) (versions_before chains place))
+  LagsAt done coded = IsUnderWay chains beside place undo schema rows bytes coded done (IsLagging (shown coded) (versions_before chains place))
 
   -- what is known at a stage where all is told
   abbrev pub StageHolds : Stage → Type 0
   StageHolds Find =
-      ((read : List ℕ) × (coded : Coded) × IsUnderWay chains place undo schema rows read coded 0 (IsLagging (shown coded) (versions_before chains place))) ⊎
-      IsTakenBack chains undo rows
+      ((read : List ℕ) × (coded : Coded) × IsUnderWay chains beside place undo schema rows read coded 0
+      (IsLagging (shown coded) (versions_before chains place))) ⊎ IsTakenBack chains beside place undo rows
   StageHolds (Key which) = (coded : Coded) × LagsAt which coded
   StageHolds (Walk which pointer) =
       (coded : Coded) × LagsAt which coded × (coded.marked ≡ false) × HasWalked schema undo.key rows.kept which pointer coded (versions_before chains place)
   StageHolds (Mark which) = (coded : Coded) × LagsAt which coded × IsFound schema which coded (versions_before chains place) true
   StageHolds (Await which) = (coded : Coded) × LagsAt which coded × IsFound schema which coded (versions_before chains place) false
   StageHolds (Remove which) = (coded : Coded) × LagsAt which coded × IsFound schema which coded (versions_before chains place) false
-  StageHolds (Unmark which) = (coded : Coded) × IsUnderWay chains place undo schema rows bytes coded which (IsCleared (versions_before chains place))
+  StageHolds (Unmark which) = (coded : Coded) × IsUnderWay chains beside place undo schema rows bytes coded which (IsCleared (versions_before chains place))
   StageHolds AwaitRecords = (coded : Coded) × LagsAt (length schema.keys) coded
   StageHolds Record = (coded : Coded) × LagsAt (length schema.keys) coded
 
--- A change is being taken back, or is to be, or has been. Where all is told, it is known how far it has come.
-pub record IsPuttingBack (chains : Chains) (place : Place) (undo : Undo) (room : WorkRoom) (state : WorldState) : Type 0 where
+-- A change is being taken back, or is to be, or has been, while keys say of other places what `beside` has. Where all is told, it is
+-- known how far it has come.
+pub record IsPuttingBack (chains : Chains) (beside : Said) (place : Place) (undo : Undo) (room : WorkRoom) (state : WorldState) : Type 0 where
   pub schema : Schema
   pub tells : TellsOf undo schema place state.schemas
   pub whole : IsWhole room
   pub fits : FitsKeys (length schema.keys) undo room.stage
-  pub holds : IsTold state → StageHolds chains place undo schema (rows_of state) room.newest.items room.stage
+  pub holds : IsTold state → StageHolds chains beside place undo schema (rows_of state) room.newest.items room.stage
 
 -- ---- steps
 
@@ -78,9 +79,9 @@ WalksOn schema undo state stage other = ⊥
 abbrev pub Nears : Schema → Undo → WorldState → Stage → Stage → Type 0
 Nears schema undo state stage next = (steps_left (length schema.keys) next < steps_left (length schema.keys) stage) ⊎ WalksOn schema undo state stage next
 
-pub record GoesOn (chains : Chains) (place : Place) (undo : Undo) (room next : WorkRoom) (old new : WorldState) : Type 0 where
+pub record GoesOn (chains : Chains) (beside : Said) (place : Place) (undo : Undo) (room next : WorkRoom) (old new : WorldState) : Type 0 where
   pub changes : (schema : Schema) → slice_get new.schemas undo.table ≡ Some schema → ChangesOneEntry schema undo old new
-  pub holds : IsPuttingBack chains place undo next new
+  pub holds : IsPuttingBack chains beside place undo next new
   pub nears : (schema : Schema) → slice_get new.schemas undo.table ≡ Some schema → Nears schema undo new room.stage next.stage
 
 -- the index that a stage calls
@@ -113,27 +114,30 @@ StopsAt actor undo (Walk which pointer) old new why = StopsWalk old new why
 StopsAt actor undo stage old new why = Stops actor (index_at undo stage) old new why
 
 -- The call that came next was not done: the stage is the same, and so are all pairs.
-pub record IsHindered (chains : Chains) (place : Place) (actor : ℕ) (undo : Undo) (room next : WorkRoom) (old new : WorldState) (why : Move) : Type 0 where
+pub record IsHindered (chains : Chains) (beside : Said) (place : Place) (actor : ℕ) (undo : Undo) (room next : WorkRoom) (old new : WorldState)
+    (why : Move) : Type 0 where
   pub stays : RowsStay old new
   pub stage_is : next.stage ≡ room.stage
-  pub holds : IsPuttingBack chains place undo next new
+  pub holds : IsPuttingBack chains beside place undo next new
   pub cause : StopsAt actor undo room.stage old new why
 
 -- the record is put back or removed, or nothing has changed
 abbrev pub ChangesRecord : Undo → WorldState → WorldState → Type 0
 ChangesRecord undo old new = RowsStay old new ⊎ PutsPair (clustered_index undo.table) undo.key (was_before undo) old new
 
--- The change is taken back: the newest version of its place is gone. One that had been taken back already is left as it is.
-pub record IsDone (chains : Chains) (place : Place) (undo : Undo) (room next : WorkRoom) (old new : WorldState) : Type 0 where
+-- The change is taken back: the newest version of its place is gone, and what keys say of other places is what they said. One that
+-- had been taken back already is left as it is.
+pub record IsDone (chains : Chains) (beside : Said) (place : Place) (undo : Undo) (room next : WorkRoom) (old new : WorldState) : Type 0 where
   pub changes : ChangesRecord undo old new
   pub whole : IsWhole next
   pub anew : next.stage ≡ Find
   pub popped : IsTold new → value_of undo.key ((rows_of old).pairs (clustered_index undo.table)) ≢ was_before undo
-      → (after : Chains) → Pops chains after place → IsTakenBack after undo (rows_of new)
+      → (after : Chains) → Pops chains after place → IsTakenBack after beside place undo (rows_of new)
   pub again : IsTold new → value_of undo.key ((rows_of old).pairs (clustered_index undo.table)) ≡ was_before undo
-      → RowsStay old new × IsTakenBack chains undo (rows_of new)
+      → RowsStay old new × IsTakenBack chains beside place undo (rows_of new)
 
-abbrev pub PutsBack : Chains → Place → ℕ → Undo → WorkRoom → WorkRoom → WorldState → WorldState → Move → Type 0
-PutsBack chains place actor undo room next old new Done = IsDone chains place undo room next old new
-PutsBack chains place actor undo room next old new Step = GoesOn chains place undo room next old new ⊎ IsHindered chains place actor undo room next old new Step
-PutsBack chains place actor undo room next old new why = IsHindered chains place actor undo room next old new why
+abbrev pub PutsBack : Chains → Said → Place → ℕ → Undo → WorkRoom → WorkRoom → WorldState → WorldState → Move → Type 0
+PutsBack chains beside place actor undo room next old new Done = IsDone chains beside place undo room next old new
+PutsBack chains beside place actor undo room next old new Step =
+    GoesOn chains beside place undo room next old new ⊎ IsHindered chains beside place actor undo room next old new Step
+PutsBack chains beside place actor undo room next old new why = IsHindered chains beside place actor undo room next old new why

@@ -6,7 +6,7 @@ use Rattle.store_api.specs.{declared.answers.Undo.Undo}
 use Rattle.store_api.specs.declared.answers.Version.{Version as Coded}
 use Rattle.key_codec.specs.Keys.{HasKey, key_code}
 use Rattle.law_stored_rows.specs.{Storable.IsStorable, Edits.clustered_index, Entries.value_in, Entries.has_value, Records.shown, Records.IsCodeOf}
-use Rattle.law_stored_rows.specs.{Records.LeadTo, Tables.in_table, Tables.Said, Tables.AreCodedAs, Tables.AreCoded}
+use Rattle.law_stored_rows.specs.{Records.LeadTo, Tables.Said, Tables.AreCodedAs}
 use Rattle.entries.specs.Pairs.{Pair, value_of}
 use Rattle.row_versions.specs.{declared.kept.Kept.Kept, declared.place.Place.Place, declared.version.Version.Version}
 use Rattle.row_versions.specs.Chains.{Chains, versions_at, is_same_place, older}
@@ -48,13 +48,14 @@ pub record IsNewest (undo : Undo) (schema : Schema) (pairs : ℕ → List Pair) 
   pub code_is : IsCodeOf schema undo.key bytes coded
   pub before : LeadsBack undo kept coded.pointer
 
--- at one place what the key of this number says, and elsewhere what is there
-abbrev pub said_but : Chains → Place → (ℕ → List Version) → Said
-said_but chains place said table which value = if is_same_place place (record { table = table; key = value }) then said which else in_table table chains value
+-- at one place what the key of this number says, and elsewhere what is said beside
+abbrev pub said_but : Said → Place → (ℕ → List Version) → Said
+said_but beside place said table which value = if is_same_place place (record { table = table; key = value }) then said which else beside table which value
 
--- While a change of one place is under way: each key says of that place what `said` has for it, and of all others what is there.
-abbrev pub AreCodedBut : List Schema → (ℕ → List Pair) → (ℕ → Option Kept) → Chains → Place → (ℕ → List Version) → Type 0
-AreCodedBut schemas indexes kept chains place said = AreCodedAs schemas indexes kept chains (said_but chains place said)
+-- While a change of one place is under way: each key says of that place what `said` has for it, and of all others what `beside` has.
+-- Where nothing else is under way, `beside` is what is there.
+abbrev pub AreCodedBut : List Schema → (ℕ → List Pair) → (ℕ → Option Kept) → Chains → Said → Place → (ℕ → List Version) → Type 0
+AreCodedBut schemas indexes kept chains beside place said = AreCodedAs schemas indexes kept chains (said_but beside place said)
 
 -- A key says the versions before, or that the row is gone.
 abbrev pub IsCleared : List Version → List Version → Type 0
@@ -71,16 +72,16 @@ pub record SayBefore (done : ℕ) (Holds : List Version → Type 0) (newest : Ve
   pub others : (which : ℕ) → done < which → IsLagging newest before (said which)
 
 -- The change of the place is being taken back, and so many keys are done.
-pub record IsUnderWay (chains : Chains) (place : Place) (undo : Undo) (schema : Schema) (rows : Rows) (bytes : List ℕ) (coded : Coded) (done : ℕ)
-    (Holds : List Version → Type 0) : Type 0 where
+pub record IsUnderWay (chains : Chains) (beside : Said) (place : Place) (undo : Undo) (schema : Schema) (rows : Rows) (bytes : List ℕ) (coded : Coded)
+    (done : ℕ) (Holds : List Version → Type 0) : Type 0 where
   pub newest : IsNewest undo schema rows.pairs rows.kept bytes coded
   pub said : ℕ → List Version
-  pub coded_but : AreCodedBut rows.schemas rows.pairs rows.kept chains place said
+  pub coded_but : AreCodedBut rows.schemas rows.pairs rows.kept chains beside place said
   pub says : SayBefore done Holds (shown coded) (versions_before chains place) said
 
--- The change has been taken back: all indexes say what is there, and at its key is what was before.
-pub record IsTakenBack (chains : Chains) (undo : Undo) (rows : Rows) : Type 0 where
-  pub all : AreCoded rows.schemas rows.pairs rows.kept chains
+-- The change has been taken back: the keys say of its place what is there, and of others what they said; at its key is what was before.
+pub record IsTakenBack (chains : Chains) (beside : Said) (place : Place) (undo : Undo) (rows : Rows) : Type 0 where
+  pub all : AreCodedBut rows.schemas rows.pairs rows.kept chains beside place (λ which. versions_at place chains)
   pub there : value_of undo.key (rows.pairs (clustered_index undo.table)) ≡ was_before undo
 
 -- ---- older versions with the newest row's value

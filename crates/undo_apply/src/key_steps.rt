@@ -9,6 +9,7 @@ ghost use Rattle.law_stored_rows.specs.Edits.{clustered_index, key_index};
 ghost use Rattle.row_changes.specs.Awaited.{AwaitsAt};
 ghost use Rattle.row_versions.specs.declared.place.Place.{Place};
 ghost use Rattle.row_versions.specs.Chains.{Chains};
+ghost use Rattle.law_stored_rows.specs.Tables.{Said};
 ghost use Rattle.secondary.specs.Entries.{entry_of};
 ghost use Rattle.undo_apply.specs.Moves.{HasKeyAt, LooksOn};
 ghost use Rattle.undo_apply.specs.Standing.{had_row as row_was_there};
@@ -101,10 +102,10 @@ fn number_of_keys<W: World>(world: &W, undo: &Undo) -> usize
 }
 
 pub(crate) fn look_at_key<W: World>(world: &W, undo: &Undo, room: &mut WorkRoom, which: u8) -> Move
-    requires under_way { (chains : Chains) × (place : Place) × IsPuttingBack chains place undo.now room.old (W.state world.now) }
+    requires under_way { (chains : Chains) × (beside : Said) × (place : Place) × IsPuttingBack chains beside place undo.now room.old (W.state world.now) }
     requires stage { room.old.stage ≡ Stage.Key which }
-    ensures { (chains : Chains) (place : Place) (actor : ℕ) → IsPuttingBack chains place undo.now room.old (W.state world.now)
-        → PutsBack chains place actor undo.now room.old room.new (W.state world.now) (W.state world.now) result }
+    ensures { (chains : Chains) (beside : Said) (place : Place) (actor : ℕ) → IsPuttingBack chains beside place undo.now room.old (W.state world.now)
+        → PutsBack chains beside place actor undo.now room.old room.new (W.state world.now) (W.state world.now) result }
 {
     if usize::from(which) >= number_of_keys(world, undo) {
         if undo.kind == NEW_ROW {
@@ -138,11 +139,11 @@ pub(crate) fn walk<W: World>(
     which: u8,
     pointer: u64,
 ) -> Move
-    requires under_way { (chains : Chains) × (place : Place) × IsPuttingBack chains place undo.now room.old (W.state world.old) }
+    requires under_way { (chains : Chains) × (beside : Said) × (place : Place) × IsPuttingBack chains beside place undo.now room.old (W.state world.old) }
     requires together { TellsTogether (W.state world.old) }
     requires stage { room.old.stage ≡ Stage.Walk which pointer }
-    ensures puts { (chains : Chains) (place : Place) (actor : ℕ) → IsPuttingBack chains place undo.now room.old (W.state world.old)
-        → PutsBack chains place actor undo.now room.old room.new (W.state world.old) (W.state world.new) result }
+    ensures puts { (chains : Chains) (beside : Said) (place : Place) (actor : ℕ) → IsPuttingBack chains beside place undo.now room.old (W.state world.old)
+        → PutsBack chains beside place actor undo.now room.old room.new (W.state world.old) (W.state world.new) result }
     ensures awaits { (actor : ℕ) → AwaitsAt actor (clustered_index undo.now.table) (W.state world.old) (W.state world.new) }
 {
     match world.value(pointer, &mut room.older) {
@@ -182,10 +183,10 @@ pub(crate) fn mark<W: World>(
     room: &mut WorkRoom,
     which: u8,
 ) -> Move
-    requires under_way { (chains : Chains) × (place : Place) × IsPuttingBack chains place undo.now room.old (W.state world.old) }
+    requires under_way { (chains : Chains) × (beside : Said) × (place : Place) × IsPuttingBack chains beside place undo.now room.old (W.state world.old) }
     requires stage { room.old.stage ≡ Stage.Mark which }
-    ensures puts { (chains : Chains) (place : Place) → IsPuttingBack chains place undo.now room.old (W.state world.old)
-        → PutsBack chains place actor undo.now room.old room.new (W.state world.old) (W.state world.new) result }
+    ensures puts { (chains : Chains) (beside : Said) (place : Place) → IsPuttingBack chains beside place undo.now room.old (W.state world.old)
+        → PutsBack chains beside place actor undo.now room.old room.new (W.state world.old) (W.state world.new) result }
     ensures awaits { AwaitsAt actor (key_index undo.now.table which) (W.state world.old) (W.state world.new) }
 {
     if !write_entry(world, undo, which, &room.newest, &mut room.entries) {
@@ -208,10 +209,10 @@ pub(crate) fn await_entries<W: World>(
     room: &mut WorkRoom,
     which: u8,
 ) -> Move
-    requires under_way { (chains : Chains) × (place : Place) × IsPuttingBack chains place undo.now room.old (W.state world.old) }
+    requires under_way { (chains : Chains) × (beside : Said) × (place : Place) × IsPuttingBack chains beside place undo.now room.old (W.state world.old) }
     requires stage { room.old.stage ≡ Stage.Await which }
-    ensures puts { (chains : Chains) (place : Place) → IsPuttingBack chains place undo.now room.old (W.state world.old)
-        → PutsBack chains place actor undo.now room.old room.new (W.state world.old) (W.state world.new) result }
+    ensures puts { (chains : Chains) (beside : Said) (place : Place) → IsPuttingBack chains beside place undo.now room.old (W.state world.old)
+        → PutsBack chains beside place actor undo.now room.old room.new (W.state world.old) (W.state world.new) result }
     ensures awaits { AwaitsAt actor (key_index undo.now.table which) (W.state world.old) (W.state world.new) }
 {
     if !write_entry(world, undo, which, &room.newest, &mut room.entries) {
@@ -233,10 +234,10 @@ pub(crate) fn remove_entry<W: World>(
     room: &mut WorkRoom,
     which: u8,
 ) -> Move
-    requires under_way { (chains : Chains) × (place : Place) × IsPuttingBack chains place undo.now room.old (W.state world.old) }
+    requires under_way { (chains : Chains) × (beside : Said) × (place : Place) × IsPuttingBack chains beside place undo.now room.old (W.state world.old) }
     requires stage { room.old.stage ≡ Stage.Remove which }
-    ensures puts { (chains : Chains) (place : Place) → IsPuttingBack chains place undo.now room.old (W.state world.old)
-        → PutsBack chains place actor undo.now room.old room.new (W.state world.old) (W.state world.new) result }
+    ensures puts { (chains : Chains) (beside : Said) (place : Place) → IsPuttingBack chains beside place undo.now room.old (W.state world.old)
+        → PutsBack chains beside place actor undo.now room.old room.new (W.state world.old) (W.state world.new) result }
     ensures awaits { AwaitsAt actor (key_index undo.now.table which) (W.state world.old) (W.state world.new) }
 {
     if !write_entry(world, undo, which, &room.newest, &mut room.entries) {
@@ -253,10 +254,10 @@ pub(crate) fn unmark<W: World>(
     room: &mut WorkRoom,
     which: u8,
 ) -> Move
-    requires under_way { (chains : Chains) × (place : Place) × IsPuttingBack chains place undo.now room.old (W.state world.old) }
+    requires under_way { (chains : Chains) × (beside : Said) × (place : Place) × IsPuttingBack chains beside place undo.now room.old (W.state world.old) }
     requires stage { room.old.stage ≡ Stage.Unmark which }
-    ensures puts { (chains : Chains) (place : Place) → IsPuttingBack chains place undo.now room.old (W.state world.old)
-        → PutsBack chains place actor undo.now room.old room.new (W.state world.old) (W.state world.new) result }
+    ensures puts { (chains : Chains) (beside : Said) (place : Place) → IsPuttingBack chains beside place undo.now room.old (W.state world.old)
+        → PutsBack chains beside place actor undo.now room.old room.new (W.state world.old) (W.state world.new) result }
     ensures awaits { AwaitsAt actor (key_index undo.now.table which) (W.state world.old) (W.state world.new) }
 {
     if !write_entry(world, undo, which, undo.value.as_slice(), &mut room.entries) {

@@ -7,6 +7,7 @@ ghost use Rattle.store_api.specs.declared.moves.Move.TheVariants.{Done, Step};
 ghost use Rattle.store_api.specs.declared.answers.Undo.{Undo};
 ghost use Rattle.row_versions.specs.declared.place.Place.{Place};
 ghost use Rattle.row_versions.specs.Chains.{Chains};
+ghost use Rattle.law_stored_rows.specs.Tables.{Said};
 ghost use Rattle.world.specs.State.{WorldState};
 ghost use Rattle.undo_apply.specs.declared.work_room.WorkRoom.{WorkRoom};
 ghost use Rattle.world.specs.Told.{LeavesRows};
@@ -16,14 +17,14 @@ ghost use Rattle.undo_apply.specs.Stages.{IsPuttingBack, PutsBack};
 
 /// Steps of others that change no row may come between.
 pub fn others_leave_it()
-    ensures { (chains : Chains) (place : Place) (undo : Undo) (room : WorkRoom) (old new : WorldState)
-        → IsPuttingBack chains place undo room old → LeavesRows old new → IsPuttingBack chains place undo room new }
+    ensures { (chains : Chains) (beside : Said) (place : Place) (undo : Undo) (room : WorkRoom) (old new : WorldState)
+        → IsPuttingBack chains beside place undo room old → LeavesRows old new → IsPuttingBack chains beside place undo room new }
 {}
 
 /// In memory a taking back needs neither memory nor pages, and where nobody else is awaited nothing hinders it: each step is
 /// made.
 pub fn nothing_hinders_in_memory()
-    ensures { (chains : Chains) (place : Place) (actor : ℕ) (undo : Undo) (room next : WorkRoom) (old new : WorldState) (answer : Move)
-        → IsInMemory old → IsAwaitedAlone actor old → PutsBack chains place actor undo room next old new answer
+    ensures { (chains : Chains) (beside : Said) (place : Place) (actor : ℕ) (undo : Undo) (room next : WorkRoom) (old new : WorldState) (answer : Move)
+        → IsInMemory old → IsAwaitedAlone actor old → PutsBack chains beside place actor undo room next old new answer
         → (answer ≡ Done) ⊎ (answer ≡ Step) }
 {}

@@ -4,6 +4,7 @@
 ghost use Rattle.std.specs.Prelude.{◌≡◌, ℕ, ◌<◌, [], length, slice_index_or, slice_set};
 ghost use Rattle.row_versions.specs.declared.place.Place.{Place};
 ghost use Rattle.row_versions.specs.Chains.{Chains};
+ghost use Rattle.law_stored_rows.specs.Tables.{Said};
 ghost use Rattle.world.specs.Told.{TellsTogether};
 ghost use Rattle.world.specs.Undoing.{read_into};
 ghost use Rattle.row_changes.specs.Awaited.{AwaitsIn};
@@ -57,10 +58,11 @@ impl RecordRoom {
         read: &UndoRoom,
         room: &mut WorkRoom,
     ) -> Move
-        requires under_way { (chains : Chains) × (place : Place) × IsPuttingBack chains place (read_into read.now) room.old (W.state world.old) }
+        requires under_way { (chains : Chains) × (beside : Said) × (place : Place)
+            × IsPuttingBack chains beside place (read_into read.now) room.old (W.state world.old) }
         requires together { TellsTogether (W.state world.old) }
-        ensures puts { (chains : Chains) (place : Place) → IsPuttingBack chains place (read_into read.now) room.old (W.state world.old)
-            → PutsBack chains place actor (read_into read.now) room.old room.new (W.state world.old) (W.state world.new) result }
+        ensures puts { (chains : Chains) (beside : Said) (place : Place) → IsPuttingBack chains beside place (read_into read.now) room.old (W.state world.old)
+            → PutsBack chains beside place actor (read_into read.now) room.old room.new (W.state world.old) (W.state world.new) result }
         ensures awaits { AwaitsIn actor read.now.table (W.state world.old) (W.state world.new) }
     {
         let undo = Undo {

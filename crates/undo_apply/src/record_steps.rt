@@ -5,6 +5,7 @@ ghost use Rattle.law_stored_rows.specs.Edits.{clustered_index};
 ghost use Rattle.row_changes.specs.Awaited.{AwaitsAt};
 ghost use Rattle.row_versions.specs.declared.place.Place.{Place};
 ghost use Rattle.row_versions.specs.Chains.{Chains};
+ghost use Rattle.law_stored_rows.specs.Tables.{Said};
 ghost use Rattle.undo_apply.specs.Standing.{was_before};
 ghost use Rattle.undo_apply.specs.Stages.{IsPuttingBack, PutsBack};
 
@@ -31,10 +32,10 @@ fn is_version_before(undo: &Undo, value: &[u8]) -> bool
 }
 
 pub(crate) fn find<W: World>(world: &mut W, actor: u32, undo: &Undo, room: &mut WorkRoom) -> Move
-    requires under_way { (chains : Chains) × (place : Place) × IsPuttingBack chains place undo.now room.old (W.state world.old) }
+    requires under_way { (chains : Chains) × (beside : Said) × (place : Place) × IsPuttingBack chains beside place undo.now room.old (W.state world.old) }
     requires stage { room.old.stage ≡ Stage.Find }
-    ensures puts { (chains : Chains) (place : Place) → IsPuttingBack chains place undo.now room.old (W.state world.old)
-        → PutsBack chains place actor undo.now room.old room.new (W.state world.old) (W.state world.new) result }
+    ensures puts { (chains : Chains) (beside : Said) (place : Place) → IsPuttingBack chains beside place undo.now room.old (W.state world.old)
+        → PutsBack chains beside place actor undo.now room.old room.new (W.state world.old) (W.state world.new) result }
     ensures awaits { AwaitsAt actor (clustered_index undo.now.table) (W.state world.old) (W.state world.new) }
 {
     match world.fetch(records_of(undo), actor, &undo.key, &mut room.newest) {
@@ -55,10 +56,10 @@ pub(crate) fn await_records<W: World>(
     undo: &Undo,
     room: &mut WorkRoom,
 ) -> Move
-    requires under_way { (chains : Chains) × (place : Place) × IsPuttingBack chains place undo.now room.old (W.state world.old) }
+    requires under_way { (chains : Chains) × (beside : Said) × (place : Place) × IsPuttingBack chains beside place undo.now room.old (W.state world.old) }
     requires stage { room.old.stage ≡ Stage.AwaitRecords }
-    ensures puts { (chains : Chains) (place : Place) → IsPuttingBack chains place undo.now room.old (W.state world.old)
-        → PutsBack chains place actor undo.now room.old room.new (W.state world.old) (W.state world.new) result }
+    ensures puts { (chains : Chains) (beside : Said) (place : Place) → IsPuttingBack chains beside place undo.now room.old (W.state world.old)
+        → PutsBack chains beside place actor undo.now room.old room.new (W.state world.old) (W.state world.new) result }
     ensures awaits { AwaitsAt actor (clustered_index undo.now.table) (W.state world.old) (W.state world.new) }
 {
     let answer = world.next_key(records_of(undo), actor, &undo.key, &mut room.next);
@@ -71,10 +72,10 @@ pub(crate) fn put_record<W: World>(
     undo: &Undo,
     room: &mut WorkRoom,
 ) -> Move
-    requires under_way { (chains : Chains) × (place : Place) × IsPuttingBack chains place undo.now room.old (W.state world.old) }
+    requires under_way { (chains : Chains) × (beside : Said) × (place : Place) × IsPuttingBack chains beside place undo.now room.old (W.state world.old) }
     requires stage { room.old.stage ≡ Stage.Record }
-    ensures puts { (chains : Chains) (place : Place) → IsPuttingBack chains place undo.now room.old (W.state world.old)
-        → PutsBack chains place actor undo.now room.old room.new (W.state world.old) (W.state world.new) result }
+    ensures puts { (chains : Chains) (beside : Said) (place : Place) → IsPuttingBack chains beside place undo.now room.old (W.state world.old)
+        → PutsBack chains beside place actor undo.now room.old room.new (W.state world.old) (W.state world.new) result }
     ensures awaits { AwaitsAt actor (clustered_index undo.now.table) (W.state world.old) (W.state world.new) }
 {
     if undo.kind == NEW_ROW {

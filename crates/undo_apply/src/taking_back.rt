@@ -1,9 +1,11 @@
-//! One change is taken back, a call of the world a step. Steps of others come between; they change no row.
+//! One change is taken back, a call of the world a step. Rows of other places may change between the steps: what keys say of
+//! those is a parameter of each step.
 
 ghost use Rattle.std.specs.Prelude.{◌≡◌};
 ghost use Rattle.row_changes.specs.Awaited.{AwaitsIn};
 ghost use Rattle.row_versions.specs.declared.place.Place.{Place};
 ghost use Rattle.row_versions.specs.Chains.{Chains};
+ghost use Rattle.law_stored_rows.specs.Tables.{Said};
 ghost use Rattle.world.specs.Told.{TellsTogether};
 ghost use Rattle.undo_apply.specs.Stages.{IsPuttingBack, PutsBack};
 
@@ -13,13 +15,14 @@ use crate::work_room::{Stage, WorkRoom};
 use store_api::{Move, Undo};
 use world::World;
 
-/// One step of the taking back of the change that an undo record tells of. After `Step`, `Latch` and `Again` the same call is
-/// to be made again. After `Done` the room serves another change; the same one once more is left as it is.
+/// One step of the taking back of the change that an undo record tells of. What keys say of other places may be anything, and
+/// the step leaves it; what is known of this place must hold yet when the next step begins. After `Step`, `Latch` and `Again`
+/// the same call is to be made again. After `Done` the room serves another change; the same one once more is left as it is.
 pub fn put_back<W: World>(world: &mut W, actor: u32, undo: &Undo, room: &mut WorkRoom) -> Move
-    requires under_way { (chains : Chains) × (place : Place) × IsPuttingBack chains place undo.now room.old (W.state world.old) }
+    requires under_way { (chains : Chains) × (beside : Said) × (place : Place) × IsPuttingBack chains beside place undo.now room.old (W.state world.old) }
     requires together { TellsTogether (W.state world.old) }
-    ensures puts { (chains : Chains) (place : Place) → IsPuttingBack chains place undo.now room.old (W.state world.old)
-        → PutsBack chains place actor undo.now room.old room.new (W.state world.old) (W.state world.new) result }
+    ensures puts { (chains : Chains) (beside : Said) (place : Place) → IsPuttingBack chains beside place undo.now room.old (W.state world.old)
+        → PutsBack chains beside place actor undo.now room.old room.new (W.state world.old) (W.state world.new) result }
     ensures awaits { AwaitsIn actor undo.now.table (W.state world.old) (W.state world.new) }
 {
     match room.stage {

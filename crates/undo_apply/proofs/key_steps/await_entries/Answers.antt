@@ -2,7 +2,7 @@ use Rattle.undo_apply.proofs.Goes.{await_step, await_unwritten, nexted_leaves}
 use Rattle.undo_apply.proofs.key_steps.await_entries.Goals as goal
 
 pub returns-clause-puts : goal.returns-clause-puts
-returns-clause-puts g c = λ chains place is.
+returns-clause-puts g c = λ chains beside place is.
     let old = g.W.World.state c.args.world.now in
     let undo = c.args.undo.now in
     let room = c.args.room.now in
@@ -14,6 +14,6 @@ returns-clause-puts g c = λ chains place is.
     c.go_on_or_end.ensures
 
 pub returns-then-not-write_entry-clause-puts : goal.returns-then-not-write_entry-clause-puts
-returns-then-not-write_entry-clause-puts g c = λ chains place is.
+returns-then-not-write_entry-clause-puts g c = λ chains beside place is.
     await_unwritten c.args.actor is c.args.which c.requires.stage c.write_entry.new.entries c.write_entry.result
     (rw c.deref.ensures.value at c.write_entry.ensures) c.if-not-write_entry.true

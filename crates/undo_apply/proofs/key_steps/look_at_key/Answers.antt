@@ -5,18 +5,18 @@ use Rattle.undo_apply.proofs.key_steps.look_at_key.Goals.{else-had_row-via-then-
 use Rattle.undo_apply.proofs.key_steps.look_at_key.Goals as goal
 
 pub returns-then-undo-eq-NEW_ROW : goal.returns-then-undo-eq-NEW_ROW
-returns-then-undo-eq-NEW_ROW g c = λ chains place actor is.
+returns-then-undo-eq-NEW_ROW g c = λ chains beside place actor is.
     rw (c.go_to.ensures.step, c.go_to.ensures.room) (look_new actor is c.args.which c.requires.stage c.number_of_keys.ensures
     (omega (arith, c.if-from-number_of_keys.true, c.from.ensures)) c.if-undo-eq-NEW_ROW.true)
 
 pub returns-then-from-number_of_keys : goal.returns-then-from-number_of_keys
-returns-then-from-number_of_keys g c = λ chains place actor is.
+returns-then-from-number_of_keys g c = λ chains beside place actor is.
     let to = c.go_to-then-from-number_of_keys.ensures in
     rw (to.step, to.room) (look_kept actor is c.args.which c.requires.stage c.number_of_keys.ensures
     (omega (arith, c.if-from-number_of_keys.true, c.from.ensures)))
 
 pub returns-then-is_marked : goal.returns-then-is_marked
-returns-then-is_marked g c = λ chains place actor is.
+returns-then-is_marked g c = λ chains beside place actor is.
     let within = within_key actor is c.args.which c.requires.stage c.number_of_keys.ensures (omega (arith, c.if-from-number_of_keys.false, c.from.ensures)) in
     let to = c.go_to-then-is_marked.ensures in
     rw (to.step, to.room, c.after_entry.ensures) (look_gone actor is c.args.which c.requires.stage within c.is_marked.result
@@ -25,12 +25,12 @@ returns-then-is_marked g c = λ chains place actor is.
 pub have_one_entry-requires : goal.have_one_entry-requires
 have_one_entry-requires g c =
     let old = g.W.World.state c.args.world.now in
-    let is = c.requires.under_way.2 in
+    let is = c.requires.under_way.3 in
     let within = within_key 0 is c.args.which c.requires.stage c.number_of_keys.ensures (omega (arith, c.if-from-number_of_keys.false, c.from.ensures)) in
-    has_key_at old.schemas old c.args.undo.now is.schema c.requires.under_way.1 c.args.which refl is.tells within
+    has_key_at old.schemas old c.args.undo.now is.schema c.requires.under_way.2 c.args.which refl is.tells within
 
 pub returns-then-have_one_entry : goal.returns-then-have_one_entry
-returns-then-have_one_entry g c = λ chains place actor is.
+returns-then-have_one_entry g c = λ chains beside place actor is.
     let within = within_key actor is c.args.which c.requires.stage c.number_of_keys.ensures (omega (arith, c.if-from-number_of_keys.false, c.from.ensures)) in
     let to = c.go_to-then-have_one_entry.ensures in
     rw (to.step, to.room) (look_same actor is c.args.which c.requires.stage within c.is_marked.result (rw c.deref.ensures.value at c.is_marked.ensures)
@@ -38,7 +38,7 @@ returns-then-have_one_entry g c = λ chains place actor is.
     (rw (c.deref-then-had_row.ensures.value, c.as_slice.ensures) at c.have_one_entry.ensures) c.if-have_one_entry.true)
 
 pub returns : goal.returns
-returns g c = λ chains place actor is.
+returns g c = λ chains beside place actor is.
     let mid = c.else-had_row.room in
     let within = within_key actor is c.args.which c.requires.stage c.number_of_keys.ensures (omega (arith, c.if-from-number_of_keys.false, c.from.ensures)) in
     let leaves : Leaves actor is mid

@@ -2,7 +2,7 @@ use Rattle.undo_apply.proofs.Goes.{nexted_leaves, await_records_step}
 use Rattle.undo_apply.proofs.record_steps.await_records.Goals as goal
 
 pub returns-clause-puts : goal.returns-clause-puts
-returns-clause-puts g c = λ chains place is.
+returns-clause-puts g c = λ chains beside place is.
     let old = g.W.World.state c.args.world.now in
     let undo = c.args.undo.now in
     let room = c.args.room.now in

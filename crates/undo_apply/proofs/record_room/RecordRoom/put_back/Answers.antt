@@ -26,7 +26,7 @@ lent_and_given size lists lent given list bytes within are same lends gives =
 pub invariant_of-self : goal.invariant_of-self
 invariant_of-self g c =
     let room = c.self.inside in
-    let fits = c.requires.under_way.2.tells.undo_is in
+    let fits = c.requires.under_way.3.tells.undo_is in
     let short_key : length c.args.read.now.key.items < 68 = (let short = fits.key in omega (arith, short)) in
     let short_value : length c.args.read.now.value.items < 1025 = (let short = fits.value in omega (arith, short)) in
     record {
