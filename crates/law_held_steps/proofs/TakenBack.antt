@@ -6,7 +6,7 @@ use Rattle.std.proofs.Common.{[], ◌≡◌, ◌≤◌, Bool, true, false, cond,
 use Rattle.std.proofs.Common.{◌≢◌, inl, inr, ◌∙◌, slice_get, ◌⊎◌, ◌-◌, map, eq-eqb}
 use Rattle.std.proofs.lemmas.Bool.Decides.{nat_tests}
 use Rattle.std.proofs.lemmas.List.{length-set, set-set}
-use Rattle.row_versions.specs.Chains.{Chains, versions_at, older, is_same_place, Pops}
+use Rattle.row_versions.specs.Chains.{Chains, versions_at, with_versions, older, is_same_place, Pops}
 use Rattle.inno_types.specs.declared.value.Schema.{Schema}
 use Rattle.world.specs.State.{WorldState, Session, Work, HasWork, IsSession, standing_of}
 use Rattle.std.specs.Prelude.{is_some, slice_set}
@@ -22,7 +22,7 @@ use Rattle.shared_lists.specs.declared.answers.Undone.TheVariants as undone
 use Rattle.law_held_steps.proofs.{Desks.IsGiven, Desks.is_given, Desks.given_then, AnyStep.some_same, AnyStep.last_log, AnyStep.waits_not}
 use Rattle.law_held_steps.proofs.AnyStep.{held_after, rows_by_writer}
 use Rattle.law_held_steps.proofs.{Showing.settings_same, Showing.shows_now}
-use Rattle.law_logged_changes.proofs.{Entering.chain_with, GoingOn.own_beside, GoingOn.work_beside, GoingOn.work_again, Leaving.rows_leave, Leaving.cut_left}
+use Rattle.law_logged_changes.proofs.{GoingOn.own_beside, GoingOn.work_beside, GoingOn.work_again, Leaving.rows_leave, Leaving.cut_left}
 use Rattle.law_logged_changes.proofs.{Leaving.cut_again, ReadersLeft.has_rows_left, TakenBack.rows_then, TakenBack.to_cut_by_history, Cutting.rows_cut}
 use Rattle.law_logged_changes.proofs.{Cutting.has_cut}
 use Rattle.row_versions.specs.{declared.place.Place.Place, declared.version.Version.Version}
@@ -182,10 +182,10 @@ module _ (s : ℕ) {store : Store} (held : IsHeld store) (busy : doing_at s stor
         own_length = let is = ap length last.own_is in omega (arith, is)
 
         abbrev after : Chains
-        after = (back_to.place, older (versions_at back_to.place held.chains)) ∷ held.chains
+        after = with_versions back_to.place older held.chains
 
         pops : Pops held.chains after back_to.place
-        pops = chain_with back_to.place older held.chains
+        pops other = refl
 
         taken_by : IsTakenBackBy s keep old new
         taken_by = record {

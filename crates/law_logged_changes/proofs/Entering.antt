@@ -1,16 +1,15 @@
 -- Each step of a change: those that add no entry, and the one that adds its entry.
 use Rattle.law_logged_changes.proofs.{Leaving.stay_kept, GoingOn.work_again, GoingOn.agrees_beside}
-use Rattle.std.proofs.Common.{◌≡◌, ⊎_elim, ℕ, ◌^◌, ◌<◌, ◌==◌, Bool, true, false, cond, List, [], ◌∷◌, length, Option, Some, refl, sym, ap, subst, ◌∙◌, arith}
-use Rattle.std.specs.Prelude.{slice_get, unwrap_or, IsTrue, option_map}
-use Rattle.std.specs.{Map.lookup, List.list_any}
+use Rattle.std.proofs.Common.{◌≡◌, ⊎_elim, ℕ, ◌^◌, ◌<◌, ◌==◌, Bool, true, false, List, ◌∷◌, length, Option, Some, refl, sym, ap, subst, ◌∙◌, arith}
+use Rattle.std.specs.Prelude.{slice_get, IsTrue, option_map}
+use Rattle.std.specs.{List.list_any}
 use Rattle.std.proofs.lemmas.{Bool.cases_eq, Option.slice_get_within}
 use Rattle.inno_types.specs.{declared.value.Value.Value, declared.value.Schema.Schema}
 use Rattle.store_api.specs.declared.answers.Undo.{Undo}
 use Rattle.row_versions.specs.{Versions.Versions, declared.place.Place.Place, declared.version.Version.Version}
-use Rattle.row_versions.specs.Chains.{Chains, is_same_place, versions_at, Pushes}
+use Rattle.row_versions.specs.Chains.{Chains, with_versions, Pushes}
 use Rattle.law_past_agreement.specs.{Rows.place_in, Rows.is_at, Rows.row_of, Order.IsOfRow, Order.IsTabled}
 use Rattle.law_stored_rows.specs.Records.{KeepsMore}
-use Rattle.law_stored_rows.proofs.Values.{same_place, place_itself}
 use Rattle.world.specs.{State.WorldState, State.Session, State.Work, State.HasWork, Indexes.KeepsIf, Told.IsTold}
 use Rattle.law_world_agreement.specs.{Agreement.Agrees, Steps.IsChangedBy, Steps.IsEntered}
 use Rattle.law_world_agreement.proofs.{Changing.changed_agrees, Entries.unentered_agrees}
@@ -138,34 +137,7 @@ module _ (s : ℕ) (chains : Chains) (old new : WorldState) (stays : StaysBeside
 -- ---- rows in which one place has a version more
 
 abbrev pub with_version : Place → Version → Chains → Chains
-with_version place version chains = (place, version ∷ versions_at place chains) ∷ chains
-
-apart_back : (place other : Place) → is_same_place place other ≡ false → is_same_place other place ≡ false
-apart_back place other apart = go (is_same_place other place) refl
-  where
-    go : (b : Bool) → is_same_place other place ≡ b → is_same_place other place ≡ false
-    go false is = is
-    go true is =
-        let e = same_place other place is in let itself = subst (λ (p : Place). is_same_place place p ≡ true) (sym e) (place_itself place) in absurd (cc)
-
--- one place has other versions, made of those that it had
-pub chain_with : (place : Place) (f : List Version → List Version) (chains : Chains) (other : Place)
-    → versions_at other ((place, f (versions_at place chains)) ∷ chains)
-    ≡ cond (is_same_place place other) (f (versions_at other chains)) (versions_at other chains)
-chain_with place f chains other = go (is_same_place place other) refl
-  where
-    there : Place → Bool → List Version
-    there p b = unwrap_or (cond b (Some (f (versions_at place chains))) (lookup (is_same_place p) chains)) []
-
-    go : (b : Bool) → is_same_place place other ≡ b
-        → versions_at other ((place, f (versions_at place chains)) ∷ chains) ≡ cond b (f (versions_at other chains)) (versions_at other chains)
-    go true is =
-        subst (λ (p : Place). versions_at p ((place, f (versions_at place chains)) ∷ chains) ≡ f (versions_at p chains)) (same_place place other is)
-        (ap (there place) (place_itself place))
-    go false is = ap (there other) (apart_back place other is)
-
-pub pushed_version : (place : Place) (version : Version) (chains : Chains) → Pushes chains (with_version place version chains) place version
-pushed_version place version chains = chain_with place (λ versions. version ∷ versions) chains
+with_version place version chains = with_versions place (λ versions. version ∷ versions) chains
 
 -- ---- the entry is that of a change of this row
 
@@ -255,7 +227,7 @@ module _ (s : ℕ) (chains : Chains) (old new : WorldState) (change : RecordChan
       let place = place_of p.schema change in
       let version : Version = record { writer = id_for p.work.id old.txns.next; row = row_after change.edit } in
       let after = with_version place version chains in
-      let pushed : Pushes chains after place version = pushed_version place version chains in
+      let pushed : Pushes chains after place version = λ other. refl in
       let push : PushesEdit s change old chains after =
       record { schema = p.schema; there = p.table.there; session = p.session; work = p.work; has_work = p.has_work; pushes = pushed } in
       let same : p.work ≡ recorded.work.work = one_work s p.session recorded.work.session p.work recorded.work.work old p.has_work recorded.work.had in

@@ -1,8 +1,8 @@
 -- What becomes of the agreement of rows and transactions with the past, and what readers find.
-use Rattle.std.proofs.Common.{◌≡◌, ◌≢◌, ℕ, ◌+◌, true, false, None, List, [], ◌∷◌, ◌++◌, length, refl, sym, ap, ◌∙◌, inl, inr, arith}
-use Rattle.std.proofs.lemmas.Bool.Decides.{nat_tests, eqb_tells}
+use Rattle.std.proofs.Common.{◌≡◌, ◌≢◌, ℕ, ◌+◌, true, List, [], ◌∷◌, ◌++◌, length, refl, sym, ap, ◌∙◌, inl, inr, arith}
+use Rattle.std.proofs.lemmas.Bool.Decides.{nat_tests}
 use Rattle.std.proofs.lemmas.Bool.{false≢true}
-use Rattle.std.specs.List.{AllByRecursion, list_any}
+use Rattle.std.specs.List.{AllByRecursion}
 use Rattle.std.specs.FinMap.{get}
 use Rattle.inno_types.specs.{declared.value.Schema.Schema}
 use Rattle.inno_db.specs.{Database.Database, declared.change.Change.Change, declared.change.Change.TheVariants.Create}
@@ -12,11 +12,11 @@ use Rattle.inno_model.specs.Past.{own, commits, committed, IsOpen}
 use Rattle.read_view.specs.Sight.{Sight}
 use Rattle.txn_table.specs.Txns.{ids_of as active_of}
 use Rattle.row_versions.specs.{declared.place.Place.Place, declared.version.Version.Version}
-use Rattle.row_versions.specs.Chains.{Chains, in_model, versions_at, first_seen, newest, sees, IsFirstFrom, IsNoneFrom, IsNext, IsLast}
+use Rattle.row_versions.specs.Chains.{Chains, in_model, versions_at, first_seen, newest, sees}
 use Rattle.law_past_agreement.specs.{Ids.given, Ids.id_of, Ids.is_settled, Ids.opens}
 use Rattle.law_past_agreement.specs.{Order.created, Order.IsOrdered, Order.IsTabled}
-use Rattle.law_past_agreement.specs.Rows.{is_at, row_at, row_opened, row_seen, IsUnseen, IsFirstSeen, IsNoneSeen, IsNextSeen, IsLastSeen, IsNewestSeen}
-use Rattle.law_past_agreement.specs.Agreement.{IsSettled, IsOpenedWith, IsViewOf, versions_of, AreVersions}
+use Rattle.law_past_agreement.specs.Rows.{is_at, row_opened, row_seen, IsNewestSeen}
+use Rattle.law_past_agreement.specs.Agreement.{IsSettled, IsOpenedWith, IsViewOf, AreVersions}
 use Rattle.law_past_agreement.proofs.{Ids.ids_of, Tables.at_stays, Tables.own_tabled, Tables.committed_tabled, Standing.is_among_all, Standing.standing_some}
 use Rattle.law_past_agreement.proofs.Opens.{active_open, active_none, zero_inactive, all_weaker}
 use Rattle.law_past_agreement.proofs.Rows as versions
@@ -76,10 +76,6 @@ opened_versions db place vs is = (
 
 -- ---- what readers find, where tables and rows are what the past says
 
-append_empty : {X : Type 0} (xs ys : List X) → xs ++ ys ≡ [] → (xs ≡ []) × (ys ≡ [])
-append_empty [] ys is = (refl, is)
-append_empty (x ∷ xs) ys is = cc
-
 module _ (h : List Event) (chains : Chains)
     (rows : (place : Place) → AreVersions h (row_opened h place) (is_at (created h) place) (versions_at place chains)) where
   -- under the view of a session
@@ -87,29 +83,6 @@ module _ (h : List Event) (chains : Chains)
       → first_seen (sees (id_of h s) sight) (versions_at place chains) ≡ row_seen h s n place
   visible_is ordered s n sight is-open view place =
       versions.seen_is_snapshot (row_opened h place) (is_at (created h) place) h s n sight (ids_of h ordered) is-open view (rows place)
-
-  unseen : (place : Place) → versions_at place chains ≡ [] → IsUnseen h place
-  unseen place none s n needed =
-      let opened = row_opened h place in
-      let at = is_at (created h) place in
-      let v = rows place in
-      let empty = append_empty (versions_of (id_of h v.0) at (own v.0 h)) v.1.behind (sym v.1.parts ∙ none) in
-      let below : row_at opened at (committed n h) ≡ None = sym (v.1.reads n needed) ∙ ap (first_seen (is_settled h n)) empty.1 in
-      let above : list_any at (own s h) ≡ false =
-      grind (arith, eqb_tells s v.0, versions.no_change opened at (id_of h v.0) (own v.0 h), empty.0, v.1.alone s) in
-      versions.row_at-append opened at (own s h) (committed n h) above ∙ below
-
-  pub first_is : (place first : Place) → IsFirstFrom place chains first → IsFirstSeen h place first
-  first_is place first is = record { from = is.from; between = λ other from before. unseen other (is.between other from before) }
-
-  pub none_is : (place : Place) → IsNoneFrom place chains → IsNoneSeen h place
-  none_is place none other from = unseen other (none other from)
-
-  pub next_is : (place next : Place) → IsNext place chains next → IsNextSeen h place next
-  next_is place next is = record { behind = is.behind; between = λ other after before. unseen other (is.between other after before) }
-
-  pub last_is : (place : Place) → IsLast place chains → IsLastSeen h place
-  last_is place last other behind = unseen other (last other behind)
 
   pub newest_row : (place : Place) → IsNewestSeen h place (newest (versions_at place chains))
   newest_row place = let v = rows place in (v.0, v.1.alone, versions.newest_is (row_opened h place) (is_at (created h) place) h v.0 v.1)

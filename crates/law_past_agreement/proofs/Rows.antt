@@ -53,10 +53,6 @@ module _ (opened : Option (List Value)) (at : Change → Bool) where
   versions_of-none id [] none = refl
   versions_of-none id (change ∷ changes) none = grind (arith, nat_tests, versions_of-none id changes, none)
 
-  pub no_change : (id : ℕ) (changes : List Change) → versions_of id at changes ≡ [] → list_any at changes ≡ false
-  no_change id [] none = refl
-  no_change id (change ∷ changes) none = grind (arith, nat_tests, no_change id changes, none)
-
   pub row_at-append : (xs ys : List Change) → list_any at xs ≡ false → row_at opened at (xs ++ ys) ≡ row_at opened at ys
   row_at-append [] ys none = refl
   row_at-append (change ∷ xs) ys none = grind (arith, nat_tests, row_at-append xs ys, none)

@@ -1,14 +1,13 @@
 -- The rows that changes leave at places.
-use Rattle.std.specs.Prelude.{◌≡◌, ◌≢◌, ℕ, Bool, true, false, if◌then◌else◌, Option, Some, None, List, [], ◌∷◌, ◌++◌, ◌⊎◌, ◌≤◌}
+use Rattle.std.specs.Prelude.{◌≡◌, ◌≢◌, ℕ, Bool, false, if◌then◌else◌, Option, Some, None, List, [], ◌∷◌, ◌++◌, ◌⊎◌, ◌≤◌}
 use Rattle.std.specs.List.{list_any}
 use Rattle.std.specs.FinMap.{get}
-use Rattle.std.specs.declared.cmp.Ordering.TheVariants.{Less}
 use Rattle.inno_types.specs.{declared.value.Value.Value, declared.value.Schema.Schema}
 use Rattle.inno_db.specs.{declared.change.Change.Change, declared.change.Change.TheVariants.Create, declared.change.Change.TheVariants.Put}
 use Rattle.inno_db.specs.{declared.change.Change.TheVariants.Remove, Database.key_in}
 use Rattle.inno_model.specs.declared.event.Event.{Event}
 use Rattle.inno_model.specs.Past.{own, opening, view_of, commits, committed, IsOpen}
-use Rattle.row_versions.specs.{declared.place.Place.Place, Chains.in_model, Chains.place_order, Chains.is_same_place, Chains.is_from}
+use Rattle.row_versions.specs.{declared.place.Place.Place, Chains.in_model, Chains.is_same_place}
 use Rattle.law_past_agreement.specs.Order.{created}
 
 -- the place that a change is made at; none where it makes a table
@@ -51,28 +50,6 @@ seen h s n = own s h ++ committed n h
 -- the row that the session sees at a place, under such a view
 abbrev pub row_seen : List Event → ℕ → ℕ → Place → Option (List Value)
 row_seen h s n place = row_at (row_opened h place) (is_at (created h) place) (seen h s n)
-
--- no session sees a row there, under any view that may still be read
-abbrev pub IsUnseen : List Event → Place → Type 0
-IsUnseen h place = (s n : ℕ) → IsNeeded h n → row_seen h s n place ≡ None
-
--- the first place from another on: no session sees a row between
-pub record IsFirstSeen (h : List Event) (place first : Place) : Type 0 where
-  pub from : is_from place first ≡ true
-  pub between : (other : Place) → is_from place other ≡ true → place_order other first ≡ Less → IsUnseen h other
-
--- no session sees a row from the place on
-abbrev pub IsNoneSeen : List Event → Place → Type 0
-IsNoneSeen h place = (other : Place) → is_from place other ≡ true → IsUnseen h other
-
--- the place comes next behind another: no session sees a row between
-pub record IsNextSeen (h : List Event) (place next : Place) : Type 0 where
-  pub behind : place_order place next ≡ Less
-  pub between : (other : Place) → place_order place other ≡ Less → place_order other next ≡ Less → IsUnseen h other
-
--- no session sees a row behind the place
-abbrev pub IsLastSeen : List Event → Place → Type 0
-IsLastSeen h place = (other : Place) → place_order place other ≡ Less → IsUnseen h other
 
 -- The newest row of a place, committed or not: as the one session sees it whose changes may be newest there.
 abbrev pub IsNewestSeen : List Event → Place → Option (List Value) → Type 0

@@ -23,7 +23,7 @@ use Rattle.row_changes.specs.declared.row_edit.RowEdit.TheVariants as edits
 use Rattle.row_changes.specs.{Edits.IsKeyAt, Keys.IsChangingKeys, Awaited.IsOfTable}
 use Rattle.row_changes.proofs.Pushed.{key_at, first_rows}
 use Rattle.row_changes.proofs.Telling.{HasPut, pairs_told, puts_pairs, tells, coded_again}
-use Rattle.law_logged_changes.proofs.{Entering.with_version, Entering.pushed_version, ReadersLeft.has_rows_left}
+use Rattle.law_logged_changes.proofs.{Entering.with_version, ReadersLeft.has_rows_left}
 use Rattle.law_held_steps.proofs.Tables.{its_columns}
 use Rattle.shared_lists.specs.Fitting.{FitsWell}
 use Rattle.opened_world.specs.Laid.{no_db, version_of, IsLaid, PutsNewRecord, HasRecordThere, TakesKeysOver, AwaitsNobody}
@@ -42,7 +42,7 @@ pub laid_new : (state : WorldState) → IsNew state → IsLaid no_db state
 laid_new state new =
     record {
       fits = record { fitting = AreFitting-no_rows [] (λ n schema there. absurd (cc)); numbers = empty-Has64Bits [] };
-      chains = [];
+      chains = λ place. [];
       versions = λ place. sym (ap version_of (get-empty place_cmp (in_model place)));
       coded =
           λ told. subst (λ schemas. AreCoded schemas (pairs_of state) state.versions.kept_at []) (sym new.schemas)
@@ -117,7 +117,7 @@ module _ (db : Database) (table : ℕ) (row : List Value) (schema : Schema) (old
   chains = with_version place version laid.chains
 
   pushes : Pushes laid.chains chains place version
-  pushes = pushed_version place version laid.chains
+  pushes other = refl
 
   at : IsKeyAt schema (key_of schema row) key
   at = key_at schema (edits.Put row) key puts.row_is
