@@ -18,7 +18,8 @@ use Rattle.law_stored_rows.specs.{Edits.key_index, Records.row_shown, Records.sh
 use Rattle.law_stored_rows.specs.{Records.LeadTo, Tables.place_in, Tables.Said, Tables.AreClustered, Storable.IsStorable, Storable.IsKeyOn}
 use Rattle.law_stored_rows.specs.Entries.{value_in, has_value, entry_of as entry_said}
 use Rattle.law_stored_rows.proofs.Values.{one_key, key_there, entry_there, place_itself, value_itself}
-use Rattle.law_stored_rows.proofs.RowRecords.{record_read, pointer_followed, leads_nowhere}
+use Rattle.law_stored_rows.specs.Records.{kept_of}
+use Rattle.law_stored_rows.proofs.RowRecords.{record_of, record_read, pointer_followed, leads_nowhere}
 use Rattle.undo_apply.specs.{Standing.TellsOf, Standing.IsNewest, Standing.LeadsBack, Standing.had_row, Standing.was_before, Standing.versions_before}
 use Rattle.undo_apply.specs.{Standing.column_of, Standing.said_but, Standing.AreCodedBut, Standing.IsCleared, Standing.IsLagging, Moves.HasKeyAt, Told.Rows}
 use Rattle.key_codec.specs.Keys.{entry_code}
@@ -45,8 +46,10 @@ module _ (undo : Undo) (schema : Schema) (place : Place) (schemas : List Schema)
       let clustered = are.tables undo.table schema tells.there in
       let both = key_there schema undo.key bytes coded clustered.primary clustered.primary_is is.code_is in
       let here = rw (← both.1, is.there) at (clustered.records (key_of schema coded.row) both.0) in
-      let at_place = subst (λ (p : Place). IsRecordWith schema undo.key kept (Some bytes) (versions_at p chains)) (place_is bytes coded is.code_is) here in
-      record_read schema undo.key bytes kept (versions_at place chains) coded at_place is.code_is
+      let at_place = subst (λ (p : Place). IsRecordWith schema undo.key (kept_of kept undo.table undo.key) (Some bytes) (versions_at p chains))
+          (place_is bytes coded is.code_is) here in
+      let told = record_of schema undo.key kept undo.table (Some bytes) (versions_at place chains) at_place in
+      record_read schema undo.key bytes kept (versions_at place chains) coded told is.code_is
 
 -- ---- what was before the change
 
