@@ -15,7 +15,8 @@ use Rattle.inno_model.specs.{declared.event.Event.Event, declared.event.Event.Th
 use Rattle.row_versions.specs.{declared.place.Place.Place, Chains.Chains, Chains.in_model, Chains.versions_at}
 use Rattle.law_past_agreement.specs.{Rows.place_in, Agreement.IsOpenedWith}
 use Rattle.world.specs.Undoing.{read_into}
-use Rattle.row_changes.specs.{Told.HasRows, Rows.IsChangingRow, declared.keys_change.KeysChange.KeysChange, declared.row_change.RowChange.RowChange}
+use Rattle.law_stored_rows.specs.Tables.{what_is_there}
+use Rattle.row_changes.specs.{Told.HasRows, Rows.IsChangingRowAlone, declared.keys_change.KeysChange.KeysChange, declared.row_change.RowChange.RowChange}
 use Rattle.row_changes.specs.{declared.row_change.RowChange.TheVariants.Record, declared.row_change.RowChange.TheVariants.Keys}
 use Rattle.row_search.specs.{declared.sight.Sight.Sight, declared.sight.Sight.TheVariants.View, declared.sight.Sight.TheVariants.Newest}
 use Rattle.undo_apply.specs.{declared.work_room.WorkRoom.WorkRoom, Stages.IsPuttingBack}
@@ -77,7 +78,7 @@ pub record IsLastOf (state : WorldState) (w : ℕ) (change : KeysChange) : Type 
 -- its keys lag
 pub record IsLagging (chains : Chains) (state : WorldState) (w : ℕ) : Type 0 where
   pub change : KeysChange
-  pub changing : IsChangingRow w chains state (Keys change)
+  pub changing : IsChangingRowAlone w chains state (Keys change)
   pub newest : IsLastOf state w change
 
 -- the same of a change that the history tells
@@ -91,10 +92,10 @@ pub record IsGoingBack (chains : Chains) (state : WorldState) (w : ℕ) (undo : 
   pub place : Place
   pub last : IsLast state w logged place
   pub undo_is : undo ≡ logged.undo
-  pub putting : IsPuttingBack chains place undo room state
+  pub putting : IsPuttingBack chains (what_is_there chains) place undo room state
 
 abbrev pub RowsHeld : Chains → WorldState → ℕ → Undo → WorkRoom → Doing → Type 0
-RowsHeld chains state w undo room (Changing change) = IsChangingRow w chains state change × IsLastIfTold state w change
+RowsHeld chains state w undo room (Changing change) = IsChangingRowAlone w chains state change × IsLastIfTold state w change
 RowsHeld chains state w undo room Lagging = IsLagging chains state w
 RowsHeld chains state w undo room Undoing = IsGoingBack chains state w undo room
 RowsHeld chains state w undo room quiet = HasRows chains state

@@ -13,6 +13,7 @@ use Rattle.law_past_agreement.specs.Rows.{place_in}
 use Rattle.world.specs.State.{WorldState, Session, Work, Logged, IsSession, HasWork}
 use Rattle.law_world_agreement.specs.Agreement.{Agrees}
 use Rattle.undo_apply.proofs.Goes.{others_leave}
+use Rattle.law_stored_rows.specs.Tables.{what_is_there}
 use Rattle.shared_lists.specs.Fitting.{FitsThen}
 use Rattle.law_found_rows.specs.Pasts.{AddsAtMostOne}
 use Rattle.law_found_rows.proofs.Seen.{other_of}
@@ -102,7 +103,7 @@ module _ (w : ℕ) {chains : Chains} {old new : WorldState} (leaves : LeavesRows
     place = rows.place;
     last = last_left w leaves.schemas session own_is rows.last;
     undo_is = rows.undo_is;
-    putting = others_leave chains rows.place undo room old new rows.putting leaves;
+    putting = others_leave chains (what_is_there chains) rows.place undo room old new rows.putting leaves;
   }
 
   pub rows_left_at : (desk : Option Desk) → RowsHeldAt chains old w desk → RowsHeldAt chains new w desk

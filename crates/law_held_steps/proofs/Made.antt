@@ -4,9 +4,10 @@ use Rattle.std.proofs.Common.{◌∷◌}
 use Rattle.std.proofs.lemmas.Option.{slice_get_within}
 use Rattle.std.specs.Prelude.{slice_get, IsSomeAnd}
 use Rattle.law_stored_rows.specs.Fitting.{IsKeyFor, FitsTable}
-use Rattle.row_changes.specs.Rows.{primary_of, table_of, place_of, row_steps, IsChangingRow, ChangesRow}
+use Rattle.row_changes.specs.Rows.{primary_of, table_of, place_of, row_steps, IsChangingRowAlone, ChangesRowAlone}
 use Rattle.law_past_agreement.specs.Order.{created}
 use Rattle.desks.specs.Holding.{IsHeld, RowsHeld, SearchHeld, AreFew, IsLastOf, IsLastIfTold}
+use Rattle.row_changes.proofs.Alone.{alone_rows}
 use Rattle.law_held_steps.proofs.Keeping.{open_work, open_joined, goes_same, goes_changed, leaves_lists, last_of_kept, keeps}
 use Rattle.law_found_rows.proofs.FittingChanges.{tables_storable}
 use Rattle.law_world_agreement.specs.Agreement.{Agrees}
@@ -171,13 +172,13 @@ module _ {s : ℕ} {store : Store} {new : WorldState} (held : IsHeld store) (min
   alone : IsAlone s old
   alone = alone_if held mine
 
-  logs_now : (change : RowChange) (reached : Reached RowChange) → IsChangingRow s held.chains old change → ChangesRow s held.chains old new change reached
+  logs_now : (change : RowChange) (reached : Reached RowChange) → IsChangingRowAlone s held.chains old change → ChangesRowAlone s held.chains old new change reached
       → LogsAgree new
   logs_now change reached p c = row_all s held.chains old new change reached p c alone held.logs
 
   -- where nothing is added
-  still : (change : RowChange) (reached : Reached RowChange) (beside : KeepsBeside s old new) → IsChangingRow s held.chains old change
-      → ChangesRow s held.chains old new change reached → new.past ≡ old.past → Agrees held.chains new
+  still : (change : RowChange) (reached : Reached RowChange) (beside : KeepsBeside s old new) → IsChangingRowAlone s held.chains old change
+      → ChangesRowAlone s held.chains old new change reached → new.past ≡ old.past → Agrees held.chains new
       → is_searching (doing_after change reached) ≡ false
       → ((desk : Desk) → RowsHeld held.chains new s (read_into desk.undo) desk.room (doing_after change reached)) → Comes s old new change reached
       → MakesChange s store new change reached
@@ -190,8 +191,8 @@ module _ {s : ℕ} {store : Store} {new : WorldState} (held : IsHeld store) (min
   }
 
   -- the history tells the change now
-  last_logged : (change : RecordChange) (key : List ℕ) (after : Option (List Value)) (next : KeysChange) → IsChangingRow s held.chains old (Record change key
-      after) → ChangesRow s held.chains old new (Record change key after) (Went (Keys next)) → new.schemas ≡ old.schemas → IsLastOf new s next
+  last_logged : (change : RecordChange) (key : List ℕ) (after : Option (List Value)) (next : KeysChange) → IsChangingRowAlone s held.chains old (Record change key
+      after) → ChangesRowAlone s held.chains old new (Record change key after) (Went (Keys next)) → new.schemas ≡ old.schemas → IsLastOf new s next
   last_logged change key after next row c same =
       let p = row.0 in
       let logged =
@@ -215,8 +216,8 @@ module _ {s : ℕ} {store : Store} {new : WorldState} (held : IsHeld store) (min
         key_is = logged.key_is ∙ sym c.0.3;
       }
 
-  pub makes : (change : RowChange) (reached : Reached RowChange) → IsChangingRow s held.chains old change → IsLastIfTold old s change
-      → ChangesRow s held.chains old new change reached → MakesChange s store new change reached
+  pub makes : (change : RowChange) (reached : Reached RowChange) → IsChangingRowAlone s held.chains old change → IsLastIfTold old s change
+      → ChangesRowAlone s held.chains old new change reached → MakesChange s store new change reached
   makes (Record change key after) (Went (Record next key' after')) row last c =
       let a : StaysAgreed s held.chains old new (Record next key' after') =
       goes_on s held.chains old new (Record change key after) (Went (Record next key' after')) held.agrees alone row c told few in
@@ -252,8 +253,8 @@ module _ {s : ℕ} {store : Store} {new : WorldState} (held : IsHeld store) (min
   makes (Record change key after) (Hindered same why) row last c =
       let given = goes_on s held.chains old new (Record change key after) (Hindered same why) held.agrees alone row c told few in
       let a : StaysAgreed s held.chains old new same = given.1 in
-      let p : IsChangingRow s held.chains new (Record change key after) = subst (IsChangingRow s held.chains new) c.0 a.changing in
-      still (Record change key after) (Hindered same why) a.beside row c a.past a.agrees refl (λ desk. p.1) (record { past = a.past; rows = a.rows }, c.0)
+      let p : IsChangingRowAlone s held.chains new (Record change key after) = subst (IsChangingRowAlone s held.chains new) c.0 a.changing in
+      still (Record change key after) (Hindered same why) a.beside row c a.past a.agrees refl (λ desk. alone_rows s held.chains new change key after p) (record { past = a.past; rows = a.rows }, c.0)
   makes (Keys change) (Went (Record next key after)) row last c = absurd c.0
   makes (Keys change) (Went (Keys next)) row last c =
       let a : StaysAgreed s held.chains old new (Keys next) = goes_on s held.chains old new (Keys change) (Went (Keys next)) held.agrees alone row c told few in
@@ -270,14 +271,14 @@ module _ {s : ℕ} {store : Store} {new : WorldState} (held : IsHeld store) (min
   makes (Keys change) (Hindered same why) row last c =
       let given = goes_on s held.chains old new (Keys change) (Hindered same why) held.agrees alone row c told few in
       let a : StaysAgreed s held.chains old new same = given.1 in
-      let p : IsChangingRow s held.chains new (Keys change) = subst (IsChangingRow s held.chains new) c.0 a.changing in
+      let p : IsChangingRowAlone s held.chains new (Keys change) = subst (IsChangingRowAlone s held.chains new) c.0 a.changing in
       still (Keys change) (Hindered same why) a.beside row c a.past a.agrees refl
       (λ desk. record { change = change; changing = p; newest = last_of_kept held mine a.beside change a.past refl refl last })
       (record { past = a.past; rows = a.rows }, c.0)
 
 pub change_made : {s : ℕ} {store : Store} {new : WorldState} {change : RowChange} {reached : Reached RowChange} → IsHeld store → store.writer ≡ Some s
     → doing_at s store.desks ≡ Changing change
-    → ((chains : Chains) → IsChangingRow s chains store.world change → ChangesRow s chains store.world new change reached) → IsTold store.world → IsTold new
+    → ((chains : Chains) → IsChangingRowAlone s chains store.world change → ChangesRowAlone s chains store.world new change reached) → IsTold store.world → IsTold new
     → length new.past < 2 ^ 63 → MakesChange s store new change reached
 change_made {s} {store} {change = change} {reached = reached} held mine at changes was told few =
     let rows = changing_rows s held mine at in

@@ -11,7 +11,7 @@ use Rattle.law_logged_changes.proofs.GoingOn.{own_beside, agrees_beside, step_al
 use Rattle.law_held_steps.proofs.AnyStep.{some_same, last_left, held_beside, rows_left, last_log, rows_by_writer}
 use Rattle.undo_apply.specs.Stages.{Stops, StopsAt, IsPuttingBack, GoesOn, IsHindered, IsDone, PutsBack, StageHolds, WalksOn}
 use Rattle.world.proofs.Memory.{no_pages}
-use Rattle.law_stored_rows.specs.Records.{LeadTo}
+use Rattle.law_stored_rows.specs.{Records.LeadTo, Tables.Said, Tables.what_is_there}
 use Rattle.desks.proofs.Counting.{versions_most, versions_are}
 use Rattle.law_held_steps.specs.Undoing.{HasPutBack, HasLast, IsReady}
 use Rattle.row_changes.specs.Awaited.{IsAwaitedAlone}
@@ -19,7 +19,7 @@ use Rattle.std.specs.Prelude.{is_some}
 use Rattle.row_versions.specs.{declared.place.Place.Place, declared.version.Version.Version, declared.kept.Kept.Kept, Versions.Stays, Chains.Chains}
 use Rattle.row_versions.specs.{Chains.older, Chains.versions_at}
 use Rattle.law_past_agreement.specs.Order.{IsOfRow, IsUndoable, MayCome}
-use Rattle.row_changes.specs.{Told.HasRows, Rows.IsChangingRow, declared.row_change.RowChange.RowChange}
+use Rattle.row_changes.specs.{Told.HasRows, Rows.IsChangingRowAlone, declared.row_change.RowChange.RowChange}
 use Rattle.world.specs.Undoing.{HoldsRecord}
 use Rattle.world.specs.{Told.IsTold, Told.TellsTogether, Told.LeavesRows, declared.undo_room.UndoRoom.UndoRoom, Memory.IsInMemory}
 use Rattle.law_logged_changes.specs.{Logs.IsAlone, Logs.LogsAgree, Logs.IsLogOf, Steps.ChangesPairsAlone}
@@ -64,7 +64,7 @@ pub record LeavesAll (old new : WorldState) : Type 0 where
   pub rest : ChangesPairsAlone old new
 
 changing_at : (chains : Chains) (state : WorldState) (s : ℕ) (change : RowChange) (desk : Option Desk) → doing_in desk ≡ Changing change
-    → RowsHeldAt chains state s desk → IsChangingRow s chains state change × IsLastIfTold state s change
+    → RowsHeldAt chains state s desk → IsChangingRowAlone s chains state change × IsLastIfTold state s change
 changing_at chains state s change None at rows = (let e : Nothing ≡ Changing change = at in absurd (cc))
 changing_at chains state s change (Some desk) at rows = subst (RowsHeld chains state s (read_into desk.undo) desk.room) at rows
 
@@ -95,7 +95,7 @@ module _ (s : ℕ) {store : Store} (held : IsHeld store) where
     go (Some w) is_some = ⊎_elim (λ same. is_some ∙ ap Some same) (λ differs. absurd (no (λ mine. differs (some_same w s (sym is_some ∙ mine))))) (cases_eq w s)
 
   pub changing_rows : {change : RowChange} → store.writer ≡ Some s → doing_at s store.desks ≡ Changing change
-      → IsChangingRow s held.chains store.world change × IsLastIfTold store.world s change
+      → IsChangingRowAlone s held.chains store.world change × IsLastIfTold store.world s change
   changing_rows {change} mine at = changing_at held.chains store.world s change (desk_at s store.desks) at (rows_mine mine)
 
   pub held_given : {new : WorldState} {now : List Desk} {was is : Desk} → store.writer ≡ Some s → LeavesAll store.world new → IsTold store.world → IsTold new
@@ -143,7 +143,7 @@ left_walks schema key kept keys most which pointer behind versions others leads 
 
 module _ (chains : Chains) (place : Place) (undo : Undo) (schema : Schema) (old new : WorldState) (bytes read : List ℕ) (keys most : ℕ)
     (few : length (versions_before chains place) ≤ most) (tells : IsTold new) (same : new.versions.kept_at ≡ old.versions.kept_at) where
-  walks_near : (stage next : Stage) → WalksOn schema undo new stage next → StageHolds chains place undo schema (rows_of old) bytes stage → StageHolds chains
+  walks_near : (stage next : Stage) → WalksOn schema undo new stage next → StageHolds chains (what_is_there chains) place undo schema (rows_of old) bytes stage → StageHolds chains (what_is_there chains)
       place undo schema (rows_of new) read next → left_at keys most new.versions.kept_at next < left_at keys most new.versions.kept_at stage
   walks_near (Walk which pointer) (Walk other behind) walks was now =
       let walked : HasWalked schema undo.key old.versions.kept_at which pointer was.0 (versions_before chains place) = was.3 in
@@ -158,25 +158,25 @@ module _ (chains : Chains) (place : Place) (undo : Undo) (schema : Schema) (old 
 -- the change is being taken back still
 record StaysPutting (chains : Chains) (place : Place) (undo : Undo) (next : WorkRoom) (old new : WorldState) : Type 0 where
   pub leaves : LeavesAll old new
-  pub putting : IsPuttingBack chains place undo next new
+  pub putting : IsPuttingBack chains (what_is_there chains) place undo next new
 
 module _ (chains : Chains) (place : Place) (actor : ℕ) (undo : Undo) (room next : WorkRoom) (old new : WorldState) where
-  pub done_leaves : IsDone chains place undo room next old new → LeavesAll old new
+  pub done_leaves : IsDone chains (what_is_there chains) place undo room next old new → LeavesAll old new
   done_leaves done =
       ⊎_elim (λ stays. record { places = stays.places; versions = stays.versions; rest = stays.rest })
       (λ puts. record { places = puts.places; versions = puts.versions; rest = puts.rest }) done.changes
 
   -- a step that was hindered leaves its stage
-  hindered_by : (answer : Move) → answer ≢ Done → answer ≢ Step → PutsBack chains place actor undo room next old new answer
-      → IsHindered chains place actor undo room next old new answer
+  hindered_by : (answer : Move) → answer ≢ Done → answer ≢ Step → PutsBack chains (what_is_there chains) place actor undo room next old new answer
+      → IsHindered chains (what_is_there chains) place actor undo room next old new answer
   hindered_by Done not_done not_step is = absurd (not_done refl)
   hindered_by Step not_done not_step is = absurd (not_step refl)
   hindered_by why not_done not_step is = is
 
-  of_hindered : (why : Move) → IsHindered chains place actor undo room next old new why → StaysPutting chains place undo next old new
+  of_hindered : (why : Move) → IsHindered chains (what_is_there chains) place actor undo room next old new why → StaysPutting chains place undo next old new
   of_hindered why is = record { leaves = record { places = is.stays.places; versions = is.stays.versions; rest = is.stays.rest }; putting = is.holds }
 
-  stays_putting : (answer : Move) → answer ≢ Done → PutsBack chains place actor undo room next old new answer → StaysPutting chains place undo next old new
+  stays_putting : (answer : Move) → answer ≢ Done → PutsBack chains (what_is_there chains) place actor undo room next old new answer → StaysPutting chains place undo next old new
   stays_putting Step not_done (inl goes) = record {
     leaves =
         ⊎_elim (λ stays. record { places = stays.places; versions = stays.versions; rest = stays.rest })
@@ -231,7 +231,7 @@ read_there log logged older read there is reads =
 -- its change may be taken back then, whether the row's keys are as the change left them or lag
 module _ (chains : Chains) (state : WorldState) (s : ℕ) (room : WorkRoom) (read : Undo) (agree : LogsAgree state) (whole : IsWhole room)
     (anew : room.stage ≡ Find) (is_read : (logged : Logged) (place : Place) → IsLast state s logged place → read ≡ logged.undo) where
-  going_if : (logged : Logged) (place : Place) → IsLast state s logged place → IsPuttingBack chains place logged.undo room state
+  going_if : (logged : Logged) (place : Place) → IsLast state s logged place → IsPuttingBack chains (what_is_there chains) place logged.undo room state
       → IsGoingBack chains state s read room
   going_if logged place last putting =
       let is = is_read logged place last in
@@ -240,7 +240,7 @@ module _ (chains : Chains) (state : WorldState) (s : ℕ) (room : WorkRoom) (rea
         place = place;
         last = last;
         undo_is = is;
-        putting = subst (λ (u : Undo). IsPuttingBack chains place u room state) (sym is) putting;
+        putting = subst (λ (u : Undo). IsPuttingBack chains (what_is_there chains) place u room state) (sym is) putting;
       }
 
   begin_from : (desk : Option Desk) → IsReady (doing_in desk) → RowsHeldAt chains state s desk → HasLast s state → IsGoingBack chains state s read room
@@ -361,16 +361,17 @@ module _ (s : ℕ) {store : Store} (held : IsHeld store) where
     abbrev pub going : IsGoingBack held.chains old s (read_into undo) room
     going = goes_back.going
 
-    pub asks_for : IsInMemory old → ((chains : Chains) × (place : Place) × IsPuttingBack chains place (read_into undo) room old) × TellsTogether old
-    asks_for memory = ((held.chains, going.place, going.putting), λ told index. memory.told.pairs index)
+    pub asks_for : IsInMemory old
+        → ((chains : Chains) × (beside : Said) × (place : Place) × IsPuttingBack chains beside place (read_into undo) room old) × TellsTogether old
+    asks_for memory = ((held.chains, what_is_there held.chains, going.place, going.putting), λ told index. memory.told.pairs index)
 
     module _ (new : WorldState) (next : WorkRoom) (answer : Move) (put : HasPutBack s (read_into undo) room next old new answer) where
-      answers : PutsBack held.chains going.place s (read_into undo) room next old new answer
-      answers = put held.chains going.place going.putting
+      answers : PutsBack held.chains (what_is_there held.chains) going.place s (read_into undo) room next old new answer
+      answers = put held.chains (what_is_there held.chains) going.place going.putting
 
       -- in memory each step is made, where nobody else is awaited
       pub goes_or_is_done : IsInMemory old → IsAwaitedAlone s old → (answer ≡ Done) ⊎ (answer ≡ Step)
-      goes_or_is_done memory alone = never_hindered s old new memory alone held.chains going.place (read_into undo) room next answer answers
+      goes_or_is_done memory alone = never_hindered s old new memory alone held.chains (what_is_there held.chains) going.place (read_into undo) room next answer answers
 
       pub rest_beside : ChangesPairsAlone old new
       rest_beside = step_beside held.chains going.place s (read_into undo) room next old new answer answers
@@ -406,7 +407,7 @@ module _ (s : ℕ) {store : Store} (held : IsHeld store) where
 
     module _ (new : WorldState) (next : WorkRoom) (put : HasPutBack s (read_into undo) room next old new Step) (memory : IsInMemory old)
         (later : IsInMemory new) where
-      goes_nearer : GoesOn held.chains going.place (read_into undo) room next old new
+      goes_nearer : GoesOn held.chains (what_is_there held.chains) going.place (read_into undo) room next old new
           → undo_left_in undo.table next.stage new < undo_left_in undo.table room.stage old
       goes_nearer goes =
           let leaves = (still_putting new next Step put (λ e. cc)).leaves in
@@ -418,7 +419,7 @@ module _ (s : ℕ) {store : Store} (held : IsHeld store) where
           let one : was.schema ≡ now.schema = let there = was.tells.there in cc in
           let few : length (versions_before held.chains going.place) ≤ most_versions
           = omega (arith, older_fewer (versions_at going.place held.chains), held.short going.place, held.agrees.lists.small) in
-          let holds = subst (λ (x : Schema). StageHolds held.chains going.place (read_into undo) x (rows_of old) room.newest.items room.stage) one
+          let holds = subst (λ (x : Schema). StageHolds held.chains (what_is_there held.chains) going.place (read_into undo) x (rows_of old) room.newest.items room.stage) one
           (was.holds memory.told) in
           let less : left_at (length now.schema.keys) most_versions new.versions.kept_at next.stage < left_at (length now.schema.keys) most_versions
           new.versions.kept_at room.stage = ⊎_elim (λ fewer. left_nears (length now.schema.keys) most_versions new.versions.kept_at room.stage next.stage

@@ -17,6 +17,7 @@ use Rattle.desks.specs.Holding.{IsLast, IsOwnView, IsLastOf, RowsHeld, RowsHeldA
 use Rattle.desks.specs.declared.desk.Doing.TheVariants.{Nothing, Searching, Changing, Lagging, Undoing}
 use Rattle.key_codec.specs.Keys.{HasKey, key_code}
 use Rattle.law_stored_rows.specs.Tables.{Said, HasItsColumns, AreCodedAs, LagAt, in_table, what_is_there, AreCoded}
+use Rattle.row_changes.proofs.Alone.{alone_rows}
 use Rattle.law_held_steps.proofs.AnyStep.{some_same, last_log, quiet_rows_at}
 use Rattle.law_found_rows.proofs.Showing.{shows_coded, shows_lagging}
 use Rattle.store_api.specs.declared.answers.Undo.{Undo}
@@ -116,7 +117,7 @@ module _ {state : WorldState} (logs : LogsAgree state) {w : ℕ} {logged : Logge
       last_stands.tells
 
   -- the place at which keys are changed
-  pub keys_place : {chains : Chains} {change : KeysChange} (p : IsChangingKeys chains state change) → place.table ≡ change.table
+  pub keys_place : {chains : Chains} {change : KeysChange} (p : IsChangingKeys chains (what_is_there chains) state change) → place.table ≡ change.table
       → logged.undo.key ≡ change.key → place ≡ record { table = change.table; key = p.value }
   keys_place {change} p table_is key_is =
       let tells = last_tells in
@@ -158,7 +159,7 @@ module _ {schema : Schema} (scan : Scan) {state : WorldState} {chains : Chains} 
         shows_coded schema scan state chains told there columns le
         (subst (AreCodedAs state.schemas (pairs_of state) state.versions.kept_at chains) (nowhere place known.place lag known.lag apart) coded)
 
-pub shows_changing : {schema : Schema} (scan : Scan) {state : WorldState} {chains : Chains} {change : KeysChange} (p : IsChangingKeys chains state change)
+pub shows_changing : {schema : Schema} (scan : Scan) {state : WorldState} {chains : Chains} {change : KeysChange} (p : IsChangingKeys chains (what_is_there chains) state change)
     → IsTold state → slice_get state.schemas scan.table ≡ Some schema → HasItsColumns schema → scan.which ≤ length schema.keys
     → sees_by scan.sight p.pushed.version.writer ≡ false → ShowsRows schema scan state (in_table scan.table chains)
 shows_changing scan {chains} {change} p told there columns le unseen =
@@ -178,7 +179,7 @@ module _ (chains : Chains) {state : WorldState} (told : IsTold state) where
   some_rows : (w : ℕ) (undo : Undo) (room : WorkRoom) (doing : Doing) → RowsHeld chains state w undo room doing → HasSome chains state
   some_rows w undo room Nothing rows = (what_is_there chains, rows told)
   some_rows w undo room (Searching on) rows = (what_is_there chains, rows told)
-  some_rows w undo room (Changing (Record change key after)) rows = (what_is_there chains, rows.0.1 told)
+  some_rows w undo room (Changing (Record change key after)) rows = (what_is_there chains, alone_rows w chains state change key after rows.0 told)
   some_rows w undo room (Changing (Keys change)) rows = let so = rows.0.rows told in (so.0, so.1)
   some_rows w undo room Lagging rows = let so = rows.changing.rows told in (so.0, so.1)
   some_rows w undo room Undoing rows = going_rows rows.place (lags_while chains rows.place undo room state rows.putting told)
@@ -223,7 +224,7 @@ module _ {chains : Chains} {store : Store} (agrees : Agrees chains store.world) 
   unseen (View view reader) holds logged place last = unseen_by agrees last differs holds
   unseen Newest holds logged place last = absurd (differs (some_same s w (sym holds ∙ writes)))
 
-  shows_keys : {change : KeysChange} (p : IsChangingKeys chains state change) → IsLastOf state w change
+  shows_keys : {change : KeysChange} (p : IsChangingKeys chains (what_is_there chains) state change) → IsLastOf state w change
       → ShowsRows schema scan state (in_table scan.table chains)
   shows_keys {change} p own =
       let by : IsWrittenBy chains own.place (id_of state.past w) = written agrees own.last in
@@ -245,7 +246,7 @@ module _ {chains : Chains} {store : Store} (agrees : Agrees chains store.world) 
       → ShowsRows schema scan state (in_table scan.table chains)
   shows_other undo room Nothing rows = shows_coded schema scan state chains told there columns le (rows told)
   shows_other undo room (Searching on) rows = shows_coded schema scan state chains told there columns le (rows told)
-  shows_other undo room (Changing (Record change key after)) rows = shows_coded schema scan state chains told there columns le (rows.0.1 told)
+  shows_other undo room (Changing (Record change key after)) rows = shows_coded schema scan state chains told there columns le (alone_rows w chains state change key after rows.0 told)
   shows_other undo room (Changing (Keys change)) rows = shows_keys rows.0 rows.1
   shows_other undo room Lagging rows = shows_keys rows.changing rows.newest
   shows_other undo room Undoing rows = shows_back rows.last (lags_while chains rows.place undo room state rows.putting told)

@@ -15,6 +15,7 @@ use Rattle.inno_model.proofs.Untouched.{untouched}
 use Rattle.entries.specs.Index.{Index}
 use Rattle.law_past_agreement.proofs.Rows.{own_undone}
 use Rattle.row_changes.specs.Told.{HasRows}
+use Rattle.law_stored_rows.specs.Tables.{what_is_there}
 use Rattle.row_changes.proofs.Sessions.{same_pairs, same_versions}
 use Rattle.desks.proofs.Showing.{task_is}
 use Rattle.shared_lists.specs.Tasks as tasks
@@ -78,8 +79,8 @@ module _ (s : ℕ) {store : Store} (held : IsHeld store) (busy : doing_at s stor
   by_me : store.writer ≡ Some s
   by_me = mine s held busy
 
-  done : IsDone held.chains back_to.place read room_was next old mid
-  done = put held.chains back_to.place back_to.putting
+  done : IsDone held.chains (what_is_there held.chains) back_to.place read room_was next old mid
+  done = put held.chains (what_is_there held.chains) back_to.place back_to.putting
 
   left_all : LeavesAll old mid
   left_all = done_leaves held.chains back_to.place s read room_was next old mid done
@@ -217,11 +218,11 @@ module _ (s : ℕ) {store : Store} (held : IsHeld store) (busy : doing_at s stor
 
         -- ---- logs and rows
 
-        putting : IsPuttingBack held.chains back_to.place back_to.logged.undo room_was old
-        putting = subst (λ (u : Undo). IsPuttingBack held.chains back_to.place u room_was old) back_to.undo_is back_to.putting
+        putting : IsPuttingBack held.chains (what_is_there held.chains) back_to.place back_to.logged.undo room_was old
+        putting = subst (λ (u : Undo). IsPuttingBack held.chains (what_is_there held.chains) back_to.place u room_was old) back_to.undo_is back_to.putting
 
-        done_by : IsDone held.chains back_to.place back_to.logged.undo room_was next old mid
-        done_by = subst (λ (u : Undo). IsDone held.chains back_to.place u room_was next old mid) back_to.undo_is done
+        done_by : IsDone held.chains (what_is_there held.chains) back_to.place back_to.logged.undo room_was next old mid
+        done_by = subst (λ (u : Undo). IsDone held.chains (what_is_there held.chains) back_to.place u room_was next old mid) back_to.undo_is done
 
         alone : IsAlone s old
         alone = alone_if held by_me
