@@ -1,7 +1,7 @@
 -- What holds of the lists after a step of one session, whatever step it is. What the others have is said here once: their
 -- desks, searches, rooms and rows.
-use Rattle.std.proofs.Common.{◌≡◌, ◌≢◌, ⊎_elim, inl, inr, ℕ, ◌==◌, Bool, false, cond, eq-eqb, ◌≤◌, true, List, ◌∷◌, length, Option, Some, None, refl, sym, ap, []}
-use Rattle.std.proofs.Common.{subst, ◌∙◌, arith}
+use Rattle.std.proofs.Common.{◌≡◌, ◌≢◌, ⊎_elim, inl, inr, ℕ, ◌==◌, Bool, false, cond, eq-eqb, ◌≤◌, true, List, ◌∷◌, length, Option, Some, None, refl, sym, ap}
+use Rattle.std.proofs.Common.{[], subst, ◌∙◌, arith}
 use Rattle.std.specs.Prelude.{slice_get, is_some}
 use Rattle.std.proofs.lemmas.Bool.{cases_eq, false≢true}
 use Rattle.inno_types.specs.declared.value.Schema.{Schema}

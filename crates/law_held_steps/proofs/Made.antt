@@ -172,8 +172,8 @@ module _ {s : ℕ} {store : Store} {new : WorldState} (held : IsHeld store) (min
   alone : IsAlone s old
   alone = alone_if held mine
 
-  logs_now : (change : RowChange) (reached : Reached RowChange) → IsChangingRowAlone s held.chains old change → ChangesRowAlone s held.chains old new change reached
-      → LogsAgree new
+  logs_now : (change : RowChange) (reached : Reached RowChange) → IsChangingRowAlone s held.chains old change
+      → ChangesRowAlone s held.chains old new change reached → LogsAgree new
   logs_now change reached p c = row_all s held.chains old new change reached p c alone held.logs
 
   -- where nothing is added
@@ -191,8 +191,8 @@ module _ {s : ℕ} {store : Store} {new : WorldState} (held : IsHeld store) (min
   }
 
   -- the history tells the change now
-  last_logged : (change : RecordChange) (key : List ℕ) (after : Option (List Value)) (next : KeysChange) → IsChangingRowAlone s held.chains old (Record change key
-      after) → ChangesRowAlone s held.chains old new (Record change key after) (Went (Keys next)) → new.schemas ≡ old.schemas → IsLastOf new s next
+  last_logged : (change : RecordChange) (key : List ℕ) (after : Option (List Value)) (next : KeysChange)
+      → IsChangingRowAlone s held.chains old (Record change key after) → ChangesRowAlone s held.chains old new (Record change key after) (Went (Keys next)) → new.schemas ≡ old.schemas → IsLastOf new s next
   last_logged change key after next row c same =
       let p = row.0 in
       let logged =
@@ -254,7 +254,8 @@ module _ {s : ℕ} {store : Store} {new : WorldState} (held : IsHeld store) (min
       let given = goes_on s held.chains old new (Record change key after) (Hindered same why) held.agrees alone row c told few in
       let a : StaysAgreed s held.chains old new same = given.1 in
       let p : IsChangingRowAlone s held.chains new (Record change key after) = subst (IsChangingRowAlone s held.chains new) c.0 a.changing in
-      still (Record change key after) (Hindered same why) a.beside row c a.past a.agrees refl (λ desk. alone_rows s held.chains new change key after p) (record { past = a.past; rows = a.rows }, c.0)
+      still (Record change key after) (Hindered same why) a.beside row c a.past a.agrees refl
+      (λ desk. alone_rows s held.chains new change key after p) (record { past = a.past; rows = a.rows }, c.0)
   makes (Keys change) (Went (Record next key after)) row last c = absurd c.0
   makes (Keys change) (Went (Keys next)) row last c =
       let a : StaysAgreed s held.chains old new (Keys next) = goes_on s held.chains old new (Keys change) (Went (Keys next)) held.agrees alone row c told few in
@@ -278,7 +279,8 @@ module _ {s : ℕ} {store : Store} {new : WorldState} (held : IsHeld store) (min
 
 pub change_made : {s : ℕ} {store : Store} {new : WorldState} {change : RowChange} {reached : Reached RowChange} → IsHeld store → store.writer ≡ Some s
     → doing_at s store.desks ≡ Changing change
-    → ((chains : Chains) → IsChangingRowAlone s chains store.world change → ChangesRowAlone s chains store.world new change reached) → IsTold store.world → IsTold new
+    → ((chains : Chains) → IsChangingRowAlone s chains store.world change → ChangesRowAlone s chains store.world new change reached)
+    → IsTold store.world → IsTold new
     → length new.past < 2 ^ 63 → MakesChange s store new change reached
 change_made {s} {store} {change = change} {reached = reached} held mine at changes was told few =
     let rows = changing_rows s held mine at in

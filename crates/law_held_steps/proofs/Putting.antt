@@ -143,8 +143,9 @@ left_walks schema key kept keys most which pointer behind versions others leads 
 
 module _ (chains : Chains) (place : Place) (undo : Undo) (schema : Schema) (old new : WorldState) (bytes read : List ℕ) (keys most : ℕ)
     (few : length (versions_before chains place) ≤ most) (tells : IsTold new) (same : new.versions.kept_at ≡ old.versions.kept_at) where
-  walks_near : (stage next : Stage) → WalksOn schema undo new stage next → StageHolds chains (what_is_there chains) place undo schema (rows_of old) bytes stage → StageHolds chains (what_is_there chains)
-      place undo schema (rows_of new) read next → left_at keys most new.versions.kept_at next < left_at keys most new.versions.kept_at stage
+  walks_near : (stage next : Stage) → WalksOn schema undo new stage next 
+      → StageHolds chains (what_is_there chains) place undo schema (rows_of old) bytes stage
+      → StageHolds chains (what_is_there chains) place undo schema (rows_of new) read next → left_at keys most new.versions.kept_at next < left_at keys most new.versions.kept_at stage
   walks_near (Walk which pointer) (Walk other behind) walks was now =
       let walked : HasWalked schema undo.key old.versions.kept_at which pointer was.0 (versions_before chains place) = was.3 in
       let walking : HasWalked schema undo.key new.versions.kept_at other behind now.0 (versions_before chains place) = now.3 in
@@ -176,7 +177,8 @@ module _ (chains : Chains) (place : Place) (actor : ℕ) (undo : Undo) (room nex
   of_hindered : (why : Move) → IsHindered chains (what_is_there chains) place actor undo room next old new why → StaysPutting chains place undo next old new
   of_hindered why is = record { leaves = record { places = is.stays.places; versions = is.stays.versions; rest = is.stays.rest }; putting = is.holds }
 
-  stays_putting : (answer : Move) → answer ≢ Done → PutsBack chains (what_is_there chains) place actor undo room next old new answer → StaysPutting chains place undo next old new
+  stays_putting : (answer : Move) → answer ≢ Done → PutsBack chains (what_is_there chains) place actor undo room next old new answer
+      → StaysPutting chains place undo next old new
   stays_putting Step not_done (inl goes) = record {
     leaves =
         ⊎_elim (λ stays. record { places = stays.places; versions = stays.versions; rest = stays.rest })
@@ -371,7 +373,8 @@ module _ (s : ℕ) {store : Store} (held : IsHeld store) where
 
       -- in memory each step is made, where nobody else is awaited
       pub goes_or_is_done : IsInMemory old → IsAwaitedAlone s old → (answer ≡ Done) ⊎ (answer ≡ Step)
-      goes_or_is_done memory alone = never_hindered s old new memory alone held.chains (what_is_there held.chains) going.place (read_into undo) room next answer answers
+      goes_or_is_done memory alone =
+          never_hindered s old new memory alone held.chains (what_is_there held.chains) going.place (read_into undo) room next answer answers
 
       pub rest_beside : ChangesPairsAlone old new
       rest_beside = step_beside held.chains going.place s (read_into undo) room next old new answer answers
@@ -419,7 +422,8 @@ module _ (s : ℕ) {store : Store} (held : IsHeld store) where
           let one : was.schema ≡ now.schema = let there = was.tells.there in cc in
           let few : length (versions_before held.chains going.place) ≤ most_versions
           = omega (arith, older_fewer (versions_at going.place held.chains), held.short going.place, held.agrees.lists.small) in
-          let holds = subst (λ (x : Schema). StageHolds held.chains (what_is_there held.chains) going.place (read_into undo) x (rows_of old) room.newest.items room.stage) one
+          let holds = subst (λ (x : Schema).
+          StageHolds held.chains (what_is_there held.chains) going.place (read_into undo) x (rows_of old) room.newest.items room.stage) one
           (was.holds memory.told) in
           let less : left_at (length now.schema.keys) most_versions new.versions.kept_at next.stage < left_at (length now.schema.keys) most_versions
           new.versions.kept_at room.stage = ⊎_elim (λ fewer. left_nears (length now.schema.keys) most_versions new.versions.kept_at room.stage next.stage

@@ -90,7 +90,8 @@ quiet_shown schemas left later other quiet = absurd (cc)
 module _ {s : ℕ} {store : Store} {new : WorldState} (names : new.names ≡ store.world.names) (past : new.past ≡ store.world.past)
     (stays : (desk : Option Desk) → task_at new desk ≡ task_at store.world desk) (doing : Doing) (quiet : is_quiet_doing doing ≡ true)
     (within : s < length store.desks) where
-  turned : Turns s (shown store.world.schemas 0 doing) (lists_of store).state (lists_of (record store { world = new; desks = with_doing s doing store.desks })).state
+  turned : Turns s (shown store.world.schemas 0 doing) (lists_of store).state
+      (lists_of (record store { world = new; desks = with_doing s doing store.desks })).state
   turned =
       let now : Store = record store { world = new; desks = with_doing s doing store.desks } in
       record {

@@ -117,7 +117,8 @@ module _ {state : WorldState} (logs : LogsAgree state) {w : ℕ} {logged : Logge
       last_stands.tells
 
   -- the place at which keys are changed
-  pub keys_place : {chains : Chains} {change : KeysChange} (p : IsChangingKeys chains (what_is_there chains) state change) → place.table ≡ change.table
+  pub keys_place : {chains : Chains} {change : KeysChange}
+    (p : IsChangingKeys chains (what_is_there chains) state change) → place.table ≡ change.table
       → logged.undo.key ≡ change.key → place ≡ record { table = change.table; key = p.value }
   keys_place {change} p table_is key_is =
       let tells = last_tells in
@@ -246,7 +247,8 @@ module _ {chains : Chains} {store : Store} (agrees : Agrees chains store.world) 
       → ShowsRows schema scan state (in_table scan.table chains)
   shows_other undo room Nothing rows = shows_coded schema scan state chains told there columns le (rows told)
   shows_other undo room (Searching on) rows = shows_coded schema scan state chains told there columns le (rows told)
-  shows_other undo room (Changing (Record change key after)) rows = shows_coded schema scan state chains told there columns le (alone_rows w chains state change key after rows.0 told)
+  shows_other undo room (Changing (Record change key after)) rows =
+      shows_coded schema scan state chains told there columns le (alone_rows w chains state change key after rows.0 told)
   shows_other undo room (Changing (Keys change)) rows = shows_keys rows.0 rows.1
   shows_other undo room Lagging rows = shows_keys rows.changing rows.newest
   shows_other undo room Undoing rows = shows_back rows.last (lags_while chains rows.place undo room state rows.putting told)

@@ -265,7 +265,8 @@ pub goes_on : (s : ℕ) (chains : Chains) (old new : WorldState) (change : RowCh
     → GoesOnAgreed s chains old new change reached
 goes_on s chains old new (Record change key after) (Went (Record next key' after')) agrees alone p c told few =
     aside_agreed s old new c.0.0.aside chains (Record next key' after') agrees told c.0.1
-goes_on s chains old new (Record change key after) (Went (Keys next)) agrees alone p c told few = enters s chains old new change next p.0 c.0.0 told agrees alone few c.0.1
+goes_on s chains old new (Record change key after) (Went (Keys next)) agrees alone p c told few =
+    enters s chains old new change next p.0 c.0.0 told agrees alone few c.0.1
 goes_on s chains old new (Keys change) (Went (Record next key after)) agrees alone p c told few = absurd c.0
 goes_on s chains old new (Keys change) (Went (Keys next)) agrees alone p c told few = keys_agreed s chains old new c.0.stays agrees told (Keys next) c.0.holds
 goes_on s chains old new (Record change key after) Done agrees alone p c told few = absurd c
