@@ -20,7 +20,7 @@ use Rattle.row_changes.specs.{Told.HasRows, Rows.IsChangingRowAlone, declared.ke
 use Rattle.row_changes.specs.{declared.row_change.RowChange.TheVariants.Record, declared.row_change.RowChange.TheVariants.Keys}
 use Rattle.row_search.specs.{declared.sight.Sight.Sight, declared.sight.Sight.TheVariants.View, declared.sight.Sight.TheVariants.Newest}
 use Rattle.undo_apply.specs.{declared.work_room.WorkRoom.WorkRoom, Stages.IsPuttingBack}
-use Rattle.law_logged_changes.specs.{Pointers.PointersApart, Logs.LogsAgree}
+use Rattle.law_logged_changes.specs.Logs.{LogsAgree}
 use Rattle.desks.specs.{declared.desk.Desk.Desk, declared.desk.Doing.Doing, declared.desk.TableSearch.TableSearch, Store.Store, Desks.desk_at, Desks.doing_at}
 use Rattle.desks.specs.Desks.{started_at, is_quiet_doing, HasRooms}
 
@@ -39,7 +39,6 @@ pub record IsFresh (state : WorldState) : Type 0 where
   pub opened : (place : Place) → IsOpenedWith (get db.rows (in_model place)) (versions_at place chains)
   pub few_versions : AreFew chains state.past
   pub coded : HasRows chains state
-  pub apart : PointersApart state
   pub names : state.names ≡ []
   pub past : state.past ≡ Opened db ∷ []
   pub rows : state.rows ≡ rows_in db

@@ -65,14 +65,14 @@ module _ (chains : Chains) (state : WorldState) (agrees : Agrees chains state) (
       ∙ sym (newest_seen (in_table table chains key)))
 
 pub homes_of : (schema : Schema) (kept : ℕ → Option Kept) (pairs : List Pair) (chains : Chains) (table : ℕ) (sight : Sight)
-    → IsClustered schema kept pairs (in_table table chains)
+    → IsClustered table schema kept pairs (in_table table chains)
     → (value : Value) (row : List Value) → rows_seen sight (in_table table chains) value ≡ Some row → IsHome schema value row
-homes_of schema kept pairs chains table sight is value row seen = home schema kept pairs (in_table table chains) (sees_by sight) value row is seen
+homes_of schema kept pairs chains table sight is value row seen = home table schema kept pairs (in_table table chains) (sees_by sight) value row is seen
 
 -- ---- in a world
 
 module _ (chains : Chains) (state : WorldState) (table : ℕ) (schema : Schema) (kept : ℕ → Option Kept) (pairs : List Pair)
-    (agrees : Agrees chains state) (clustered : IsClustered schema kept pairs (in_table table chains)) where
+    (agrees : Agrees chains state) (clustered : IsClustered table schema kept pairs (in_table table chains)) where
   module _ (s n : ℕ) (session : Session) (work : Work) (view : Seen) (has : HasWork s session work state) (is : work.view ≡ Some view)
       (at : view_of s state.past ≡ Some n) where
     abbrev view_rows : Value → Option (List Value)

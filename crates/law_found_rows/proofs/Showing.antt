@@ -55,7 +55,7 @@ module _ (state : WorldState) (chains : Chains) (said : Said) (told : IsTold sta
           rising = clustered.rising;
           keys =
               subst (λ which. HaveKeys schema which (pairs_of state (clustered_index scan.table)) (rows_seen scan.sight (in_table scan.table chains))) (sym is)
-              (in_clustered schema state.versions.kept_at (pairs_of state (clustered_index scan.table)) (in_table scan.table chains) scan.sight clustered);
+              (in_clustered scan.table schema state.versions.kept_at (pairs_of state (clustered_index scan.table)) (in_table scan.table chains) scan.sight clustered);
         }
 
     -- a key tells of what the reader sees
@@ -78,7 +78,7 @@ module _ (state : WorldState) (chains : Chains) (said : Said) (told : IsTold sta
           rising = entries.rising;
           keys =
               subst (λ which. HaveKeys schema which (pairs_of state (key_index scan.table at)) (rows_seen scan.sight (in_table scan.table chains))) (sym is)
-              (in_keyed schema state.versions.kept_at (pairs_of state (clustered_index scan.table)) (pairs_of state (key_index scan.table at))
+              (in_keyed scan.table schema state.versions.kept_at (pairs_of state (clustered_index scan.table)) (pairs_of state (key_index scan.table at))
               (in_table scan.table chains) (said scan.table at) scan.sight at key clustered key_is entries tells);
         }
 

@@ -161,7 +161,8 @@ keeps true schemas pointer undo (Some kept) slots h above there fresh = record {
   version = kept.version;
   kept = h.version;
   fresh = λ told. fresh;
-  here = λ told. kept_filled slots pointer kept above there ∙ ap Some (ap (λ (bytes : List ℕ). record { version = kept.version; bytes = bytes }) h.bytes);
+  here = λ told. kept_filled slots pointer kept above there
+      ∙ (λ i. Some (record { table = h.table i; key = h.key i; version = kept.version; bytes = h.bytes i }));
   elsewhere = λ other another told. kept_elsewhere slots pointer other kept above another;
 }
 keeps false schemas pointer undo kept slots h above there fresh = rw h (record { told = λ told. told; kept = λ told. refl })
