@@ -1,9 +1,10 @@
 -- An undo record goes, and with it what it kept.
-use Rattle.store_api.specs.declared.answers.Version.{Version as Coded}
-use Rattle.law_logged_changes.specs.{Steps.IsToCut, Steps.HasCut, Logs.records_of, Logs.IsLogOf, Logs.IsAlone}
-use Rattle.law_logged_changes.specs.Pointers.{Reaches, IsNeededBy, AreApart, IsUnneeded, PointersApart}
-use Rattle.law_stored_rows.specs.{Records.IsCodeOf, Records.IsRecordWith, Edits.clustered_index, Tables.in_table, Tables.AreClustered, Tables.AreCoded}
-use Rattle.std.proofs.Common.{◌≡◌, ◌≢◌, ⊎_elim, ℕ, List, [], ◌∷◌, Option, Some, refl, sym, ap, subst, ◌∙◌, slice_get}
+use Rattle.law_logged_changes.specs.{Steps.IsToCut, Steps.HasCut, Steps.IsRowAgain, Logs.records_of, Logs.IsLogOf, Logs.IsAlone}
+use Rattle.law_stored_rows.specs.{Records.IsRecordWith, Records.LeadTo, Records.if_of, Records.kept_of}
+use Rattle.law_stored_rows.specs.{Edits.clustered_index, Tables.in_table, Tables.AreClustered, Tables.AreCodedAs, Tables.Said}
+use Rattle.law_stored_rows.specs.Tables.{what_is_there}
+use Rattle.law_stored_rows.proofs.{KeptRows.others_keep, RowRecords.record_still, RowRecords.one_lead, RowRecords.one_record}
+use Rattle.std.proofs.Common.{◌≡◌, ◌≢◌, ⊎_elim, inl, inr, ℕ, ◌<◌, List, [], ◌∷◌, length, Option, None, Some, refl, sym, ap, subst, ◌∙◌, slice_get, arith}
 use Rattle.std.specs.Prelude.{IsSome, IsTrue}
 use Rattle.std.specs.List.{AllByRecursion}
 use Rattle.std.proofs.lemmas.Bool.{cases_eq}
@@ -14,67 +15,33 @@ use Rattle.key_codec.specs.Keys.{key_code}
 use Rattle.entries.specs.Pairs.{Pair, value_of}
 use Rattle.row_versions.specs.{declared.kept.Kept.Kept, declared.version.Version.Version, Chains.Chains}
 use Rattle.world.specs.{State.WorldState, State.Session, State.Work, State.Logged, State.HasWork, Told.IsTold, Told.pairs_of, Undoing.IsCutBack}
-use Rattle.row_changes.specs.Told.{HasRows}
-use Rattle.row_changes.proofs.{Ids.one_work, Sessions.set_here, Sessions.set_other}
+use Rattle.row_changes.specs.Told.{HasRows, AreRowsAs}
+use Rattle.row_changes.proofs.{Ids.one_work, Sessions.one_found, Sessions.set_here, Sessions.set_other}
 use Rattle.law_logged_changes.proofs.{Leaving.same_schemas_grow, GoingOn.none_yet, Logs.all_of, Logs.all_mapped, Logs.Keeps, Logs.log_on}
-use Rattle.law_logged_changes.proofs.Needs.{leads_without, reached_with}
+use Rattle.law_logged_changes.proofs.Without.{here_or_not}
 
--- ---- rows without what none needs
+-- ---- a record without what its row has again
 
-module _ (schemas : List Schema) (pairs : ℕ → List Pair) (kept now : ℕ → Option Kept) (gone : ℕ)
-    (same : (pointer : ℕ) → pointer ≢ gone → now pointer ≡ kept pointer) (unneeded : IsUnneeded schemas pairs kept gone) where
-  -- the record of a row doesn't lead there
-  not_reached : (table : ℕ) (schema : Schema) (key bytes : List ℕ) (coded : Coded) → slice_get schemas table ≡ Some schema
-      → value_of key (pairs (clustered_index table)) ≡ Some bytes → IsCodeOf schema key bytes coded → (further : ℕ)
-      → Reaches kept coded.pointer further gone → ⊥
-  not_reached table schema key bytes coded there is code further reaches =
-      unneeded table (record
-      { schema = schema; there = there; key = key; bytes = bytes; coded = coded; record_is = is; code_is = code; further = further; reaches = reaches })
+module _ (schema : Schema) (key : List ℕ) (kept now : ℕ → Option Kept) (gone : ℕ) (same : (pointer : ℕ) → pointer ≢ gone → now pointer ≡ kept pointer) where
+  -- A pointer that leads to fewer versions than the one that goes leads there still.
+  leads_without : (all : List Version) → LeadTo schema key kept gone all → (from : ℕ) (versions : List Version) → length versions < length all
+      → LeadTo schema key kept from versions → LeadTo schema key now from versions
+  leads_without all cut from [] less leads = leads
+  leads_without all cut from (version ∷ older) less leads =
+      let differs : from ≢ gone = λ e.
+      let also = subst (λ (p : ℕ). LeadTo schema key kept p (version ∷ older)) e leads in
+      absurd (omega (arith, less, ap length (one_lead schema key kept gone (version ∷ older) all also cut))) in (
+        leads.0,
+        record { leads = leads.1.leads; there = same from differs ∙ leads.1.there; code_is = leads.1.code_is; shown_is = leads.1.shown_is },
+        leads_without all cut leads.0.version.pointer older (omega (arith, less)) leads.2,
+      )
 
-  record_without : (table : ℕ) (schema : Schema) (key : List ℕ) (found : Option (List ℕ)) (versions : List Version) → slice_get schemas table ≡ Some schema
-      → value_of key (pairs (clustered_index table)) ≡ found → IsRecordWith schema key kept found versions → IsRecordWith schema key now found versions
-  record_without table schema key (Some bytes) (version ∷ older) there is (coded, code, shown_is, leads) = (
-    coded,
-    code,
-    shown_is,
-    leads_without schema key kept now gone coded.pointer older same (not_reached table schema key bytes coded there is code) leads,
-  )
-  record_without table schema key found versions there is record_is = record_is
-
-  clustered_without : (chains : Chains) → AreClustered schemas pairs kept chains → AreClustered schemas pairs now chains
-  clustered_without chains are = record {
-    tables = λ table schema there. let is = are.tables table schema there in record {
-      primary = is.primary;
-      primary_is = is.primary_is;
-      rising = is.rising;
-      keys = is.keys;
-      records =
-          λ value has. record_without table schema (key_code is.primary.kind value)
-          (value_of (key_code is.primary.kind value) (pairs (clustered_index table))) (in_table table chains value) there refl (is.records value has);
-      nowhere_else = is.nowhere_else;
-    };
-    nowhere_else = are.nowhere_else;
-  }
-
-  pub coded_without : (chains : Chains) → AreCoded schemas pairs kept chains → AreCoded schemas pairs now chains
-  coded_without chains are = record { clustered = clustered_without chains are.clustered; keyed = are.keyed }
-
-  needed_with : (table pointer : ℕ) → IsNeededBy schemas pairs now table pointer → IsNeededBy schemas pairs kept table pointer
-  needed_with table pointer needed = record {
-    schema = needed.schema;
-    there = needed.there;
-    key = needed.key;
-    bytes = needed.bytes;
-    coded = needed.coded;
-    record_is = needed.record_is;
-    code_is = needed.code_is;
-    further = needed.further;
-    reaches = reached_with kept now gone needed.coded.pointer needed.further pointer same
-        (not_reached table needed.schema needed.key needed.bytes needed.coded needed.there needed.record_is needed.code_is) needed.reaches;
-  }
-
-  pub apart_without : AreApart schemas pairs kept → AreApart schemas pairs now
-  apart_without apart table other pointer first second = apart table other pointer (needed_with table pointer first) (needed_with other pointer second)
+  record_without : (found : Option (List ℕ)) (versions : List Version) → LeadTo schema key kept gone versions → IsRecordWith schema key kept found versions
+      → IsRecordWith schema key now found versions
+  record_without (Some bytes) (version ∷ older) cut is =
+      (is.0, is.1, is.2, leads_without (version ∷ older) cut is.0.pointer older (omega arith) is.3)
+  record_without None [] cut is = tt
+  record_without found versions cut is = absurd is
 
 -- ---- the log without its newest record
 
@@ -136,21 +103,59 @@ module _ (s : ℕ) (old new : WorldState) (logged : Logged) (older : List Logged
       subst (λ (schemas : List Schema). P schemas (pairs_of new) new.versions.kept_at) (sym same_schemas)
       (subst (λ (pairs : ℕ → List Pair). P old.schemas pairs new.versions.kept_at) (sym same_pairs) holds)
 
-  pub rows_cut : (chains : Chains) → HasRows chains old → HasRows chains new
-  rows_cut chains rows told =
-      still (λ schemas pairs kept. AreCoded schemas pairs kept chains) told (⊎_elim
-      (λ first. subst (λ (kept : ℕ → Option Kept). AreCoded old.schemas (pairs_of old) kept chains) (sym (all_kept first told)) (rows (told_before told)))
-      (λ second. coded_without old.schemas (pairs_of old) old.versions.kept_at new.versions.kept_at logged.pointer (kept_elsewhere told)
-      (cut.may.unneeded (told_before told) second) chains (rows (told_before told)))
+  -- where the undo record keeps a version, only its own row had that, and has what was before
+  module _ (told : IsTold new) (again : IsRowAgain logged old) where
+    abbrev kept_then : ℕ → List ℕ → ℕ → Option Kept
+    kept_then table key = kept_of old.versions.kept_at table key
+
+    abbrev kept_now : ℕ → List ℕ → ℕ → Option Kept
+    kept_now table key = kept_of new.versions.kept_at table key
+
+    record_cut : (table : ℕ) (schema : Schema) (key : List ℕ) (versions : List Version) → slice_get old.schemas table ≡ Some schema
+        → IsRecordWith schema key (kept_then table key) (records_of old table key) versions
+        → IsRecordWith schema key (kept_now table key) (records_of old table key) versions
+    record_cut table schema key versions there is = elim (here_or_not logged.undo table key) [
+      | inl here ↦
+          let kept = kept_then logged.undo.table logged.undo.key in
+          let mine = rw (here.0, here.1) at is in
+          let one : again.schema ≡ schema = one_found again.schema schema again.there (rw here.0 at there) in
+          let leads = subst (λ (x : Schema). LeadTo x logged.undo.key kept logged.pointer (again.version ∷ again.older)) one again.leads in
+          let all = one_record schema logged.undo.key kept (records_of old logged.undo.table logged.undo.key) (again.version ∷ again.older) versions
+          (rw one at again.record_is) mine in
+          rw (here.0, here.1)
+          (record_without schema logged.undo.key kept (kept_now logged.undo.table logged.undo.key) logged.pointer
+          (λ pointer differs. ap (if_of logged.undo.table logged.undo.key) (kept_elsewhere told pointer differs))
+          (records_of old logged.undo.table logged.undo.key) versions (subst (LeadTo schema logged.undo.key kept logged.pointer) all leads) mine)
+      | inr apart ↦ record_still schema key (kept_then table key) (kept_now table key) (records_of old table key) versions
+          (others_keep old.versions.kept_at new.versions.kept_at logged.pointer logged.undo.table table logged.undo.key key again.leads.0
+          (kept_elsewhere told) again.leads.1.there apart) is
+    ]
+
+    clustered_cut : (chains : Chains) → AreClustered old.schemas (pairs_of old) old.versions.kept_at chains
+        → AreClustered old.schemas (pairs_of old) new.versions.kept_at chains
+    clustered_cut chains are = record {
+      tables = λ table schema there. let is = are.tables table schema there in record {
+        primary = is.primary;
+        primary_is = is.primary_is;
+        rising = is.rising;
+        keys = is.keys;
+        records = λ value has. record_cut table schema (key_code is.primary.kind value) (in_table table chains value) there (is.records value has);
+        nowhere_else = is.nowhere_else;
+      };
+      nowhere_else = are.nowhere_else;
+    }
+
+  -- whatever keys say
+  pub rows_as_cut : (chains : Chains) (said : Said) → (IsTold old → AreRowsAs chains said old) → IsTold new → AreRowsAs chains said new
+  rows_as_cut chains said rows told =
+      let was = rows (told_before told) in
+      still (λ schemas pairs kept. AreCodedAs schemas pairs kept chains said) told (⊎_elim
+      (λ first. subst (λ (kept : ℕ → Option Kept). AreCodedAs old.schemas (pairs_of old) kept chains said) (sym (all_kept first told)) was)
+      (λ second. record { clustered = clustered_cut told (cut.may.again (told_before told) second) chains was.clustered; keyed = was.keyed })
       cut.may.kind_is)
 
-  pub apart_cut : PointersApart new
-  apart_cut told =
-      still AreApart told (⊎_elim
-      (λ first. subst (λ (kept : ℕ → Option Kept). AreApart old.schemas (pairs_of old) kept) (sym (all_kept first told)) (cut.logs.apart (told_before told)))
-      (λ second. apart_without old.schemas (pairs_of old) old.versions.kept_at new.versions.kept_at logged.pointer (kept_elsewhere told)
-      (cut.may.unneeded (told_before told) second) (cut.logs.apart (told_before told)))
-      cut.may.kind_is)
+  pub rows_cut : (chains : Chains) → HasRows chains old → HasRows chains new
+  rows_cut chains rows = rows_as_cut chains (what_is_there chains) rows
 
   abbrev KeepsOn : Logged → Type 0
   KeepsOn =
@@ -195,6 +200,5 @@ module _ (s : ℕ) (old new : WorldState) (logged : Logged) (older : List Logged
             work_is = has.work_is;
           } in
           none_yet u work old new (alone u differs) (ap (own u) same_past ∙ alone u differs) (cut.logs.others u session work differs had);
-      apart = apart_cut;
     };
   }

@@ -1,6 +1,5 @@
 -- Steps that change no record leave logs as they are.
 use Rattle.law_logged_changes.specs.Logs.{RecordsAt, LogStands, records_of, IsLogOf, LogsAgree, LogsAgreeBut}
-use Rattle.law_logged_changes.specs.Pointers.{Reaches, IsNeededBy, PointersApart}
 use Rattle.law_logged_changes.specs.Steps.{LeavesRecords, LeavesLog, HasNoLog, LeavesLogs, OfAll, HasCut, MakesTable}
 use Rattle.law_stored_rows.specs.{Records.KeepsMore, Edits.clustered_index, Edits.key_index}
 use Rattle.row_versions.specs.{Versions.Stays, declared.kept.Kept.Kept}
@@ -65,24 +64,6 @@ log_left old new log changes leaves =
     log_over old new (records_of old) (records_of new) log changes leaves.told (same_schemas_grow old.schemas new.schemas leaves.schemas)
     (λ told table schema key there. ap (value_of key) (same_clustered old new leaves told table)) (stay_kept old new leaves.versions)
 
-pub needed_left : (old new : WorldState) (table pointer : ℕ) → LeavesRecords old new → IsTold new
-    → IsNeededBy new.schemas (pairs_of new) new.versions.kept_at table pointer → IsNeededBy old.schemas (pairs_of old) old.versions.kept_at table pointer
-needed_left old new table pointer leaves told needed = record {
-  schema = needed.schema;
-  there = ap (λ (s : List Schema). slice_get s table) (sym leaves.schemas) ∙ needed.there;
-  key = needed.key;
-  bytes = needed.bytes;
-  coded = needed.coded;
-  record_is = ap (value_of needed.key) (sym (same_clustered old new leaves told table)) ∙ needed.record_is;
-  code_is = needed.code_is;
-  further = needed.further;
-  reaches = subst (λ (kept : ℕ → Option Kept). Reaches kept needed.coded.pointer needed.further pointer) (leaves.versions.kept told.versions) needed.reaches;
-}
-
-pub apart_left : (old new : WorldState) → LeavesRecords old new → PointersApart old → PointersApart new
-apart_left old new leaves apart told table other pointer first second =
-    apart (leaves.told told) table other pointer (needed_left old new table pointer leaves told first) (needed_left old new other pointer leaves told second)
-
 -- ---- all logs
 
 log_kept : (u : ℕ) (session : Session) (work : Work) (old new : WorldState) → LeavesRecords old new
@@ -97,7 +78,6 @@ log_kept u session work old new leaves each (inr none) = subst (λ (changes : Li
 pub all_left : (old new : WorldState) → LeavesRecords old new → LeavesLogs OfAll old new → LogsAgree old → LogsAgree new
 all_left old new leaves logs agree = record {
   each = λ u session work has. log_kept u session work old new leaves (agree.each u) (logs u session work (record {}) has);
-  apart = apart_left old new leaves agree.apart;
 }
 
 pub but_left : (s : ℕ) (old new : WorldState) (log : List Logged) (changes : List Change) → LeavesRecords old new → LeavesLogs (λ u. u ≢ s) old new
@@ -105,7 +85,6 @@ pub but_left : (s : ℕ) (old new : WorldState) (log : List Logged) (changes : L
 but_left s old new log changes leaves logs agree = record {
   mine = log_left old new log changes leaves agree.mine;
   others = λ u session work differs has. log_kept u session work old new leaves (λ x w had. agree.others u x w differs had) (logs u session work differs has);
-  apart = apart_left old new leaves agree.apart;
 }
 
 pub aside_left : (s : ℕ) (old new : WorldState) → StepsAside s old new → LogsAgree old → LogsAgree new
@@ -157,7 +136,6 @@ all_again s state log changes agree own_is log_is = record {
       (λ same. subst (λ (t : ℕ). IsLogOf state work.log (own t state.past)) (sym same)
       (subst (λ (l : List Logged). IsLogOf state l (own s state.past)) (sym (log_is session work (subst (λ (t : ℕ). HasWork t session work state) same has)))
       (subst (λ (c : List Change). IsLogOf state log c) (sym own_is) agree.mine))) (λ differs. agree.others u session work differs has) (cases_eq u s);
-  apart = agree.apart;
 }
 
 pub cut_again : (s : ℕ) (log : List Logged) (before : List Change) (state : WorldState) → HasCut s log before state → own s state.past ≡ before

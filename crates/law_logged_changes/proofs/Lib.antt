@@ -2,7 +2,7 @@ pub mod Logs
 pub mod Leaving
 pub mod Lags
 pub mod Beginning
-pub mod Needs
+pub mod Without
 pub mod GoingOn
 pub mod TakenBack
 pub mod Cutting

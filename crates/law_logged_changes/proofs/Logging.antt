@@ -1,9 +1,9 @@
 -- The step that puts a version logs it.
 use Rattle.row_changes.proofs.{Ids.one_work, Sessions.one_session, Sessions.one_found, Changing.key_short, Changing.value_short}
-use Rattle.row_changes.proofs.Pushed.{kept_over, kept_code, kept_more, key_at, code_of_edit, plain, none_of, written_pointer, small_id}
+use Rattle.row_changes.proofs.Pushed.{kept_over, kept_more, key_at, code_of_edit, plain, none_of, written_pointer, small_id}
 use Rattle.row_changes.proofs.Telling.{pairs_told, puts_pairs, tells}
 use Rattle.law_logged_changes.proofs.{Leaving.stay_kept, Leaving.log_over, Leaving.same_schemas_grow, Logs.all_mapped, Logs.one_more, GoingOn.none_yet}
-use Rattle.law_logged_changes.proofs.{Entering.place_there, Needs.taken_here, Needs.taken_elsewhere, Needs.here_or_not, Needs.put_elsewhere, Needs.apart_now}
+use Rattle.law_logged_changes.proofs.{Entering.place_there, Without.taken_here, Without.taken_elsewhere, Without.here_or_not, Without.put_elsewhere}
 use Rattle.std.proofs.Common.{◌≡◌, ◌≢◌, inl, inr, ⊎_elim, ℕ, ◌^◌, ◌<◌, true, false, List, [], ◌∷◌, Option, Some, None, refl, sym, ap, subst, ◌∙◌, arith}
 use Rattle.std.proofs.Common.{slice_get}
 use Rattle.std.specs.Prelude.{◌==◌, is_some}
@@ -26,7 +26,7 @@ use Rattle.row_changes.specs.{Records.RecordsEdit, Records.PutsFirst, Records.Pu
 use Rattle.row_changes.specs.Edits.{change_of, rows_put, version_by}
 use Rattle.undo_apply.specs.Standing.{TellsOf, LeadsBack, was_before}
 use Rattle.undo_apply.proofs.Columns.{before_new, before_kept}
-use Rattle.law_logged_changes.specs.{Pointers.AreApart, Pointers.PointersApart, Steps.HasLogged}
+use Rattle.law_logged_changes.specs.Steps.{HasLogged}
 use Rattle.law_logged_changes.specs.Logs.{RecordsAt, records_of, taken_back, Stands, LogStands, IsLogOf, LogsAgree, IsAlone}
 use Rattle.row_changes.specs.declared.record_change.RecordReached.TheVariants as records
 
@@ -66,8 +66,6 @@ pub record IsLogging (s : ℕ) (old new : WorldState) (change : RecordChange) (s
   pub pointer_is : kind ≡ 2 → coded.pointer ≡ rows.work.session.next_pointer
   pub more : IsTold new → KeepsMore old.versions.kept_at new.versions.kept_at
   pub fresh : IsTold new → kind ≡ 2 → old.versions.kept_at rows.work.session.next_pointer ≡ None
-  pub former_code : IsTold new → kind ≡ 2 → (former : Kept) → new.versions.kept_at coded.pointer ≡ Some former
-      → IsCodeOf schema change.key former.bytes former.version
   pub told : IsTold new → IsTold old
 
 module _ (s : ℕ) (chains : Chains) (old new : WorldState) (change : RecordChange) (p : IsChangingRecord s old change) (rows : HasRows chains old) (kind : ℕ)
@@ -171,22 +169,6 @@ module _ (s : ℕ) (chains : Chains) (old new : WorldState) (change : RecordChan
     log_is =
         is.rows.work.changed.log ∙ ap (λ (w : Work). logged ∷ w.log) (one_work s is.rows.work.session session is.rows.work.work work old is.rows.work.had has)
 
-  -- ---- what rows need
-
-  pub apart_logged : PointersApart old → PointersApart new
-  apart_logged apart told =
-      subst (λ (schemas : List Schema). AreApart schemas (pairs_of new) new.versions.kept_at) (sym same_schemas)
-      (apart_now undo old.schemas p.schema new.versions.kept_at (pairs_of new) (pairs_of old) coded (record {
-        there = p.table.there;
-        bytes = bytes;
-        record_is = record_now told;
-        code_is = is.code_is;
-        before = is.leads told;
-        without = records_before told;
-      })
-      chains old.versions.kept_at (clustered told) (is.more told) (is.former_code told)
-      (λ two. ap old.versions.kept_at (is.pointer_is two) ∙ is.fresh told two) (apart (is.told told)))
-
   -- ---- all logs
 
   pub all_logged : IsAlone s old → LogsAgree old → LogsAgree new
@@ -200,7 +182,6 @@ module _ (s : ℕ) (chains : Chains) (old new : WorldState) (change : RecordChan
         (λ differs.
         let had : HasWork u session work old = record { session_is = sym (is.rows.work.others u differs) ∙ has.session_is; work_is = has.work_is } in
         none_yet u work old new (alone u differs) (others_own u differs) (agree.each u session work had)) (cases_eq u s);
-    apart = apart_logged agree.apart;
   } where
     others_own : (u : ℕ) → u ≢ s → own u new.past ≡ []
     others_own u differs =
@@ -231,7 +212,6 @@ module _ (s : ℕ) (old new : WorldState) (change : RecordChange) (p : IsChangin
     pointer_is = λ two. absurd (omega (arith, two));
     more = stay_kept old new kept;
     fresh = λ told two. absurd (omega (arith, two));
-    former_code = λ told two. absurd (omega (arith, two));
     told =
         λ told. record {
           pairs = pairs_told (clustered_index change.table) change.key (Some (version_code p.schema (version_by change.edit [] writer 0))) old
@@ -266,7 +246,7 @@ module _ (s : ℕ) (old new : WorldState) (change : RecordChange) (p : IsChangin
     leads = λ told. inr (
       refl,
       subst (λ (pointer : ℕ). pointer ≢ 0) (sym pointer) o.leads,
-      record { version = (kept_over p o).version; bytes = o.bytes },
+      record { table = change.table; key = change.key; version = (kept_over p o).version; bytes = o.bytes },
       ap new.versions.kept_at pointer ∙ (kept_over p o).here told.versions,
       refl,
     );
@@ -274,12 +254,6 @@ module _ (s : ℕ) (old new : WorldState) (change : RecordChange) (p : IsChangin
     more = λ told.
         kept_more old.schemas o.session.next_pointer (undo_of_former change.table change.key o.bytes) old.versions new.versions (kept_over p o) told.versions;
     fresh = λ told two. ap (λ (x : Session). old.versions.kept_at x.next_pointer) one ∙ (kept_over p o).fresh told.versions;
-    former_code = λ told two found is.
-        let here : new.versions.kept_at (version_by change.edit former.row writer o.session.next_pointer).pointer ≡ Some
-        (record { version = (kept_over p o).version; bytes = o.bytes }) = ap new.versions.kept_at pointer ∙ (kept_over p o).here told.versions in
-        let same : record { version = (kept_over p o).version; bytes = o.bytes } ≡ found =
-        one_found (record { version = (kept_over p o).version; bytes = o.bytes }) found here is in
-        subst (λ (k : Kept). IsCodeOf p.schema change.key k.bytes k.version) same (kept_code p o);
     told = λ told. record {
       pairs =
           pairs_told (clustered_index change.table) change.key
@@ -317,12 +291,6 @@ pub change_logged : (s : ℕ) (chains : Chains) (old new : WorldState) (change :
 change_logged s chains old new change key before after session work p h has stands =
     logging s old new change p.0 (HasLogged s change work.log old new)
     (λ kind value bytes coded is. has_logged s chains old new change p.0 p.1 kind value bytes coded is session work has stands) before h
-
-pub change_apart : (s : ℕ) (chains : Chains) (old new : WorldState) (change : RecordChange) (key : List ℕ) (before after : Option (List Value))
-    → IsChangingRow s chains old (Record change key after) → ChangesRecord s old new change (records.Recorded before) → PointersApart old → PointersApart new
-change_apart s chains old new change key before after p h apart =
-    logging s old new change p.0 (PointersApart new)
-    (λ kind value bytes coded is. apart_logged s chains old new change p.0 p.1 kind value bytes coded is apart) before h
 
 pub change_all : (s : ℕ) (chains : Chains) (old new : WorldState) (change : RecordChange) (key : List ℕ) (before after : Option (List Value))
     → IsChangingRow s chains old (Record change key after) → ChangesRecord s old new change (records.Recorded before)

@@ -9,7 +9,7 @@ use Rattle.law_stored_rows.specs.{Edits.clustered_index, Tables.Said, Tables.wha
 use Rattle.world.specs.{State.WorldState, State.HasWork, State.IsIndex, Told.IsTold, Told.LeavesRows}
 use Rattle.law_world_agreement.specs.Agreement.{Agrees}
 use Rattle.row_changes.specs.{declared.entry_put.PutPhase.PutPhase, declared.keys_change.KeysChange.KeysChange, declared.row_change.RowChange.RowChange}
-use Rattle.row_changes.specs.{Entries.PutPhaseHolds, declared.record_change.RecordChange.RecordChange, declared.record_change.RecordStage.TheVariants.Insert}
+use Rattle.row_changes.specs.{Entries.PutPhaseHolds, declared.record_change.RecordChange.RecordChange}
 use Rattle.row_changes.specs.{declared.entry_put.EntryPut.EntryPut, Told.HasRows, Told.AreRowsAs, Rows.IsChangingRow, Records.IsChangingRecord}
 use Rattle.row_changes.specs.Keys.{IsChangingKeys, said_next, HasRowsSoFar, IsEntering}
 use Rattle.row_changes.specs.declared.row_change.RowChange.TheVariants.{Keys, Record}

@@ -1,24 +1,28 @@
 -- A change that is taken back leaves the log of the older changes.
 use Rattle.law_logged_changes.proofs.{Leaving.log_over, Leaving.same_schemas_grow, Logs.newest_stands, Lags.at_stage, Lags.clustered_while}
-use Rattle.law_logged_changes.proofs.Beginning.{top, tells_of_it, way_settled, newest_is}
-use Rattle.law_logged_changes.proofs.Needs.{taken_here, taken_elsewhere, here_or_not, StandsIn, put_elsewhere, apart_without, unneeded_without}
+use Rattle.law_logged_changes.proofs.Beginning.{top, tells_of_it, way_settled}
+use Rattle.law_logged_changes.proofs.Without.{taken_here, taken_elsewhere, here_or_not, put_elsewhere}
 use Rattle.law_logged_changes.proofs.GoingOn.{work_beside, work_again, own_beside, none_yet, done_beside}
-use Rattle.std.proofs.Common.{◌≡◌, ◌≢◌, ◌⊎◌, inl, inr, ⊎_elim, ℕ, List, ◌∷◌, Option, Some, sym, ap, subst, ◌∙◌, arith}
+use Rattle.std.proofs.Common.{◌≡◌, ◌≢◌, ◌⊎◌, inl, inr, ⊎_elim, ℕ, List, ◌∷◌, Option, Some, sym, ap, subst, ◌∙◌, arith, slice_get}
 use Rattle.inno_types.specs.declared.value.Schema.{Schema}
 use Rattle.inno_db.specs.declared.change.Change.{Change}
 use Rattle.inno_model.specs.Past.{own}
 use Rattle.store_api.specs.declared.answers.Undo.{Undo}
 use Rattle.entries.specs.Pairs.{Pair, value_of}
-use Rattle.row_versions.specs.{declared.kept.Kept.Kept, declared.place.Place.Place, Chains.Chains, Chains.Pops}
-use Rattle.law_stored_rows.specs.{Edits.clustered_index, Edits.Puts, Records.LeadTo, Tables.AreClustered}
+use Rattle.inno_db.specs.Database.{key_of}
+use Rattle.row_versions.specs.{declared.kept.Kept.Kept, declared.place.Place.Place, declared.version.Version.Version, Chains.Chains, Chains.Pops}
+use Rattle.row_versions.specs.Chains.{older as behind}
+use Rattle.law_stored_rows.specs.{Edits.clustered_index, Edits.Puts, Records.shown, Records.kept_of, Records.LeadTo, Records.IsRecordWith}
+use Rattle.law_stored_rows.specs.Tables.{in_table}
+use Rattle.law_stored_rows.proofs.{FromTables.decoded, KeptRows.kept_along, RowRecords.pointer_followed, RowRecords.record_back}
 use Rattle.law_past_agreement.specs.Rows.{place_in}
 use Rattle.world.specs.{State.WorldState, State.Session, State.Work, State.Logged, State.HasWork, Told.IsTold, Told.pairs_of}
 use Rattle.row_changes.specs.Told.{HasRows}
 use Rattle.row_changes.proofs.Telling.{stays_told, same_pairs_of, put_told, put_pairs}
 use Rattle.undo_apply.specs.{declared.work_room.WorkRoom.WorkRoom, Told.rows_of, Stages.IsPuttingBack, Stages.IsDone}
 use Rattle.undo_apply.specs.Standing.{TellsOf, LeadsBack, was_before, versions_before, IsLagging, IsTakenBack}
-use Rattle.undo_apply.proofs.{Taken.stands, Columns.newest_read}
-use Rattle.law_logged_changes.specs.{Pointers.AreApart, Pointers.IsUnneeded, Steps.ChangesPairsAlone, Steps.IsToCut}
+use Rattle.undo_apply.proofs.{Taken.stands, Columns.before_kept}
+use Rattle.law_logged_changes.specs.Steps.{ChangesPairsAlone, IsToCut, IsRowAgain}
 use Rattle.law_logged_changes.specs.Logs.{records_of, taken_back, HasRecord, Stands, IsLogOf, LogsAgree, IsAlone}
 
 module _ (chains after : Chains) (old new : WorldState) (logged : Logged) (older : List Logged) (change : Change) (before : List Change) (place : Place)
@@ -79,43 +83,44 @@ module _ (chains after : Chains) (old new : WorldState) (logged : Logged) (older
       (λ told pointer found is. ap (λ (kept : ℕ → Option Kept). kept pointer) (same_kept told) ∙ is)
       (newest_stands (IsTold old) old.schemas (records_of old) old.versions.kept_at logged older change before place place_is log_is).1
 
-  -- ---- what no row needs then
+  -- ---- what the undo record keeps, the row has again
 
   module _ (told : IsTold new) where
     has : HasRecord newest.schema (records_of old) old.versions.kept_at logged
     has = newest.record_is (told_before told)
 
-    stands_in : StandsIn undo old.schemas newest.schema old.versions.kept_at (pairs_of old) (pairs_of new) has.coded
-    stands_in =
-        record { there = tells.there; bytes = has.bytes; record_is = has.there; code_is = has.code_is; before = has.before; without = records_then told }
+    abbrev kept : ℕ → Option Kept
+    kept = kept_of old.versions.kept_at undo.table undo.key
 
-    clustered : AreClustered old.schemas (pairs_of old) old.versions.kept_at chains
-    clustered = clustered_while chains place undo room old back (told_before told)
+    abbrev former_ones : List Version
+    former_ones = behind (in_table undo.table chains (key_of newest.schema has.coded.row))
 
-    leads : LeadTo newest.schema undo.key old.versions.kept_at has.coded.pointer (versions_before chains place)
+    leads : LeadTo newest.schema undo.key kept has.coded.pointer former_ones
     leads =
-        (newest_read undo newest.schema place old.schemas tells (pairs_of old) old.versions.kept_at chains has.bytes has.coded clustered
-        (newest_is chains old logged place newest.schema tells has)).1
+        (decoded old.schemas (pairs_of old) old.versions.kept_at chains undo.table newest.schema undo.key has.bytes has.coded
+        (clustered_while chains place undo room old back (told_before told)) tells.there has.there has.code_is).1
 
-    apart_in : AreApart old.schemas (pairs_of old) old.versions.kept_at → AreApart new.schemas (pairs_of new) new.versions.kept_at
-    apart_in apart =
-        subst (λ (schemas : List Schema). AreApart schemas (pairs_of new) new.versions.kept_at) (sym same_schemas)
-        (subst (λ (kept : ℕ → Option Kept). AreApart old.schemas (pairs_of new) kept) (sym (same_kept told))
-        (apart_without undo old.schemas newest.schema old.versions.kept_at (pairs_of old) (pairs_of new) has.coded stands_in (versions_before chains place)
-        leads apart))
-
-    some_pointer : undo.kind ≡ 2 → LeadsBack undo old.versions.kept_at has.coded.pointer → has.coded.pointer ≢ 0
-    some_pointer kind (inl new_row) = absurd (omega (arith, kind, new_row.0))
-    some_pointer kind (inr (k, some, former, keeps, bytes)) = some
-
-    unneeded_in : undo.kind ≡ 2 → AreApart old.schemas (pairs_of old) old.versions.kept_at
-        → IsUnneeded new.schemas (pairs_of new) new.versions.kept_at logged.pointer
-    unneeded_in kind apart =
-        subst (λ (pointer : ℕ). IsUnneeded new.schemas (pairs_of new) new.versions.kept_at pointer) (has.pointer_is kind)
-        (subst (λ (schemas : List Schema). IsUnneeded schemas (pairs_of new) new.versions.kept_at has.coded.pointer) (sym same_schemas)
-        (subst (λ (kept : ℕ → Option Kept). IsUnneeded old.schemas (pairs_of new) kept has.coded.pointer) (sym (same_kept told))
-        (unneeded_without undo old.schemas newest.schema old.versions.kept_at (pairs_of old) (pairs_of new) has.coded stands_in chains
-        (versions_before chains place) clustered leads (some_pointer kind has.before) apart)))
+    again_from : undo.kind ≡ 2 → LeadsBack undo old.versions.kept_at has.coded.pointer → IsRowAgain logged new
+    again_from kind (inl new_row) = absurd (omega (arith, kind, new_row.0))
+    again_from kind (inr (k, some, former, keeps, bytes)) =
+        let there = kept_along old.versions.kept_at undo.table undo.key newest.schema has.coded.pointer former_ones former leads some keeps in
+        let read = pointer_followed newest.schema undo.key kept has.coded.pointer former_ones former leads some there in
+        let found : records_of new undo.table undo.key ≡ Some former.bytes = (taken told).there ∙ before_kept undo kind ∙ ap Some (sym bytes) in
+        let all = shown former.version ∷ behind former_ones in
+        let again = record_back newest.schema undo.key kept has.coded.pointer former former_ones leads some there in
+        record {
+          schema = newest.schema;
+          there = ap (λ (schemas : List Schema). slice_get schemas undo.table) same_schemas ∙ tells.there;
+          version = shown former.version;
+          older = behind former_ones;
+          leads = subst (λ (p : ℕ). LeadTo newest.schema undo.key (kept_of new.versions.kept_at undo.table undo.key) p all) (has.pointer_is kind)
+              (subst (λ (k : ℕ → Option Kept). LeadTo newest.schema undo.key (kept_of k undo.table undo.key) has.coded.pointer all) (sym (same_kept told))
+              (subst (LeadTo newest.schema undo.key kept has.coded.pointer) read.1 leads));
+          record_is =
+              subst (λ (k : ℕ → Option Kept). IsRecordWith newest.schema undo.key (kept_of k undo.table undo.key) (records_of new undo.table undo.key) all)
+              (sym (same_kept told)) (subst (λ (o : Option (List ℕ)). IsRecordWith newest.schema undo.key kept o all) (sym found)
+              (subst (IsRecordWith newest.schema undo.key kept (Some former.bytes)) read.1 again));
+        }
 
   kinds : (undo.kind ≡ 1) ⊎ (undo.kind ≡ 2)
   kinds = ⊎_elim (λ first. inl first.0) (λ second. inr second.0) tells.undo_is.kept
@@ -129,7 +134,7 @@ module _ (chains after : Chains) (old new : WorldState) (logged : Logged) (older
     log_is = is;
     may = record {
       kind_is = kinds;
-      unneeded = λ told kind. unneeded_in told kind (agree.apart (told_before told));
+      again = λ told kind. again_from told kind (has told).before;
       elsewhere = λ told. newest.elsewhere (told_before told);
     };
     logs = record {
@@ -137,7 +142,6 @@ module _ (chains after : Chains) (old new : WorldState) (logged : Logged) (older
       others =
           λ u x w differs h. none_yet u w old new (alone u differs) (own_beside u old new rest ∙ alone u differs)
           (agree.each u x w (work_beside u x w old new rest h));
-      apart = λ told. apart_in told (agree.apart (told_before told));
     };
   } where
     rest : ChangesPairsAlone old new

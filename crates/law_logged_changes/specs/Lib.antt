@@ -1,4 +1,3 @@
-pub mod Pointers
 pub mod Logs
 pub mod Steps
 pub mod Lagging

@@ -14,7 +14,6 @@ use Rattle.law_stored_rows.specs.{Edits.clustered_index, Records.IsCodeOf}
 use Rattle.law_past_agreement.specs.Rows.{place_in}
 use Rattle.world.specs.{State.WorldState, State.Session, State.Work, State.Logged, State.HasWork, Told.IsTold, Told.pairs_of}
 use Rattle.undo_apply.specs.Standing.{TellsOf, LeadsBack, was_before}
-use Rattle.law_logged_changes.specs.Pointers.{PointersApart}
 
 -- by table and key the bytes of the clustered record
 abbrev pub RecordsAt : Type 0
@@ -65,14 +64,12 @@ IsLogOf state log own = LogStands (IsTold state) state.schemas (records_of state
 -- The log of each session is that of the changes that the history has of it.
 pub record LogsAgree (state : WorldState) : Type 0 where
   pub each : (s : ℕ) (session : Session) (work : Work) → HasWork s session work state → IsLogOf state work.log (own s state.past)
-  pub apart : PointersApart state
 
 -- The same of all sessions but one, of which this is the log, and these are its changes. Between the steps by which a change
 -- is taken back the history may have one more, or the log.
 pub record LogsAgreeBut (s : ℕ) (log : List Logged) (changes : List Change) (state : WorldState) : Type 0 where
   pub mine : IsLogOf state log changes
   pub others : (u : ℕ) (session : Session) (work : Work) → u ≢ s → HasWork u session work state → IsLogOf state work.log (own u state.past)
-  pub apart : PointersApart state
 
 -- no other session has changes
 abbrev pub IsAlone : ℕ → WorldState → Type 0

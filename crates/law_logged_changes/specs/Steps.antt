@@ -1,14 +1,14 @@
 -- What the steps of changes and of their taking back make of logs.
-use Rattle.std.specs.Prelude.{◌≡◌, ◌⊎◌, ℕ, ◌<◌, List, [], ◌∷◌, ◌++◌, length}
+use Rattle.std.specs.Prelude.{◌≡◌, ◌⊎◌, ℕ, ◌<◌, List, [], ◌∷◌, ◌++◌, length, slice_get, Some}
 use Rattle.inno_types.specs.declared.value.Schema.{Schema}
 use Rattle.inno_db.specs.declared.change.Change.{Change}
 use Rattle.inno_model.specs.Past.{own}
 use Rattle.entries.specs.Index.{AreKept}
-use Rattle.row_versions.specs.Versions.{Stays}
-use Rattle.law_stored_rows.specs.Edits.{clustered_index}
-use Rattle.world.specs.{State.WorldState, State.Session, State.Work, State.Logged, State.HasWork, Told.IsTold, Told.pairs_of}
+use Rattle.row_versions.specs.{Versions.Stays, declared.version.Version.Version}
+use Rattle.law_stored_rows.specs.{Edits.clustered_index, Records.kept_of, Records.LeadTo, Records.IsRecordWith}
+use Rattle.world.specs.{State.WorldState, State.Session, State.Work, State.Logged, State.HasWork, Told.IsTold}
 use Rattle.row_changes.specs.{declared.record_change.RecordChange.RecordChange, Edits.change_of}
-use Rattle.law_logged_changes.specs.{Pointers.IsUnneeded, Logs.KeepElsewhere, Logs.IsLogOf, Logs.LogsAgreeBut}
+use Rattle.law_logged_changes.specs.Logs.{KeepElsewhere, IsLogOf, LogsAgreeBut, records_of}
 
 -- ---- a change is made
 
@@ -59,10 +59,20 @@ ChangesPairsAlone old new = new ≡ record old { indexes = new.indexes; versions
 
 -- ---- a change is taken back
 
--- No row needs what the undo record keeps, and no older record keeps its version there.
+-- The undo record's pointer leads to the versions that the record of its row has again.
+pub record IsRowAgain (logged : Logged) (state : WorldState) : Type 0 where
+  pub schema : Schema
+  pub there : slice_get state.schemas logged.undo.table ≡ Some schema
+  pub version : Version
+  pub older : List Version
+  pub leads : LeadTo schema logged.undo.key (kept_of state.versions.kept_at logged.undo.table logged.undo.key) logged.pointer (version ∷ older)
+  pub record_is : IsRecordWith schema logged.undo.key (kept_of state.versions.kept_at logged.undo.table logged.undo.key)
+      (records_of state logged.undo.table logged.undo.key) (version ∷ older)
+
+-- The row doesn't need what the undo record keeps, and no older record keeps its version there.
 pub record MayBeCut (logged : Logged) (log : List Logged) (state : WorldState) : Type 0 where
   pub kind_is : (logged.undo.kind ≡ 1) ⊎ (logged.undo.kind ≡ 2)
-  pub unneeded : IsTold state → logged.undo.kind ≡ 2 → IsUnneeded state.schemas (pairs_of state) state.versions.kept_at logged.pointer
+  pub again : IsTold state → logged.undo.kind ≡ 2 → IsRowAgain logged state
   pub elsewhere : IsTold state → KeepElsewhere logged log
 
 -- The newest change of the session is taken back. Its undo record is there yet, on top of this log, and it may go.

@@ -9,7 +9,7 @@ use Rattle.store_api.specs.declared.answers.Version.{Version as Coded}
 use Rattle.key_codec.specs.Keys.{key_code}
 use Rattle.entries.specs.Pairs.{Pair, value_of}
 use Rattle.row_versions.specs.{declared.kept.Kept.Kept, declared.version.Version.Version}
-use Rattle.law_stored_rows.specs.Records.{row_shown, shown, IsCodeOf, LeadTo, IsRecordWith, IsClustered, IsRowAt}
+use Rattle.law_stored_rows.specs.Records.{row_shown, shown, IsCodeOf, LeadTo, IsRecordWith, IsClustered, IsRowAt, kept_of}
 use Rattle.law_stored_rows.proofs.{Values.key_there, Values.one_key, RowRecords.nothing_or_there}
 
 -- it holds of the version's row, if there is one
@@ -34,9 +34,10 @@ module _ (schema : Schema) (key : List ℕ) (kept : ℕ → Option Kept) (P : Li
   of_record None (version ∷ versions) is = absurd is
   of_record (Some bytes) (version ∷ versions) is = (of_shown bytes is.0 version is.1 is.2, of_led is.0.pointer versions is.3)
 
-pub rows_at_home : (schema : Schema) (kept : ℕ → Option Kept) (pairs : List Pair) (rows : Value → List Version) → IsClustered schema kept pairs rows
+pub rows_at_home : (table : ℕ) (schema : Schema) (kept : ℕ → Option Kept) (pairs : List Pair) (rows : Value → List Version)
+    → IsClustered table schema kept pairs rows
     → (value : Value) → All (λ version. IfSome version.row (IsRowAt schema value)) (rows value)
-rows_at_home schema kept pairs rows is value = All-from_recursion (Shows (IsRowAt schema value)) (rows value) (elim (nothing_or_there is value) [
+rows_at_home table schema kept pairs rows is value = All-from_recursion (Shows (IsRowAt schema value)) (rows value) (elim (nothing_or_there is value) [
   | inl none ↦ rw none tt
   | inr found ↦
       let code = key_code is.primary.kind value in
@@ -45,5 +46,5 @@ rows_at_home schema kept pairs rows is value = All-from_recursion (Shows (IsRowA
       let both = key_there schema code bytes coded is.primary is.primary_is coded_is in
       let one = one_key is.primary.kind (key_of schema coded.row) value both.0 found.0 (sym both.1) in
       record { fits = coded_is.record_is.fits; bits = coded_is.numbers.row; key_is = one } in
-      of_record schema code kept (IsRowAt schema value) at_home (value_of code pairs) (rows value) (is.records value found.0)
+      of_record schema code (kept_of kept table code) (IsRowAt schema value) at_home (value_of code pairs) (rows value) (is.records value found.0)
 ])

@@ -1,5 +1,6 @@
 pub mod Values
 pub mod Pairs
+pub mod KeptRows
 pub mod RowRecords
 pub mod Entries
 pub mod Tables

@@ -29,7 +29,7 @@ module _ (schemas : List Schema) (schema : Schema) (indexes : ℕ → List Pair)
   none_there : (value : Value) → in_table (length schemas) chains value ≡ []
   none_there value = is.clustered.nowhere_else (length schemas) value (slice_get_past schemas (length schemas) (omega arith))
 
-  no_rows_yet : IsClustered schema kept [] (in_table (length schemas) chains)
+  no_rows_yet : IsClustered (length schemas) schema kept [] (in_table (length schemas) chains)
   no_rows_yet = record {
     primary = columns.primary;
     primary_is = columns.primary_is;

@@ -9,7 +9,8 @@ use Rattle.row_codec.proofs.Once.{same_version}
 use Rattle.entries.specs.Pairs.{Pair, value_of}
 use Rattle.row_versions.specs.{declared.kept.Kept.Kept, declared.version.Version.Version, Chains.older}
 use Rattle.law_stored_rows.specs.{Edits.with_value, Entries.is_same_value}
-use Rattle.law_stored_rows.specs.Records.{shown, IsCodeOf, LeadTo, IsRecordWith, IsClustered, KeepsMore}
+use Rattle.law_stored_rows.specs.Records.{shown, IsCodeOf, LeadTo, IsRecordWith, IsClustered, KeepsMore, kept_of}
+use Rattle.law_stored_rows.proofs.KeptRows.{found_of, more_of}
 use Rattle.law_stored_rows.proofs.Pairs.{same_or_not, nothing_or_more, rising_now, value_now, others_now}
 use Rattle.law_stored_rows.proofs.Values.{same_value, apart_by_keys, one_key}
 
@@ -25,21 +26,31 @@ module _ (schema : Schema) (key : List ℕ) (old new : ℕ → Option Kept) wher
     leads_still is.0.version.pointer rest more is.2,
   )
 
-  record_still : (found : Option (List ℕ)) (versions : List Version) → KeepsMore old new → IsRecordWith schema key old found versions
+  pub record_still : (found : Option (List ℕ)) (versions : List Version) → KeepsMore old new → IsRecordWith schema key old found versions
       → IsRecordWith schema key new found versions
   record_still (Some bytes) (version ∷ rest) more is = (is.0, is.1, is.2, leads_still is.0.pointer rest more is.3)
   record_still None [] more is = tt
   record_still found versions more is = absurd is
 
-pub clustered_still : (schema : Schema) (old new : ℕ → Option Kept) (pairs : List Pair) (versions_at : Value → List Version) → KeepsMore old new
-    → IsClustered schema old pairs versions_at → IsClustered schema new pairs versions_at
-clustered_still schema old new pairs versions_at more is = record {
+-- what is kept of a row is kept
+pub leads_of : (schema : Schema) (key : List ℕ) (kept : ℕ → Option Kept) (table pointer : ℕ) (versions : List Version)
+    → LeadTo schema key (kept_of kept table key) pointer versions → LeadTo schema key kept pointer versions
+leads_of schema key kept table pointer versions is = leads_still schema key (kept_of kept table key) kept pointer versions (found_of kept table key) is
+
+pub record_of : (schema : Schema) (key : List ℕ) (kept : ℕ → Option Kept) (table : ℕ) (found : Option (List ℕ)) (versions : List Version)
+    → IsRecordWith schema key (kept_of kept table key) found versions → IsRecordWith schema key kept found versions
+record_of schema key kept table found versions is = record_still schema key (kept_of kept table key) kept found versions (found_of kept table key) is
+
+pub clustered_still : (table : ℕ) (schema : Schema) (old new : ℕ → Option Kept) (pairs : List Pair) (versions_at : Value → List Version)
+    → KeepsMore old new → IsClustered table schema old pairs versions_at → IsClustered table schema new pairs versions_at
+clustered_still table schema old new pairs versions_at more is = record {
   primary = is.primary;
   primary_is = is.primary_is;
   rising = is.rising;
   keys = is.keys;
   records = λ value has. let key = key_code is.primary.kind value in
-      record_still schema key old new (value_of key pairs) (versions_at value) more (is.records value has);
+      record_still schema key (kept_of old table key) (kept_of new table key) (value_of key pairs) (versions_at value) (more_of old new table key more)
+      (is.records value has);
   nowhere_else = is.nowhere_else;
 }
 
@@ -128,19 +139,21 @@ module _ (schema : Schema) (key : List ℕ) (kept : ℕ → Option Kept) where
 -- ---- a clustered index
 
 -- A value has no versions, or a key at which there is a record.
-pub nothing_or_there : {schema : Schema} {kept : ℕ → Option Kept} {pairs : List Pair} {rows : Value → List Version} (is : IsClustered schema kept pairs rows)
+pub nothing_or_there : {table : ℕ} {schema : Schema} {kept : ℕ → Option Kept} {pairs : List Pair} {rows : Value → List Version}
+    (is : IsClustered table schema kept pairs rows)
     (value : Value) → (rows value ≡ []) ⊎ (HasKey is.primary.kind value × (is_some (value_of (key_code is.primary.kind value) pairs) ≡ true))
-nothing_or_there {schema = schema} {kept = kept} {pairs = pairs} {rows = rows} is value = elim (nothing_or_more (rows value)) [
+nothing_or_there {table = table} {schema = schema} {kept = kept} {pairs = pairs} {rows = rows} is value = elim (nothing_or_more (rows value)) [
   | inl none ↦ inl none
   | inr some ↦
       let has = is.nowhere_else value some in
       let code = key_code is.primary.kind value in
-      inr (has, there_is schema code kept (value_of code pairs) (rows value) some (is.records value has))
+      inr (has, there_is schema code (kept_of kept table code) (value_of code pairs) (rows value) some (is.records value has))
 ]
 
 -- what a change of the record at one key makes of it
 
-module _ (schema : Schema) (kept : ℕ → Option Kept) (pairs : List Pair) (was now : Value → List Version) (is : IsClustered schema kept pairs was)
+module _ (table : ℕ) (schema : Schema) (kept : ℕ → Option Kept) (pairs : List Pair) (was now : Value → List Version)
+    (is : IsClustered table schema kept pairs was)
     (here : Value) (has : HasKey is.primary.kind here) (found : Option (List ℕ))
     (elsewhere : (other : Value) → is_same_value here other ≡ false → now other ≡ was other) where
   abbrev code : Value → List ℕ
@@ -149,7 +162,7 @@ module _ (schema : Schema) (kept : ℕ → Option Kept) (pairs : List Pair) (was
   abbrev edited : List Pair
   edited = with_value (code here) found pairs
 
-  pub clustered_after : IsRecordWith schema (code here) kept found (now here) → IsClustered schema kept edited now
+  pub clustered_after : IsRecordWith schema (code here) (kept_of kept table (code here)) found (now here) → IsClustered table schema kept edited now
   clustered_after new = record {
     primary = is.primary;
     primary_is = is.primary_is;

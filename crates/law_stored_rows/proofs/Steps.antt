@@ -10,6 +10,8 @@ use Rattle.row_versions.specs.Chains.{Chains, versions_at, newest, older, Pushes
 use Rattle.law_stored_rows.specs.{Edits.clustered_index, Edits.key_index, Entries.is_same_value, Entries.value_in, Entries.has_value, Entries.entry_of}
 use Rattle.law_stored_rows.specs.{Entries.TellAlikeBut, Steps.PutsRecord, Steps.PutsEntry, Tables.place_in, Tables.in_table, Tables.Said, Tables.AreCodedAs}
 use Rattle.law_stored_rows.specs.{Tables.SaysNow, Records.row_shown, Records.shown, Records.IsCodeOf, Records.IsRecordWith, Records.LeadTo, Records.IsClustered}
+use Rattle.law_stored_rows.specs.Records.{kept_of}
+use Rattle.law_stored_rows.proofs.KeptRows.{kept_along}
 use Rattle.law_stored_rows.proofs.{Values.in_one_table, Values.in_other_table, Values.key_there, Values.value_itself, Keys.entry_changed}
 use Rattle.law_stored_rows.proofs.Pairs.{at_index, at_others, other_rows, no_key}
 use Rattle.law_stored_rows.proofs.RowRecords.{first_record, next_record, record_read, record_back, nothing_back, clustered_after}
@@ -22,7 +24,7 @@ module _ (schemas : List Schema) (old new : ℕ → List Pair) (kept : ℕ → O
     (schema : Schema) (key bytes : List ℕ) (coded : Coded)
     (is : AreCodedAs schemas old kept before said) where
   abbrev With : Option (List ℕ) → List Version → Type 0
-  With found versions = IsRecordWith schema key kept found versions
+  With found versions = IsRecordWith schema key (kept_of kept table key) found versions
 
   abbrev home : Place
   home = place_in table schema coded.row
@@ -37,7 +39,7 @@ module _ (schemas : List Schema) (old new : ℕ → List Pair) (kept : ℕ → O
     stays_in other value differ = elsewhere (at other value) (in_other_table home (at other value) (λ same. differ (sym same)))
 
     made : (With (value_of key pairs) (versions_at home before) → With found (versions_at home after))
-        → IsClustered schema kept (new (clustered_index table)) (in_table table after)
+        → IsClustered table schema kept (new (clustered_index table)) (in_table table after)
     made makes =
         let here = key_of schema coded.row in
         let was = is.clustered.tables table schema step.there in
@@ -46,7 +48,7 @@ module _ (schemas : List Schema) (old new : ℕ → List Pair) (kept : ℕ → O
         let stays : (other : Value) → is_same_value here other ≡ false → in_table table after other ≡ in_table table before other =
         λ other apart. elsewhere (at table other) (in_one_table table here other ∙ apart) in
         rw (at_index old new (clustered_index table) key found step.puts, both.1)
-        (clustered_after schema kept pairs (in_table table before) (in_table table after) was here both.0 found stays record_now)
+        (clustered_after table schema kept pairs (in_table table before) (in_table table after) was here both.0 found stays record_now)
 
     changed : (With (value_of key pairs) (versions_at home before) → With found (versions_at home after)) → AreCodedAs schemas new kept after said
     changed makes = record {
@@ -58,7 +60,7 @@ module _ (schemas : List Schema) (old new : ℕ → List Pair) (kept : ℕ → O
               rw (same, one) (made makes)
           | inr differ ↦
               let same_rows : in_table other before ≡ in_table other after = λ i value. sym (stays_in other value differ) i in
-              subst (λ (f : Value → List Version). IsClustered s kept (new (clustered_index other)) f) same_rows
+              subst (λ (f : Value → List Version). IsClustered other s kept (new (clustered_index other)) f) same_rows
               (rw (at_others old new (clustered_index table) key found (clustered_index other) step.puts (other_rows table other differ))
               (is.clustered.tables other s there))
         ];
@@ -79,32 +81,35 @@ module _ (schemas : List Schema) (old new : ℕ → List Pair) (kept : ℕ → O
       → Pushes before after home (shown coded) → AreCodedAs schemas new kept after said
   new_record step none nowhere pushes =
       changed (Some bytes) step (pushed_elsewhere before after home (shown coded) pushes) (λ was. rw (pushed_here before after home (shown coded) pushes)
-      (first_record schema key kept bytes coded (versions_at home before) (rw none at was) step.code_is nowhere))
+      (first_record schema key (kept_of kept table key) bytes coded (versions_at home before) (rw none at was) step.code_is nowhere))
 
   pub replaced_record : (former : Kept) → PutsRecord schemas old new table schema key bytes coded (Some bytes)
       → value_of key pairs ≡ Some former.bytes → IsCodeOf schema key former.bytes former.version
-      → coded.pointer ≢ 0 → kept coded.pointer ≡ Some former → Pushes before after home (shown coded) → AreCodedAs schemas new kept after said
+      → coded.pointer ≢ 0 → kept_of kept table key coded.pointer ≡ Some former → Pushes before after home (shown coded) → AreCodedAs schemas new kept after said
   replaced_record former step some former_is leads keeps pushes =
       changed (Some bytes) step (pushed_elsewhere before after home (shown coded) pushes) (λ was. rw (pushed_here before after home (shown coded) pushes)
-      (next_record schema key kept bytes coded former (versions_at home before) (rw some at was) former_is step.code_is leads keeps))
+      (next_record schema key (kept_of kept table key) bytes coded former (versions_at home before) (rw some at was) former_is step.code_is leads keeps))
 
   -- what the pointer of the record that was there leads to
   led : IsCodeOf schema key bytes coded → value_of key pairs ≡ Some bytes → With (value_of key pairs) (versions_at home before)
-      → LeadTo schema key kept coded.pointer (older (versions_at home before))
-  led code some was = (record_read schema key bytes kept (versions_at home before) coded (rw some at was) code).1
+      → LeadTo schema key (kept_of kept table key) coded.pointer (older (versions_at home before))
+  led code some was = (record_read schema key bytes (kept_of kept table key) (versions_at home before) coded (rw some at was) code).1
 
   pub record_taken_back : (found : Kept) → PutsRecord schemas old new table schema key bytes coded (Some found.bytes)
       → value_of key pairs ≡ Some bytes → coded.pointer ≢ 0 → kept coded.pointer ≡ Some found
       → Pops before after home → AreCodedAs schemas new kept after said
   record_taken_back found step some leads keeps pops =
       changed (Some found.bytes) step (popped_elsewhere before after home pops) (λ was. rw (popped_here before after home pops)
-      (record_back schema key kept coded.pointer found (older (versions_at home before)) (led step.code_is some was) leads keeps))
+      (let rest = older (versions_at home before) in
+      let back = led step.code_is some was in
+      record_back schema key (kept_of kept table key) coded.pointer found rest back leads
+      (kept_along kept table key schema coded.pointer rest found back leads keeps)))
 
   pub record_removed : PutsRecord schemas old new table schema key bytes coded None → value_of key pairs ≡ Some bytes
       → coded.pointer ≡ 0 → Pops before after home → AreCodedAs schemas new kept after said
   record_removed step some nowhere pops =
       changed None step (popped_elsewhere before after home pops) (λ was. rw (popped_here before after home pops)
-      (nothing_back schema key kept coded.pointer (older (versions_at home before)) (led step.code_is some was) nowhere))
+      (nothing_back schema key (kept_of kept table key) coded.pointer (older (versions_at home before)) (led step.code_is some was) nowhere))
 
 -- ---- entries
 

@@ -45,7 +45,7 @@ pub coded_still : (schemas : List Schema) (indexes : ℕ → List Pair) (old new
     → AreCodedAs schemas indexes old chains said → AreCodedAs schemas indexes new chains said
 coded_still schemas indexes old new chains said more is = record {
   clustered = record {
-    tables = λ table schema there. clustered_still schema old new (indexes (clustered_index table)) (in_table table chains) more
+    tables = λ table schema there. clustered_still table schema old new (indexes (clustered_index table)) (in_table table chains) more
         (is.clustered.tables table schema there);
     nowhere_else = is.clustered.nowhere_else;
   };

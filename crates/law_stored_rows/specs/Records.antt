@@ -1,11 +1,12 @@
 -- What a clustered record says of its row: the newest version, and by roll pointers those before it.
-use Rattle.std.specs.Prelude.{◌≡◌, ◌≢◌, ℕ, Bool, true, false, List, [], ◌∷◌, Option, None, Some, slice_get, is_some, All}
+use Rattle.std.specs.Prelude.{◌≡◌, ◌≢◌, ◌==◌, ◌&&◌, if◌then◌else◌, ℕ, Bool, true, false, List, [], ◌∷◌, Option, None, Some, slice_get, is_some, All}
+use Rattle.std.specs.Ordering.{is_eq}
 use Rattle.inno_types.specs.{declared.value.Value.Value, declared.value.Column.Column, declared.value.Kind.Kind, declared.value.Schema.Schema}
 use Rattle.store_api.specs.declared.answers.Version.{Version as Coded}
 use Rattle.inno_db.specs.Database.{key_of}
 use Rattle.key_codec.specs.Keys.{HasKey, Has64Bits, key_code}
 use Rattle.row_codec.specs.Rows.{IsRowOf, IsRecordOf, IsVersion}
-use Rattle.entries.specs.Pairs.{Pair, AreRising, value_of}
+use Rattle.entries.specs.Pairs.{Pair, AreRising, key_cmp, value_of}
 use Rattle.row_versions.specs.{declared.kept.Kept.Kept, declared.version.Version.Version}
 
 -- A marked version is a row that was deleted: readers find no row there.
@@ -43,18 +44,29 @@ IsRecordWith schema key kept (Some bytes) [] = ⊥
 IsRecordWith schema key kept (Some bytes) (version ∷ older) =
     (coded : Coded) × IsCodeOf schema key bytes coded × (shown coded ≡ version) × LeadTo schema key kept coded.pointer older
 
+-- what was found, where it is of the row at this key of the table
+abbrev pub if_of : ℕ → List ℕ → Option Kept → Option Kept
+if_of table key None = None
+if_of table key (Some found) = if found.table == table && is_eq (key_cmp key found.key) then Some found else None
+
+-- of what is kept, the versions of the row at this key of the table
+abbrev pub kept_of : (ℕ → Option Kept) → ℕ → List ℕ → ℕ → Option Kept
+kept_of kept table key pointer = if_of table key (kept pointer)
+
 -- the key of some value of this kind
 abbrev pub IsSomeKey : Kind → List ℕ → Type 0
 IsSomeKey kind key = (value : Value) × HasKey kind value × (key ≡ key_code kind value)
 
--- The pairs of a clustered index are the records of these rows: at each value of the primary key its versions.
-pub record IsClustered (schema : Schema) (kept : ℕ → Option Kept) (pairs : List Pair) (versions_at : Value → List Version) : Type 0 where
+-- The pairs of a table's clustered index are the records of these rows: at each value of the primary key its versions. Those
+-- that a record leads to are kept as versions of its own row.
+pub record IsClustered (table : ℕ) (schema : Schema) (kept : ℕ → Option Kept) (pairs : List Pair) (versions_at : Value → List Version) : Type 0 where
   pub primary : Column
   pub primary_is : slice_get schema.columns schema.primary ≡ Some primary
   pub rising : AreRising pairs
   pub keys : (key : List ℕ) → is_some (value_of key pairs) ≡ true → IsSomeKey primary.kind key
   pub records : (value : Value) → HasKey primary.kind value
-      → IsRecordWith schema (key_code primary.kind value) kept (value_of (key_code primary.kind value) pairs) (versions_at value)
+      → IsRecordWith schema (key_code primary.kind value) (kept_of kept table (key_code primary.kind value))
+      (value_of (key_code primary.kind value) pairs) (versions_at value)
   pub nowhere_else : (value : Value) → versions_at value ≢ [] → HasKey primary.kind value
 
 -- whatever was kept is kept still

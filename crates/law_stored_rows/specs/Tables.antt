@@ -26,7 +26,7 @@ pub record HasItsColumns (schema : Schema) : Type 0 where
 -- The clustered indexes hold the rows of all tables, and there are no other rows.
 pub record AreClustered (schemas : List Schema) (indexes : ℕ → List Pair) (kept : ℕ → Option Kept) (chains : Chains) : Type 0 where
   pub tables : (table : ℕ) (schema : Schema) → slice_get schemas table ≡ Some schema
-      → IsClustered schema kept (indexes (clustered_index table)) (in_table table chains)
+      → IsClustered table schema kept (indexes (clustered_index table)) (in_table table chains)
   pub nowhere_else : (table : ℕ) (value : Value) → slice_get schemas table ≡ None → in_table table chains value ≡ []
 
 -- what keys say of the versions at each value of the primary key: of which table, and which of its keys

@@ -121,7 +121,7 @@ module _ {actor : ℕ} {schema : Schema} {old : WorldState} {scan : Scan} {phase
   homes : (versions_at : Value → List Version) → ShowsRows schema scan old versions_at → (value : Value) (row : List Value)
       → row_at versions_at value ≡ Some row → IsHome schema value row
   homes versions_at shows value row seen =
-      home schema old.versions.kept_at shows.table.pairs versions_at (sees_by scan.sight) value row shows.table.clustered seen
+      home scan.table schema old.versions.kept_at shows.table.pairs versions_at (sees_by scan.sight) value row shows.table.clustered seen
 
   module _ (entry : List ℕ) where
     abbrev part : List ℕ
@@ -402,7 +402,7 @@ module _ {actor : ℕ} {schema : Schema} {old : WorldState} {scan : Scan} {entry
           let part : primary_part schema entry ≡ primary_key schema row =
           ap (primary_part schema) (sym same) ∙ (part_is schema scan.which value row is.key h ∙ sym (key_is_value schema value row h)) in
           false≢true (sym (ap is_some (told_there None c.index_is.here.0 versions_at shows.table)) ∙ (ap (λ k. is_some (value_of k shows.table.pairs)) part
-          ∙ in_clustered schema old.versions.kept_at shows.table.pairs versions_at scan.sight shows.table.clustered value row seen))
+          ∙ in_clustered scan.table schema old.versions.kept_at shows.table.pairs versions_at scan.sight shows.table.clustered value row seen))
 
   pub fetch_waits : {new : WorldState} (read : List ℕ) (why : Move)
       → Calls (index_of scan.table 0) (λ before after. Fetches actor (primary_part schema entry) read before after why) old new → why ≢ Done → why ≢ End

@@ -6,7 +6,8 @@ use Rattle.store_api.specs.declared.moves.Move.TheVariants.{At, End, Done, Step,
 use Rattle.store_api.specs.declared.moves.Move.{Move}
 use Rattle.entries.specs.{Pairs.Pair, Pairs.value_of, Index.Index, Index.AreKept, Index.IsAsBefore, Index.IsGiven, Calls.Delays, Calls.Seeks, Calls.Fetches}
 use Rattle.row_versions.specs.{declared.kept.Kept.Kept, declared.version.Version.Version}
-use Rattle.law_stored_rows.specs.Records.{IsRecordWith}
+use Rattle.law_stored_rows.specs.Records.{IsRecordWith, kept_of}
+use Rattle.law_stored_rows.proofs.RowRecords.{record_of}
 use Rattle.sql_plan.specs.Visits.{kind_if, kind_at}
 use Rattle.world.specs.{State.WorldState, State.index_of, Undoing.IsUnchanged, Indexes.Calls}
 use Rattle.row_search.specs.{declared.found.FoundRow.FoundRow, declared.scan.Scan.Scan, declared.phase.Phase.Phase, Sights.rows_seen, Others.KeepsWay}
@@ -191,8 +192,10 @@ module _ {actor : ℕ} {schema : Schema} {old : WorldState} {scan : Scan} {phase
         let is = shows.clustered in
         let some = is.keys key (ap is_some (there versions_at shows)) in
         let kind : kind_at schema.columns schema.primary ≡ is.primary.kind = ap kind_if is.primary_is in
-        let held : IsRecordWith schema key old.versions.kept_at (value_of key shows.pairs) (versions_at some.0) =
-        subst (λ k. IsRecordWith schema k old.versions.kept_at (value_of k shows.pairs) (versions_at some.0)) (sym some.2) (is.records some.0 some.1) in (
+        let own : IsRecordWith schema key (kept_of old.versions.kept_at scan.table key) (value_of key shows.pairs) (versions_at some.0) =
+        subst (λ k. IsRecordWith schema k (kept_of old.versions.kept_at scan.table k) (value_of k shows.pairs) (versions_at some.0)) (sym some.2)
+        (is.records some.0 some.1) in
+        let held = record_of schema key old.versions.kept_at scan.table (value_of key shows.pairs) (versions_at some.0) own in (
           some.0,
           subst (λ (o : Option (List ℕ)). IsRecordWith schema key old.versions.kept_at o (versions_at some.0)) (there versions_at shows) held,
           record { value = some.0; has_key = rw kind some.1; key_is = rw kind some.2; seen = refl },

@@ -30,13 +30,13 @@ pub record IsHome (schema : Schema) (value : Value) (row : List Value) : Type 0 
   pub has_key : HasKey (kind_at schema.columns schema.primary) value
   pub at : IsRowAt schema value row
 
-pub home : (schema : Schema) (kept : ℕ → Option Kept) (pairs : List Pair) (versions_at : Value → List Version) (seen : ℕ → Bool) (value : Value)
-    (row : List Value)
-    → IsClustered schema kept pairs versions_at → first_seen seen (versions_at value) ≡ Some row → IsHome schema value row
-home schema kept pairs versions_at seen value row is some =
+pub home : (table : ℕ) (schema : Schema) (kept : ℕ → Option Kept) (pairs : List Pair) (versions_at : Value → List Version) (seen : ℕ → Bool)
+    (value : Value) (row : List Value)
+    → IsClustered table schema kept pairs versions_at → first_seen seen (versions_at value) ≡ Some row → IsHome schema value row
+home table schema kept pairs versions_at seen value row is some =
     let rows =
     recursion_from_All (λ (version : Version). IfSome version.row (IsRowAt schema value)) (versions_at value)
-    (rows_at_home schema kept pairs versions_at is value) in
+    (rows_at_home table schema kept pairs versions_at is value) in
     let has : HasKey is.primary.kind value =
     is.nowhere_else value (λ empty. let none : first_seen seen (versions_at value) ≡ None = ap (first_seen seen) empty in cc) in
     record {

@@ -7,6 +7,7 @@ use Rattle.key_codec.specs.Keys.{HasKey, HasEntry, Has64Bits, key_code, entry_co
 use Rattle.entries.specs.{Pairs.Pair, Pairs.value_of, Calls.HasKey as IsAtKey}
 use Rattle.row_versions.specs.{declared.kept.Kept.Kept, declared.version.Version.Version, Chains.first_seen, Chains.newest}
 use Rattle.law_stored_rows.specs.{Entries.value_in, Entries.has_value, Entries.HasEntries, Records.IsRecordWith, Records.IsClustered, Records.KeepsMore}
+use Rattle.law_stored_rows.specs.Records.{kept_of}
 use Rattle.law_stored_rows.proofs.{Values.value_itself, RowRecords.leads_still, RowRecords.no_record}
 use Rattle.sql_plan.specs.Visits.{kind_if, kind_at, index_key}
 use Rattle.world.specs.State.{WorldState}
@@ -75,18 +76,21 @@ searching_still actor schema old new search is there place told keeps =
 
 -- ---- keys of rows that are seen
 
-pub in_clustered : (schema : Schema) (kept : ℕ → Option Kept) (pairs : List Pair) (versions_at : Value → List Version) (sight : Sight)
-    → IsClustered schema kept pairs versions_at → HaveKeys schema 0 pairs (rows_seen sight versions_at)
-in_clustered schema kept pairs versions_at sight is value row seen =
-    let h = home schema kept pairs versions_at (sees_by sight) value row is seen in
+pub in_clustered : (table : ℕ) (schema : Schema) (kept : ℕ → Option Kept) (pairs : List Pair) (versions_at : Value → List Version) (sight : Sight)
+    → IsClustered table schema kept pairs versions_at → HaveKeys schema 0 pairs (rows_seen sight versions_at)
+in_clustered table schema kept pairs versions_at sight is value row seen =
+    let h = home table schema kept pairs versions_at (sees_by sight) value row is seen in
     let kind : kind_at schema.columns schema.primary ≡ is.primary.kind = ap kind_if is.primary_is in
     let key : index_key schema 0 row ≡ key_code is.primary.kind value = key_is_value schema value row h ∙ ap (λ (k : Kind). key_code k value) kind in
     let has : HasKey is.primary.kind value = subst (λ (k : Kind). HasKey k value) kind h.has_key in
     ap (λ k. is_some (value_of k pairs)) key ∙ there (value_of (key_code is.primary.kind value) pairs) (is.records value has) where
-      there : (o : Option (List ℕ)) → IsRecordWith schema (key_code is.primary.kind value) kept o (versions_at value) → is_some o ≡ true
+      kept_here : ℕ → Option Kept
+      kept_here = kept_of kept table (key_code is.primary.kind value)
+
+      there : (o : Option (List ℕ)) → IsRecordWith schema (key_code is.primary.kind value) kept_here o (versions_at value) → is_some o ≡ true
       there None held =
           let empty : first_seen (sees_by sight) (versions_at value) ≡ None =
-          ap (first_seen (sees_by sight)) (no_record schema (key_code is.primary.kind value) kept (versions_at value) held) in
+          ap (first_seen (sees_by sight)) (no_record schema (key_code is.primary.kind value) kept_here (versions_at value) held) in
           cc
       there (Some bytes) held = refl
 
@@ -95,13 +99,13 @@ bits_in [] at all = tt
 bits_in (value ∷ row) zero all = All-head Has64Bits value row all
 bits_in (value ∷ row) (suc at) all = bits_in row at (All-tail Has64Bits value row all)
 
-pub in_keyed : (schema : Schema) (kept : ℕ → Option Kept) (pairs entries : List Pair) (versions_at said : Value → List Version) (sight : Sight) (at : ℕ)
-    (key : Key) → IsClustered schema kept pairs versions_at → slice_get schema.keys at ≡ Some key
+pub in_keyed : (table : ℕ) (schema : Schema) (kept : ℕ → Option Kept) (pairs entries : List Pair) (versions_at said : Value → List Version)
+    (sight : Sight) (at : ℕ) (key : Key) → IsClustered table schema kept pairs versions_at → slice_get schema.keys at ≡ Some key
     → HasEntries schema key.column entries said
     → ((value : Value) (row : List Value) → rows_seen sight versions_at value ≡ Some row → list_any
     (λ told. has_value key.column (value_in key.column row) told.row) (said value) ≡ true) → HaveKeys schema (1 + at) entries (rows_seen sight versions_at)
-in_keyed schema kept pairs entries versions_at said sight at key is there e says value row seen =
-    let h = home schema kept pairs versions_at (sees_by sight) value row is seen in
+in_keyed table schema kept pairs entries versions_at said sight at key is there e says value row seen =
+    let h = home table schema kept pairs versions_at (sees_by sight) value row is seen in
     let kind : kind_at schema.columns schema.primary ≡ e.primary.kind = ap kind_if e.primary_is in
     let has : HasKey e.primary.kind value = subst (λ (k : Kind). HasKey k value) kind h.has_key in
     let has_entry : HasEntry e.indexed.kind (value_in key.column row) =

@@ -16,7 +16,7 @@ most_versions = 2 ^ 63 + 2 ^ 62
 pub record ShowsTable (schema : Schema) (table : ℕ) (state : WorldState) (versions_at : Value → List Version) : Type 0 where
   pub pairs : List Pair
   pub pairs_are : (state.indexes (index_of table 0)).pairs ≡ Some pairs
-  pub clustered : IsClustered schema state.versions.kept_at pairs versions_at
+  pub clustered : IsClustered table schema state.versions.kept_at pairs versions_at
 
 -- Where it is told what is kept for roll pointers, the table's rows are told, too, and each has few versions.
 abbrev pub HoldsTable : Schema → ℕ → WorldState → Type 0

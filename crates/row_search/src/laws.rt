@@ -49,16 +49,16 @@ pub fn steps_of_others_keep_what_was_found()
 /// Each row that a reader sees has its key in the clustered index. It has it in the index of a key which tells of all
 /// versions, and of a key that lags where what it tells of has the row's value.
 pub fn seen_rows_have_their_keys()
-    ensures clustered { (schema : Schema) (kept : ℕ → Option Kept) (pairs : List Pair) (versions_at : Value → List Version) (sight : Sight)
-        → IsClustered schema kept pairs versions_at
+    ensures clustered { (table : ℕ) (schema : Schema) (kept : ℕ → Option Kept) (pairs : List Pair) (versions_at : Value → List Version) (sight : Sight)
+        → IsClustered table schema kept pairs versions_at
         → HaveKeys schema 0 pairs (rows_seen sight versions_at) }
-    ensures keyed { (schema : Schema) (kept : ℕ → Option Kept) (pairs entries : List Pair) (versions_at : Value → List Version) (sight : Sight) (at : ℕ) (key : Key)
-        → IsClustered schema kept pairs versions_at
+    ensures keyed { (table : ℕ) (schema : Schema) (kept : ℕ → Option Kept) (pairs entries : List Pair) (versions_at : Value → List Version) (sight : Sight) (at : ℕ) (key : Key)
+        → IsClustered table schema kept pairs versions_at
         → slice_get schema.keys at ≡ Some key
         → HasEntries schema key.column entries versions_at
         → HaveKeys schema (1 + at) entries (rows_seen sight versions_at) }
-    ensures lagging { (schema : Schema) (kept : ℕ → Option Kept) (pairs entries : List Pair) (versions_at said : Value → List Version) (sight : Sight) (at : ℕ) (key : Key)
-        → IsClustered schema kept pairs versions_at
+    ensures lagging { (table : ℕ) (schema : Schema) (kept : ℕ → Option Kept) (pairs entries : List Pair) (versions_at said : Value → List Version) (sight : Sight) (at : ℕ) (key : Key)
+        → IsClustered table schema kept pairs versions_at
         → slice_get schema.keys at ≡ Some key
         → HasEntries schema key.column entries said
         → ((value : Value) (row : List Value) → rows_seen sight versions_at value ≡ Some row
@@ -74,9 +74,9 @@ pub fn the_newest_rows_are_seen()
 /// Of a table's rows that a reader sees, those that meet a condition are among those that its plan's search finds: the ones
 /// found that meet it are the ones of the whole table, in the order of their keys.
 pub fn a_search_finds_all_that_match()
-    ensures { (schema : Schema) (kept : ℕ → Option Kept) (pairs : List Pair) (versions_at : Value → List Version) (sight : Sight) (filter_by : Filter)
-        (plan : Plan) (found all : List FoundRow)
-        → IsClustered schema kept pairs versions_at
+    ensures { (table : ℕ) (schema : Schema) (kept : ℕ → Option Kept) (pairs : List Pair) (versions_at : Value → List Version) (sight : Sight)
+        (filter_by : Filter) (plan : Plan) (found all : List FoundRow)
+        → IsClustered table schema kept pairs versions_at
         → CoversMatches schema filter_by plan
         → AreFound schema plan.which (rows_seen sight versions_at) (λ row. is_within plan.range (index_key schema plan.which row)) found
         → RiseByKey found

@@ -1,4 +1,4 @@
-//! A version as it is kept, beside its encoded bytes. Lists of versions alone make such values.
+//! A version as it is kept, beside its encoded bytes and the key of its row. Lists of versions alone make such values.
 
 ghost use Rattle.std.specs.Prelude.{◌≡◌, ◌≤◌, length, IfOk, vec_capacity};
 
@@ -6,9 +6,11 @@ use inno_types::Bytes;
 use std::alloc::AllocError;
 use store_api::Version;
 
-/// A version, and the bytes that its writer encoded.
+/// A version, the bytes that its writer encoded, and the row that it is of: its table, and the bytes of its key.
 #[derive(Drop)]
 pub struct Kept {
+    pub table: u8,
+    pub key: Bytes,
     pub version: Version,
     pub bytes: Bytes,
 }

@@ -1,12 +1,11 @@
 //! Versions in memory: a vector, in which a version's roll pointer is its place, counted from 1.
 
-ghost use Rattle.std.specs.Prelude.{◌≡◌, ◌≤◌, ◌+◌, [], ◌∷◌, ◌++◌, length, Some, IfOk, IsOk, IfSome, OnOk, OnErr, option_copied};
+ghost use Rattle.std.specs.Prelude.{◌≡◌, ◌+◌, [], ◌∷◌, ◌++◌, length, Some, IfOk, IsOk, IfSome, OnOk, OnErr, option_copied};
 ghost use Rattle.row_versions.specs.Versions.{kept_in, IsShort};
 
 use crate::answers::ChainBad;
 use crate::kept::{Kept, copy_into};
 use crate::versions::Chain;
-use inno_types::Bytes;
 use std::alloc::Global;
 use std::marker::Model;
 use store_api::{NoMemory, Version, Visit};
@@ -40,16 +39,16 @@ impl ListChain {
         })
     }
 
-    /// Keeps a version beside its encoded bytes, and gives its roll pointer.
+    /// Keeps a version, and gives its roll pointer.
     #[tactic(auto, using(crate::proofs::Places::pushed_at, crate::proofs::Places::short_pushed))]
-    pub fn push(&mut self, version: Version, bytes: Bytes) -> Result<u64, NoMemory>
-        requires { length bytes ≤ 1024 }
+    pub fn push(&mut self, kept: Kept) -> Result<u64, NoMemory>
+        requires { IsShort kept }
         ensures pointer { IfOk result (λ pointer. pointer ≡ length self.old + 1) }
-        ensures ok { OnOk result (self.new ≡ self.old ++ record { version = version; bytes = bytes } ∷ []) }
-        ensures leads { IfOk result (λ pointer. kept_in self.new pointer ≡ Some (record { version = version; bytes = bytes })) }
+        ensures ok { OnOk result (self.new ≡ self.old ++ kept ∷ []) }
+        ensures leads { IfOk result (λ pointer. kept_in self.new pointer ≡ Some kept) }
         ensures err { OnErr result (self.new ≡ self.old) }
     {
-        self.kept.push(Kept { version, bytes })?;
+        self.kept.push(kept)?;
         Ok(self.kept.len() as u64)
     }
 

@@ -55,13 +55,13 @@ abbrev pub MayBring : ℕ → Option Undo → WorldState → Type 0
 MayBring actor None state = Unit {0}
 MayBring actor (Some undo) state = MayLog actor undo state
 
--- a version more is kept, behind this pointer
+-- a version more is kept, behind this pointer: one of the undo record's row
 pub record KeepsVersion (schemas : List Schema) (pointer : ℕ) (undo : Undo) (old new : Versions) : Type 0 where
   pub told : IsTrue new.told → IsTrue old.told
   pub version : Version
   pub kept : IsVersionKept schemas undo version
   pub fresh : IsTrue new.told → old.kept_at pointer ≡ None
-  pub here : IsTrue new.told → new.kept_at pointer ≡ Some (record { version = version; bytes = undo.value })
+  pub here : IsTrue new.told → new.kept_at pointer ≡ Some (record { table = undo.table; key = undo.key; version = version; bytes = undo.value })
   pub elsewhere : (other : ℕ) → other ≢ pointer → IsTrue new.told → new.kept_at other ≡ old.kept_at other
 
 -- only a version that was replaced is kept

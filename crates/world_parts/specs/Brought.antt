@@ -6,8 +6,10 @@ use Rattle.row_versions.specs.declared.kept.Kept.{Kept}
 use Rattle.world.specs.Indexes.{IsVersionKept}
 use Rattle.world_parts.specs.declared.brought.Brought.{Brought}
 
--- the version that the record keeps, beside its bytes
+-- the version that the record keeps, beside its bytes, and of the record's row
 pub record IsKeptOf (schemas : List Schema) (undo : Undo) (kept : Kept) : Type 0 where
+  pub table : kept.table ≡ undo.table
+  pub key : kept.key ≡ undo.key
   pub bytes : kept.bytes ≡ undo.value
   pub version : IsVersionKept schemas undo kept.version
 

@@ -29,6 +29,8 @@ fn keep(alloc: Global, schemas: &[Schema], undo: &Undo) -> Result<Kept, NoMemory
     let schema = &schemas[undo.table as usize];
     match decode(alloc, schema, undo.key.as_slice(), undo.value.as_slice()) {
         Ok(version) => Ok(Kept {
+            table: undo.table,
+            key: undo.key.copied()?,
             version,
             bytes: undo.value.copied()?,
         }),
