@@ -12,6 +12,8 @@ use Rattle.row_versions.specs.Versions.{Versions}
 use Rattle.row_codec.specs.Rows.{version_code}
 use Rattle.law_stored_rows.specs.{Edits.clustered_index, Edits.Puts, Records.IsCodeOf, Records.shown, Records.row_shown, Records.KeepsMore}
 use Rattle.law_stored_rows.specs.Tables.{Said, AreCodedAs, place_in}
+use Rattle.law_stored_rows.specs.Records.{kept_of}
+use Rattle.law_stored_rows.proofs.KeptRows.{kept_here}
 use Rattle.law_stored_rows.proofs.{Values.one_key, Values.key_there, Steps.new_record, Steps.replaced_record, FromTables.decoded, FromTables.absent}
 use Rattle.law_stored_rows.proofs.Tables.{pushed_here, coded_still}
 use Rattle.row_changes.specs.{declared.row_edit.RowEdit.RowEdit, declared.keys_change.KeysChange.KeysChange, declared.row_edit.RowEdit.TheVariants.Remove}
@@ -120,7 +122,8 @@ module _ (schemas : List Schema) (old new : ℕ → List Pair) (before after : C
 
   next_rows : (kept : ℕ → Option Kept) {said : Said} (former : Coded) (pointer : ℕ) (found : Kept)
       → value_of key (old (clustered_index table)) ≡ Some found.bytes
-      → IsCodeOf schema key found.bytes former → IsCodeOf schema key found.bytes found.version → pointer ≢ 0 → pointer < 2 ^ 64 → kept pointer ≡ Some found
+      → IsCodeOf schema key found.bytes former → IsCodeOf schema key found.bytes found.version → pointer ≢ 0 → pointer < 2 ^ 64
+      → kept_of kept table key pointer ≡ Some found
       → Puts old new (clustered_index table) key (Some (version_code schema (version_by edit former.row writer pointer)))
       → AreCodedAs schemas old kept before said
       → AreCodedAs schemas new kept after said
@@ -130,7 +133,7 @@ module _ (schemas : List Schema) (old new : ℕ → List Pair) (before after : C
       let same = written_pointer edit former.row writer pointer in
       replaced_record schemas old new kept before after said table schema key (version_code schema coded) coded is found
       (record { there = there; code_is = coded_is; puts = puts }) some found_code
-      (λ zero. leads (sym same ∙ zero)) (ap kept same ∙ keeps) (pushes_version former.row pointer (version_code schema coded) coded_is)
+      (λ zero. leads (sym same ∙ zero)) (ap (kept_of kept table key) same ∙ keeps) (pushes_version former.row pointer (version_code schema coded) coded_is)
 
 -- ---- while the record is not there yet
 
@@ -269,8 +272,8 @@ module _ (s : ℕ) (chains : Chains) (beside : Said) (pushed : Chains) (old new 
       ∙ ap newest (decoded _ _ _ _ change.table p.schema change.key o.bytes former (rows told).1.clustered p.table.there (there told) o.was.code_is).0)
       (λ now told puts.
       next_rows _ _ _ _ _ change.table p.schema change.edit change.key p.table.there p.fits writer small pushes _ former o.session.next_pointer
-      (record { version = (kept_over p o).version; bytes = o.bytes }) (there told) o.was.code_is
-      (kept_code p o) o.leads o.small ((kept_over p o).here now) puts
+      (record { table = change.table; key = change.key; version = (kept_over p o).version; bytes = o.bytes }) (there told) o.was.code_is
+      (kept_code p o) o.leads o.small (kept_here new.versions.kept_at change.table change.key o.session.next_pointer _ ((kept_over p o).here now) refl refl) puts
       (coded_still _ _ _ _ _ _ (kept_more _ o.session.next_pointer (undo_of_former change.table change.key o.bytes) _ _ (kept_over p o) now)
       (rows told).1))
     where
