@@ -78,7 +78,8 @@ module _ (chains : Chains) (state : WorldState) (logged : Logged) (place : Place
 
   -- where a change of the place hasn't come to its end, its keys lag too
   so_far : (said : Said) (done : ℕ) (put : Option EntryPut) (row : Option (List Value)) (before : List Version) → versions_before chains place ≡ before
-      → SaySoFar chains place done (said_next put row before) before said → versions_at place chains ≡ shown has.coded ∷ versions_before chains place
+      → SaySoFar chains (what_is_there chains) place done (said_next put row before) before said
+      → versions_at place chains ≡ shown has.coded ∷ versions_before chains place
       → (which : ℕ) → IsLagging (shown has.coded) (versions_before chains place) (said place.table which place.key)
   so_far said done put row before same says is which =
       let Lags : List Version → Type 0 = λ versions. IsLagging (shown has.coded) (versions_before chains place) versions in
@@ -86,10 +87,12 @@ module _ (chains : Chains) (state : WorldState) (logged : Logged) (place : Place
       (subst (λ (b : List Version). IsLagging (shown has.coded) b (said_next put row before)) (sym same) (next_lags (shown has.coded) put row before)))
       (λ rest. ⊎_elim (λ less. inr (says.first which less ∙ is)) (λ more. inl (inl (says.later which more ∙ sym same))) rest) (cases_order which done)
 
-  pub way_lagging : (keys : KeysChange) → IsChangingKeys chains state keys → keys.table ≡ logged.undo.table → keys.key ≡ logged.undo.key → IsTold state
+  pub way_lagging : (keys : KeysChange) → IsChangingKeys chains (what_is_there chains) state keys → keys.table ≡ logged.undo.table
+      → keys.key ≡ logged.undo.key → IsTold state
       → IsUnderWay chains place logged.undo schema (rows_of state) has.bytes has.coded 0 (IsLagging (shown has.coded) (versions_before chains place))
   way_lagging keys is table_is key_is told =
-      let rows = subst (λ (p : Place). HasRowsSoFar chains p keys.which (said_next keys.put keys.before is.older) is.older state) here is.rows told in
+      let rows = subst (λ (p : Place). HasRowsSoFar chains (what_is_there chains) p keys.which (said_next keys.put keys.before is.older) is.older state)
+      here is.rows told in
       let pushed = subst (λ (p : Place). IsPushed chains p is.older keys.after) here is.pushed in
       way_from rows.0 rows.1 rows.2.lag
       (so_far rows.0 keys.which keys.put keys.before is.older (ap older pushed.versions) rows.2 (versions_are rows.0 rows.1))
@@ -137,8 +140,8 @@ module _ (chains : Chains) (state : WorldState) (logged : Logged) (log : List Lo
       begins chains place room state logged top.schema tells_of_it whole stage
       (λ told. let has = top.record_is told in inl (has.bytes, has.coded, way_settled chains state logged place top.schema tells_of_it has rows told))
 
-  pub begins_lagging : (keys : KeysChange) → IsChangingKeys chains state keys → keys.table ≡ logged.undo.table → keys.key ≡ logged.undo.key → IsWhole room
-      → room.stage ≡ Find → IsPuttingBack chains place logged.undo room state
+  pub begins_lagging : (keys : KeysChange) → IsChangingKeys chains (what_is_there chains) state keys → keys.table ≡ logged.undo.table
+      → keys.key ≡ logged.undo.key → IsWhole room → room.stage ≡ Find → IsPuttingBack chains place logged.undo room state
   begins_lagging keys is table_is key_is whole stage =
       begins chains place room state logged top.schema tells_of_it whole stage (λ told. let has = top.record_is told in inl
       (has.bytes, has.coded, way_lagging chains state logged place top.schema tells_of_it has keys is table_is key_is told))

@@ -2,8 +2,8 @@
 use Rattle.std.proofs.Common.{ℕ, ap}
 use Rattle.row_versions.specs.Chains.{Chains}
 use Rattle.world.specs.State.{WorldState}
-use Rattle.row_changes.specs.{declared.keys_change.KeysChange.KeysChange, declared.reached.Reached.Reached, declared.row_change.RowChange.RowChange}
-use Rattle.row_changes.specs.{Keys.StaysBesideKeys, Keys.ChangesKeys, Rows.IsChangingRow, Rows.ChangesRow}
+use Rattle.row_changes.specs.{declared.reached.Reached.Reached, declared.row_change.RowChange.RowChange}
+use Rattle.row_changes.specs.{Keys.StaysBesideKeys, Rows.IsChangingRowAlone, Rows.ChangesRowAlone}
 use Rattle.row_changes.specs.declared.reached.Reached.TheVariants.{Went, Done, Hindered}
 use Rattle.row_changes.specs.declared.row_change.RowChange.TheVariants.{Record, Keys}
 use Rattle.row_changes.proofs.Keying.{beside_stay}
@@ -16,19 +16,13 @@ pub beside_leaves : (old new : WorldState) → StaysBesideKeys old new → Leave
 beside_leaves old new stays =
     record { schemas = ap (λ (state : WorldState). state.schemas) stays.rest; told = stays.told; pairs = stays.records; versions = stays.versions }
 
-keys_beside : (s : ℕ) (chains : Chains) (old new : WorldState) (change : KeysChange) (reached : Reached KeysChange)
-    → ChangesKeys s chains old new change reached → StaysBesideKeys old new
-keys_beside s chains old new change (Went next) c = c.stays
-keys_beside s chains old new change Done c = beside_stay old new c.0
-keys_beside s chains old new change (Hindered same why) c = beside_stay old new c.1
-
 beside_all : (old new : WorldState) → StaysBesideKeys old new → LogsAgree old → LogsAgree new
 beside_all old new stays agree = all_left old new (beside_leaves old new stays) (logs_beside old new stays.rest) agree
 
 -- ---- the whole change
 
-pub row_all : (s : ℕ) (chains : Chains) (old new : WorldState) (change : RowChange) (reached : Reached RowChange) → IsChangingRow s chains old change
-    → ChangesRow s chains old new change reached → IsAlone s old → LogsAgree old → LogsAgree new
+pub row_all : (s : ℕ) (chains : Chains) (old new : WorldState) (change : RowChange) (reached : Reached RowChange) → IsChangingRowAlone s chains old change
+    → ChangesRowAlone s chains old new change reached → IsAlone s old → LogsAgree old → LogsAgree new
 row_all s chains old new (Record change key after) (Went (Record next key' after')) p c alone agree = aside_left s old new c.0.0.aside agree
 row_all s chains old new (Record change key after) (Went (Keys next)) p c alone agree =
     change_all s chains old new change key next.before after p c.0.0 alone agree

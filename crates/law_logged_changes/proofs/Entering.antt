@@ -16,11 +16,12 @@ use Rattle.law_world_agreement.proofs.{Changing.changed_agrees, Entries.unentere
 use Rattle.row_changes.specs.{declared.row_edit.RowEdit.RowEdit, declared.row_edit.RowEdit.TheVariants.Remove, declared.row_change.RowChange.TheVariants.Keys}
 use Rattle.row_changes.specs.{declared.record_change.RecordChange.RecordChange, Keys.StaysBesideKeys, declared.row_change.RowChange.TheVariants.Record}
 use Rattle.row_changes.specs.{declared.keys_change.KeysChange.KeysChange, declared.row_change.RowChange.RowChange, declared.row_edit.RowEdit.TheVariants.Put}
-use Rattle.row_changes.specs.{Keys.IsChangingKeys, Edits.change_of, Edits.rows_put, Asides.StepsAside, declared.reached.Reached.Reached, Told.HasRows}
+use Rattle.row_changes.specs.{Edits.change_of, Edits.rows_put, Asides.StepsAside, declared.reached.Reached.Reached, Told.HasRows}
 use Rattle.row_changes.specs.Records.{Records, IsChangingRecord, ChangesRecord, id_for}
-use Rattle.row_changes.specs.Rows.{IsChangingRow, row_after, primary_of, place_of, PushesEdit, ChangesRow}
+use Rattle.row_changes.specs.Rows.{IsChangingRowAlone, row_after, primary_of, place_of, PushesEdit, ChangesRowAlone}
 use Rattle.row_changes.specs.declared.reached.Reached.TheVariants.{Went, Done, Hindered}
-use Rattle.row_changes.proofs.{Ids.one_work, Sessions.one_session, Pushed.kept_more, Keying.beside_stay}
+use Rattle.row_changes.proofs.{Ids.one_work, Sessions.one_session, Pushed.kept_more, Keying.beside_stay, Alone.keys_alone}
+use Rattle.row_changes.proofs.Alone.{alone_over}
 use Rattle.law_logged_changes.specs.Logs.{IsAlone}
 use Rattle.law_logged_changes.specs.GoingOn.{StaysOpen, KeepsBeside, EntersAgreed, GoesOnAgreed, StaysAgreed, EndsAgreed}
 use Rattle.inno_db.proofs.Keys.{key_in-at}
@@ -73,7 +74,7 @@ module _ (s : ℕ) (old new : WorldState) (aside : StepsAside s old new) where
     own = aside_open;
   }
 
-  pub aside_agreed : (chains : Chains) (next : RowChange) → Agrees chains old → IsTold new → IsChangingRow s chains new next
+  pub aside_agreed : (chains : Chains) (next : RowChange) → Agrees chains old → IsTold new → IsChangingRowAlone s chains new next
       → StaysAgreed s chains old new next
   aside_agreed chains next agrees told changing = record {
     agrees = unentered_agrees chains old new agrees aside_entered;
@@ -114,7 +115,7 @@ module _ (s : ℕ) (chains : Chains) (old new : WorldState) (stays : StaysBeside
         };
   }
 
-  pub keys_agreed : (next : RowChange) → IsChangingRow s chains new next → StaysAgreed s chains old new next
+  pub keys_agreed : (next : RowChange) → IsChangingRowAlone s chains new next → StaysAgreed s chains old new next
   keys_agreed next changing = record {
     agrees = keys_agree;
     changing = changing;
@@ -222,7 +223,7 @@ module _ (s : ℕ) (chains : Chains) (old new : WorldState) (change : RecordChan
   }
 
   pub entered : (next : KeysChange) (p : IsChangingRecord s old change) → Agrees chains old → IsAlone s old → length new.past < 2 ^ 63
-      → ((pushed : Chains) → PushesEdit s change old chains pushed → IsChangingKeys pushed new next) → EntersAgreed s chains old new change next
+      → ((pushed : Chains) → PushesEdit s change old chains pushed → IsChangingRowAlone s pushed new (Keys next)) → EntersAgreed s chains old new change next
   entered next p agrees alone few keys =
       let place = place_of p.schema change in
       let version : Version = record { writer = id_for p.work.id old.txns.next; row = row_after change.edit } in
@@ -253,7 +254,7 @@ module _ (s : ℕ) (chains : Chains) (old new : WorldState) (change : RecordChan
 
 enters : (s : ℕ) (chains : Chains) (old new : WorldState) (change : RecordChange) (next : KeysChange) → IsChangingRecord s old change
     → ChangesRecord s old new change (records.Recorded next.before) → IsTold new → Agrees chains old → IsAlone s old → length new.past < 2 ^ 63
-    → ((pushed : Chains) → PushesEdit s change old chains pushed → IsChangingKeys pushed new next) → EntersAgreed s chains old new change next
+    → ((pushed : Chains) → PushesEdit s change old chains pushed → IsChangingRowAlone s pushed new (Keys next)) → EntersAgreed s chains old new change next
 enters s chains old new change next p c told agrees alone few keys =
     ⊎_elim (λ first. entered s chains old new change _ _ first.0.records told next p agrees alone few keys)
     (λ over. entered s chains old new change _ _ over.1.records told next p agrees alone few keys) c.2
@@ -261,21 +262,22 @@ enters s chains old new change next p c told agrees alone few keys =
 -- ---- each step
 
 pub goes_on : (s : ℕ) (chains : Chains) (old new : WorldState) (change : RowChange) (reached : Reached RowChange) → Agrees chains old
-    → IsAlone s old → IsChangingRow s chains old change → ChangesRow s chains old new change reached → IsTold new → length new.past < 2 ^ 63
+    → IsAlone s old → IsChangingRowAlone s chains old change → ChangesRowAlone s chains old new change reached → IsTold new → length new.past < 2 ^ 63
     → GoesOnAgreed s chains old new change reached
 goes_on s chains old new (Record change key after) (Went (Record next key' after')) agrees alone p c told few =
     aside_agreed s old new c.0.0.aside chains (Record next key' after') agrees told c.0.1
 goes_on s chains old new (Record change key after) (Went (Keys next)) agrees alone p c told few =
-    enters s chains old new change next p.0 c.0.0 told agrees alone few c.0.1
+    enters s chains old new change next p.0 c.0.0 told agrees alone few (λ pushed push. keys_alone s chains pushed old new change key after next p c push)
 goes_on s chains old new (Keys change) (Went (Record next key after)) agrees alone p c told few = absurd c.0
 goes_on s chains old new (Keys change) (Went (Keys next)) agrees alone p c told few = keys_agreed s chains old new c.0.stays agrees told (Keys next) c.0.holds
 goes_on s chains old new (Record change key after) Done agrees alone p c told few = absurd c
-goes_on s chains old new (Keys change) Done agrees alone p c told few = keys_ended s chains old new (beside_stay old new c.0) agrees told c.1
+goes_on s chains old new (Keys change) Done agrees alone p c told few =
+    keys_ended s chains old new (beside_stay old new c.0) agrees told (alone_over s chains old new change p c)
 goes_on s chains old new (Record change key after) (Hindered same why) agrees alone p c told few = (
   c.0,
-  aside_agreed s old new c.2.0 chains same agrees told (subst (IsChangingRow s chains new) (sym c.0) c.1),
+  aside_agreed s old new c.2.0 chains same agrees told (subst (IsChangingRowAlone s chains new) (sym c.0) c.1),
 )
 goes_on s chains old new (Keys change) (Hindered same why) agrees alone p c told few = (
   c.0,
-  keys_agreed s chains old new (beside_stay old new c.2.0) agrees told same (subst (IsChangingRow s chains new) (sym c.0) c.1),
+  keys_agreed s chains old new (beside_stay old new c.2.0) agrees told same (subst (IsChangingRowAlone s chains new) (sym c.0) c.1),
 )

@@ -9,8 +9,9 @@ use Rattle.law_past_agreement.proofs.{Ids.ids_of, Ids.given_few, Opens.opens_of}
 use Rattle.world.specs.State.{WorldState, Session, Work, HasWork}
 use Rattle.law_world_agreement.specs.Agreement.{Agrees}
 use Rattle.law_world_agreement.proofs.Ending.{work_of, one_session_of}
-use Rattle.row_changes.specs.{declared.record_change.RecordStage.TheVariants.Enter, declared.row_change.RowChange.TheVariants.Record, Rows.IsChangingRow}
+use Rattle.row_changes.specs.{declared.record_change.RecordStage.TheVariants.Enter, declared.row_change.RowChange.TheVariants.Record, Rows.IsChangingRowAlone}
 use Rattle.row_changes.specs.{Rows.row_after, declared.row_edit.RowEdit.RowEdit, Edits.FitsEdit, Records.IsTable, Records.IsListed, Told.HasRows}
+use Rattle.row_changes.proofs.Telling.{rows_alone}
 
 module _ (chains : Chains) (state : WorldState) (s : ℕ) (session : Session) (work : Work) (agrees : Agrees chains state)
     (has : HasWork s session work state) where
@@ -34,7 +35,7 @@ module _ (chains : Chains) (state : WorldState) (s : ℕ) (session : Session) (w
 
 pub begun : (chains : Chains) (state : WorldState) (s table : ℕ) (session : Session) (work : Work) (schema : Schema) (edit : RowEdit)
     (key : List ℕ) → Agrees chains state → HasRows chains state → HasWork s session work state → IsTable table schema state → FitsEdit schema edit key
-    → IsChangingRow s chains state (Record (record { table = table; edit = edit; key = key; stage = Enter }) key (row_after edit))
+    → IsChangingRowAlone s chains state (Record (record { table = table; edit = edit; key = key; stage = Enter }) key (row_after edit))
 begun chains state s table session work schema edit key agrees rows has there fits = (
   record {
     schema = schema;
@@ -47,7 +48,7 @@ begun chains state s table session work schema edit key agrees rows has there fi
     small = small_of chains state s session work agrees has;
     stage = record {};
   },
-  rows,
+  rows_alone chains table key state rows,
   refl,
   refl,
 )

@@ -1,7 +1,7 @@
 -- The step that puts a version logs it.
 use Rattle.row_changes.proofs.{Ids.one_work, Sessions.one_session, Sessions.one_found, Changing.key_short, Changing.value_short}
 use Rattle.row_changes.proofs.Pushed.{kept_over, kept_more, key_at, code_of_edit, plain, none_of, written_pointer, small_id}
-use Rattle.row_changes.proofs.Telling.{pairs_told, puts_pairs, tells}
+use Rattle.row_changes.proofs.{Telling.pairs_told, Telling.puts_pairs, Telling.tells, Alone.alone_rows}
 use Rattle.law_logged_changes.proofs.{Leaving.stay_kept, Leaving.log_over, Leaving.same_schemas_grow, Logs.all_mapped, Logs.one_more, GoingOn.none_yet}
 use Rattle.law_logged_changes.proofs.{Entering.place_there, Without.taken_here, Without.taken_elsewhere, Without.here_or_not, Without.put_elsewhere}
 use Rattle.std.proofs.Common.{◌≡◌, ◌≢◌, inl, inr, ⊎_elim, ℕ, ◌^◌, ◌<◌, true, false, List, [], ◌∷◌, Option, Some, None, refl, sym, ap, subst, ◌∙◌, arith}
@@ -20,7 +20,7 @@ use Rattle.row_codec.specs.Rows.{version_code}
 use Rattle.law_stored_rows.specs.{Edits.clustered_index, Edits.Puts, Records.IsCodeOf, Records.KeepsMore, Tables.AreClustered}
 use Rattle.law_stored_rows.proofs.Pairs.{at_index, value_now}
 use Rattle.world.specs.{Indexes.IsUndo, Told.IsTold, Told.pairs_of, State.WorldState, State.Session, State.Work, State.Logged, State.HasWork}
-use Rattle.row_changes.specs.{Rows.primary_of, Rows.IsChangingRow, Told.HasRows, Records.IsTable, Records.Records, Records.PutsOver, Records.id_for}
+use Rattle.row_changes.specs.{Rows.primary_of, Rows.IsChangingRowAlone, Told.HasRows, Records.IsTable, Records.Records, Records.PutsOver, Records.id_for}
 use Rattle.row_changes.specs.{declared.record_change.RecordChange.RecordChange, declared.row_change.RowChange.TheVariants.Record, Records.IsChangingRecord}
 use Rattle.row_changes.specs.{Records.RecordsEdit, Records.PutsFirst, Records.PutsVersion, Records.ChangesRecord, Records.undo_of_new, Records.undo_of_former}
 use Rattle.row_changes.specs.Edits.{change_of, rows_put, version_by}
@@ -286,15 +286,17 @@ module _ (s : ℕ) (old new : WorldState) (change : RecordChange) (p : IsChangin
 -- ---- the laws
 
 pub change_logged : (s : ℕ) (chains : Chains) (old new : WorldState) (change : RecordChange) (key : List ℕ) (before after : Option (List Value))
-    (session : Session) (work : Work) → IsChangingRow s chains old (Record change key after) → ChangesRecord s old new change (records.Recorded before)
+    (session : Session) (work : Work) → IsChangingRowAlone s chains old (Record change key after) → ChangesRecord s old new change (records.Recorded before)
     → HasWork s session work old → IsLogOf old work.log (own s old.past) → HasLogged s change work.log old new
 change_logged s chains old new change key before after session work p h has stands =
     logging s old new change p.0 (HasLogged s change work.log old new)
-    (λ kind value bytes coded is. has_logged s chains old new change p.0 p.1 kind value bytes coded is session work has stands) before h
+    (λ kind value bytes coded is. has_logged s chains old new change p.0 (alone_rows s chains old change key after p) kind value bytes coded is
+    session work has stands) before h
 
 pub change_all : (s : ℕ) (chains : Chains) (old new : WorldState) (change : RecordChange) (key : List ℕ) (before after : Option (List Value))
-    → IsChangingRow s chains old (Record change key after) → ChangesRecord s old new change (records.Recorded before)
+    → IsChangingRowAlone s chains old (Record change key after) → ChangesRecord s old new change (records.Recorded before)
     → IsAlone s old → LogsAgree old → LogsAgree new
 change_all s chains old new change key before after p h alone agree =
     logging s old new change p.0 (LogsAgree new)
-    (λ kind value bytes coded is. all_logged s chains old new change p.0 p.1 kind value bytes coded is alone agree) before h
+    (λ kind value bytes coded is. all_logged s chains old new change p.0 (alone_rows s chains old change key after p) kind value bytes coded is
+    alone agree) before h

@@ -8,7 +8,9 @@ use Rattle.row_versions.specs.{declared.place.Place.Place, declared.version.Vers
 use Rattle.law_stored_rows.specs.{Entries.has_value, Tables.Said, Tables.what_is_there}
 use Rattle.world.specs.{State.WorldState, Told.IsTold}
 use Rattle.row_changes.specs.{declared.entry_put.EntryPut.EntryPut, declared.row_change.RowChange.RowChange, declared.row_change.RowChange.TheVariants.Record}
-use Rattle.row_changes.specs.{declared.row_change.RowChange.TheVariants.Keys, Keys.gone, Keys.without_row, Keys.said_next, Keys.SaySoFar, Rows.IsChangingRow}
+use Rattle.row_changes.specs.{declared.row_change.RowChange.TheVariants.Keys, Keys.gone, Keys.without_row, Keys.said_next, Keys.SaySoFar}
+use Rattle.row_changes.specs.Rows.{IsChangingRowAlone}
+use Rattle.row_changes.proofs.Alone.{alone_rows}
 use Rattle.law_logged_changes.specs.EntriesLag.{LagsAt, IsReadable}
 
 abbrev some_has : ℕ → Value → List Version → Bool
@@ -34,7 +36,8 @@ next_has column value None before versions has = has
 next_has column value (Some put) before versions has = without_has column value before versions has
 
 module _ (chains : Chains) (place : Place) (done : ℕ) (put : Option EntryPut) (before : Option (List Value)) (others : List Version) (said : Said)
-    (version : Version) (versions : versions_at place chains ≡ version ∷ others) (so : SaySoFar chains place done (said_next put before others) others said)
+    (version : Version) (versions : versions_at place chains ≡ version ∷ others)
+    (so : SaySoFar chains (what_is_there chains) place done (said_next put before others) others said)
   where
     tells_others : (which column : ℕ) (value : Value) → some_has column value others ≡ true → some_has column value (said place.table which place.key) ≡ true
     tells_others which column value has =
@@ -55,9 +58,13 @@ module _ (chains : Chains) (place : Place) (done : ℕ) (put : Option EntryPut) 
       tells = λ which column value has. tells_others which column value (ap (some_has column value) (sym (ap older versions)) ∙ has);
     }
 
-pub readable : (s : ℕ) (chains : Chains) (state : WorldState) (change : RowChange) → IsChangingRow s chains state change → IsTold state
+pub readable : (s : ℕ) (chains : Chains) (state : WorldState) (change : RowChange) → IsChangingRowAlone s chains state change → IsTold state
     → IsReadable chains state
-readable s chains state (Record change key after) p told = record { said = what_is_there chains; coded = p.1 told; lags = inl refl }
+readable s chains state (Record change key after) p told = record {
+  said = what_is_there chains;
+  coded = alone_rows s chains state change key after p told;
+  lags = inl refl;
+}
 readable s chains state (Keys change) p told =
     let rows = p.rows told in
     record {

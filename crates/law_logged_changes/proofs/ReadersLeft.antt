@@ -1,5 +1,6 @@
 -- A step of another session that changes no row leaves a change as it was.
-use Rattle.row_changes.proofs.{Changing.stage_kept, Changing.told_kept, Telling.told_if, Telling.rows_if, Pushed.table_kept, Keying.changing_next}
+use Rattle.row_changes.proofs.{Changing.stage_kept, Changing.told_kept, Telling.told_if, Telling.rows_if, Telling.rows_alone, Alone.alone_rows}
+use Rattle.row_changes.proofs.{Pushed.table_kept, Keying.changing_next}
 use Rattle.std.proofs.Common.{◌≡◌, ℕ, true, false, List, Option, Some, None, sym, subst, ◌∙◌}
 use Rattle.std.specs.Prelude.{slice_get, IfSome, is_some}
 use Rattle.inno_types.specs.{declared.value.Value.Value, declared.value.Schema.Schema}
@@ -10,7 +11,7 @@ use Rattle.world.specs.{State.WorldState, State.HasWork, State.IsIndex, Told.IsT
 use Rattle.law_world_agreement.specs.Agreement.{Agrees}
 use Rattle.row_changes.specs.{declared.entry_put.PutPhase.PutPhase, declared.keys_change.KeysChange.KeysChange, declared.row_change.RowChange.RowChange}
 use Rattle.row_changes.specs.{Entries.PutPhaseHolds, declared.record_change.RecordChange.RecordChange}
-use Rattle.row_changes.specs.{declared.entry_put.EntryPut.EntryPut, Told.HasRows, Told.AreRowsAs, Rows.IsChangingRow, Records.IsChangingRecord}
+use Rattle.row_changes.specs.{declared.entry_put.EntryPut.EntryPut, Told.HasRows, Told.AreRowsAs, Rows.IsChangingRowAlone, Records.IsChangingRecord}
 use Rattle.row_changes.specs.Keys.{IsChangingKeys, said_next, HasRowsSoFar, IsEntering}
 use Rattle.row_changes.specs.declared.row_change.RowChange.TheVariants.{Keys, Record}
 use Rattle.law_logged_changes.proofs.Listed.{listed_of}
@@ -37,9 +38,9 @@ module _ (old new : WorldState) (leaves : LeavesRows old new) where
   pub has_rows_left : (chains : Chains) → HasRows chains old → HasRows chains new
   has_rows_left chains rows told = rows_left chains (what_is_there chains) told (rows (left_told told))
 
-  so_far_left : (chains : Chains) (place : Place) (done : ℕ) (next older : List Version) → HasRowsSoFar chains place done next older old
-      → HasRowsSoFar chains place done next older new
-  so_far_left chains place done next older rows told = let was = rows (left_told told) in (was.0, rows_left chains was.0 told was.1, was.2)
+  so_far_left : (chains : Chains) (beside : Said) (place : Place) (done : ℕ) (next older : List Version)
+      → HasRowsSoFar chains beside place done next older old → HasRowsSoFar chains beside place done next older new
+  so_far_left chains beside place done next older rows told = let was = rows (left_told told) in (was.0, rows_left chains was.0 told was.1, was.2)
 
   -- ---- the change
 
@@ -74,16 +75,20 @@ module _ (old new : WorldState) (leaves : LeavesRows old new) where
     };
   }
 
-  keys_left : (chains : Chains) (change : KeysChange) → IsChangingKeys chains old change → IsChangingKeys chains new change
-  keys_left chains change p =
-      changing_next chains old new change change.which change.put p leaves.schemas left_told p.within
+  keys_left : (chains : Chains) (beside : Said) (change : KeysChange) → IsChangingKeys chains beside old change → IsChangingKeys chains beside new change
+  keys_left chains beside change p =
+      changing_next chains beside old new change change.which change.put p leaves.schemas left_told p.within
       (some_kept (IsEntering p.schema change.table change.which change.after change.key old)
       (IsEntering p.schema change.table change.which change.after change.key new) change.put
       (entering_left p.schema change.table change.which change.after change.key) p.put)
-      (so_far_left chains (record { table = change.table; key = p.value }) change.which (said_next change.put change.before p.older) p.older p.rows)
+      (so_far_left chains beside (record { table = change.table; key = p.value }) change.which (said_next change.put change.before p.older) p.older p.rows)
 
-  pub change_left : (s : ℕ) (chains : Chains) (change : RowChange) → IsChangingRow s chains old change
-      → slice_get new.sessions s ≡ slice_get old.sessions s → Agrees chains new → IsChangingRow s chains new change
-  change_left s chains (Record change key after) p session agrees =
-      (record_left s chains change p.0 session agrees, has_rows_left chains p.1, p.2, p.3)
-  change_left s chains (Keys change) p session agrees = keys_left chains change p
+  pub change_left : (s : ℕ) (chains : Chains) (change : RowChange) → IsChangingRowAlone s chains old change
+      → slice_get new.sessions s ≡ slice_get old.sessions s → Agrees chains new → IsChangingRowAlone s chains new change
+  change_left s chains (Record change key after) p session agrees = (
+    record_left s chains change p.0 session agrees,
+    rows_alone chains change.table change.key new (has_rows_left chains (alone_rows s chains old change key after p)),
+    p.2,
+    p.3,
+  )
+  change_left s chains (Keys change) p session agrees = keys_left chains (what_is_there chains) change p

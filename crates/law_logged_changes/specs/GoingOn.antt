@@ -6,7 +6,7 @@ use Rattle.law_stored_rows.specs.Records.{KeepsMore}
 use Rattle.world.specs.State.{WorldState, Session, Work, HasWork}
 use Rattle.law_world_agreement.specs.Agreement.{Agrees}
 use Rattle.row_changes.specs.{declared.record_change.RecordChange.RecordChange, declared.keys_change.KeysChange.KeysChange, declared.reached.Reached.Reached}
-use Rattle.row_changes.specs.{declared.row_change.RowChange.RowChange, Edits.change_of, Edits.rows_put, Told.HasRows, Rows.PushesEdit, Rows.IsChangingRow}
+use Rattle.row_changes.specs.{declared.row_change.RowChange.RowChange, Edits.change_of, Edits.rows_put, Told.HasRows, Rows.PushesEdit, Rows.IsChangingRowAlone}
 use Rattle.row_changes.specs.declared.row_change.RowChange.TheVariants.{Record, Keys}
 use Rattle.row_changes.specs.declared.reached.Reached.TheVariants.{Went, Done, Hindered}
 
@@ -42,7 +42,7 @@ pub record KeepsBeside (s : ℕ) (old new : WorldState) : Type 0 where
 -- no entry has come, and this is left of the change
 pub record StaysAgreed (s : ℕ) (chains : Chains) (old new : WorldState) (next : RowChange) : Type 0 where
   pub agrees : Agrees chains new
-  pub changing : IsChangingRow s chains new next
+  pub changing : IsChangingRowAlone s chains new next
   pub past : new.past ≡ old.past
   pub rows : new.rows ≡ old.rows
   pub txns : new.txns ≡ old.txns
@@ -53,7 +53,7 @@ pub record EntersAgreed (s : ℕ) (chains : Chains) (old new : WorldState) (chan
   pub after : Chains
   pub pushes : PushesEdit s change old chains after
   pub agrees : Agrees after new
-  pub changing : IsChangingRow s after new (Keys next)
+  pub changing : IsChangingRowAlone s after new (Keys next)
   pub past : new.past ≡ Changed s (change_of change.table change.edit) ∷ old.past
   pub rows : new.rows ≡ old.rows + rows_put change.edit
   pub beside : KeepsBeside s old new
