@@ -1,3 +1,4 @@
 pub mod Leaving
 pub mod Showing
 pub mod Counting
+pub mod At
