@@ -1,25 +1,23 @@
 -- The newest record of a log tells of the newest version of its place, so a taking back may begin.
 use Rattle.row_changes.proofs.Sessions.{one_found}
-use Rattle.std.proofs.Common.{◌≡◌, inl, inr, ⊎_elim, ℕ, Bool, true, false, cond, List, ◌∷◌, Option, Some, None, refl, sym, ap, subst, ◌∙◌, arith, slice_get}
+use Rattle.std.proofs.Common.{◌≡◌, inl, inr, ⊎_elim, ℕ, List, ◌∷◌, Option, Some, None, refl, sym, ap, subst, ◌∙◌, arith, slice_get}
 use Rattle.std.proofs.Common.{length}
 use Rattle.std.proofs.lemmas.Bool.{cases_order}
 use Rattle.inno_types.specs.{declared.value.Value.Value, declared.value.Column.Column, declared.value.Schema.Schema}
 use Rattle.inno_db.specs.declared.change.Change.{Change}
 use Rattle.key_codec.specs.Keys.{HasKey, key_code}
-use Rattle.entries.specs.Pairs.{Pair}
-use Rattle.row_versions.specs.{declared.kept.Kept.Kept, declared.place.Place.Place, declared.version.Version.Version}
-use Rattle.row_versions.specs.Chains.{Chains, versions_at, is_same_place, older}
-use Rattle.law_stored_rows.specs.{Records.shown, Entries.entry_of, Entries.TellAlike}
-use Rattle.law_stored_rows.specs.Tables.{Said, in_table, AreCodedAs, LagAt, what_is_there}
-use Rattle.law_stored_rows.proofs.{Values.one_key, Values.same_place, Keys.said_alike}
+use Rattle.row_versions.specs.{declared.place.Place.Place, declared.version.Version.Version}
+use Rattle.row_versions.specs.Chains.{Chains, versions_at, older}
+use Rattle.law_stored_rows.specs.{Records.shown, Tables.Said, Tables.AreCodedAs, Tables.SayTheSameBut, Tables.what_is_there}
+use Rattle.law_stored_rows.proofs.Values.{one_key}
 use Rattle.law_past_agreement.specs.Rows.{place_in}
 use Rattle.world.specs.{State.WorldState, State.Logged, Told.IsTold, Told.pairs_of}
 use Rattle.row_changes.specs.{declared.entry_put.EntryPut.EntryPut, declared.keys_change.KeysChange.KeysChange, Told.HasRows, Edits.IsKeyAt}
 use Rattle.row_changes.specs.Keys.{IsChangingKeys, IsPushed, HasRowsSoFar, SaySoFar, gone, said_next}
 use Rattle.undo_apply.specs.{declared.work_room.WorkRoom.WorkRoom, declared.work_room.Stage.Stage, declared.work_room.Stage.TheVariants.Find, Rooms.IsWhole}
 use Rattle.undo_apply.specs.{Told.rows_of, Stages.FitsKeys, Stages.StageHolds, Stages.IsPuttingBack}
-use Rattle.undo_apply.specs.Standing.{TellsOf, IsNewest, versions_before, said_but, AreCodedBut, IsLagging, IsUnderWay}
-use Rattle.undo_apply.proofs.Columns.{newest_read}
+use Rattle.undo_apply.specs.Standing.{TellsOf, IsNewest, versions_before, IsLagging, IsUnderWay}
+use Rattle.undo_apply.proofs.{Columns.newest_read, Taken.as_but}
 use Rattle.law_logged_changes.specs.Logs.{records_of, HasRecord, Stands, IsLogOf}
 use Rattle.law_logged_changes.proofs.Logs.{newest_stands}
 
@@ -27,21 +25,6 @@ use Rattle.law_logged_changes.proofs.Logs.{newest_stands}
 
 abbrev at : ℕ → Value → Place
 at table value = record { table = table; key = value }
-
--- ---- keys that lag at the place alone
-
-module _ (schemas : List Schema) (pairs : ℕ → List Pair) (kept : ℕ → Option Kept) (chains : Chains) (place : Place) (said : Said) where
-  but_alike : LagAt place chains said → (table which column : ℕ) (value : Value) (t : Bool) → is_same_place place (at table value) ≡ t
-      → TellAlike column (said table which value) (cond t (said place.table which place.key) (in_table table chains value))
-  but_alike lag table which column value true same =
-      λ other. ap (λ (p : Place). entry_of column other (said p.table which p.key)) (sym (same_place place (at table value) same))
-  but_alike lag table which column value false apart = λ other. ap (entry_of column other) (lag table which value apart)
-
-  as_but : AreCodedAs schemas pairs kept chains said → LagAt place chains said
-      → AreCodedBut schemas pairs kept chains place (λ which. said place.table which place.key)
-  as_but are lag =
-      said_alike schemas pairs kept chains said (said_but chains place (λ which. said place.table which place.key)) are
-      (λ table which schema key there also value. but_alike lag table which key.column value (is_same_place place (at table value)) refl)
 
 -- ---- the newest record
 
@@ -55,20 +38,24 @@ module _ (chains : Chains) (state : WorldState) (logged : Logged) (place : Place
   versions_are said are =
       (newest_read logged.undo schema place state.schemas tells (pairs_of state) state.versions.kept_at chains has.bytes has.coded are.clustered newest_is).0
 
-  pub way_from : (said : Said) → AreCodedAs state.schemas (pairs_of state) state.versions.kept_at chains said → LagAt place chains said
-      → ((which : ℕ) → IsLagging (shown has.coded) (versions_before chains place) (said place.table which place.key))
-      → IsUnderWay chains place logged.undo schema (rows_of state) has.bytes has.coded 0 (IsLagging (shown has.coded) (versions_before chains place))
-  way_from said are lag lags = record {
+  -- the change is under way, and no key is done
+  abbrev Way : Said → Type 0
+  Way beside =
+      IsUnderWay chains beside place logged.undo schema (rows_of state) has.bytes has.coded 0 (IsLagging (shown has.coded) (versions_before chains place))
+
+  pub way_from : (beside said : Said) → AreCodedAs state.schemas (pairs_of state) state.versions.kept_at chains said → SayTheSameBut place beside said
+      → ((which : ℕ) → IsLagging (shown has.coded) (versions_before chains place) (said place.table which place.key)) → Way beside
+  way_from beside said are same lags = record {
     newest = newest_is;
     said = λ which. said place.table which place.key;
-    coded_but = as_but state.schemas (pairs_of state) state.versions.kept_at chains place said are lag;
+    coded_but = as_but state.schemas (pairs_of state) state.versions.kept_at chains beside place said are same;
     says = record { first = λ which less. absurd (omega (arith, less)); here = lags 0; others = λ which more. lags which };
   }
 
-  pub way_settled : HasRows chains state → IsTold state
-      → IsUnderWay chains place logged.undo schema (rows_of state) has.bytes has.coded 0 (IsLagging (shown has.coded) (versions_before chains place))
+  pub way_settled : HasRows chains state → IsTold state → Way (what_is_there chains)
   way_settled rows told =
-      way_from (what_is_there chains) (rows told) (λ table which value apart. refl) (λ which. inr (versions_are (what_is_there chains) (rows told)))
+      let said = what_is_there chains in
+      way_from said said (rows told) (λ table which value apart. refl) (λ which. inr (versions_are said (rows told)))
 
   next_lags : (newest : Version) (put : Option EntryPut) (row : Option (List Value)) (before : List Version)
       → IsLagging newest before (said_next put row before)
@@ -88,13 +75,12 @@ module _ (chains : Chains) (state : WorldState) (logged : Logged) (place : Place
       (λ rest. ⊎_elim (λ less. inr (says.first which less ∙ is)) (λ more. inl (inl (says.later which more ∙ sym same))) rest) (cases_order which done)
 
   pub way_lagging : (keys : KeysChange) → IsChangingKeys chains (what_is_there chains) state keys → keys.table ≡ logged.undo.table
-      → keys.key ≡ logged.undo.key → IsTold state
-      → IsUnderWay chains place logged.undo schema (rows_of state) has.bytes has.coded 0 (IsLagging (shown has.coded) (versions_before chains place))
+      → keys.key ≡ logged.undo.key → IsTold state → Way (what_is_there chains)
   way_lagging keys is table_is key_is told =
       let rows = subst (λ (p : Place). HasRowsSoFar chains (what_is_there chains) p keys.which (said_next keys.put keys.before is.older) is.older state)
       here is.rows told in
       let pushed = subst (λ (p : Place). IsPushed chains p is.older keys.after) here is.pushed in
-      way_from rows.0 rows.1 rows.2.lag
+      way_from (what_is_there chains) rows.0 rows.1 rows.2.lag
       (so_far rows.0 keys.which keys.put keys.before is.older (ap older pushed.versions) rows.2 (versions_are rows.0 rows.1))
     where
       one_schema : is.schema ≡ schema
@@ -116,15 +102,16 @@ module _ (chains : Chains) (state : WorldState) (logged : Logged) (place : Place
 
 -- ---- a taking back begins
 
-begins : (chains : Chains) (place : Place) (room : WorkRoom) (state : WorldState) (logged : Logged) (schema : Schema)
+begins : (chains : Chains) (beside : Said) (place : Place) (room : WorkRoom) (state : WorldState) (logged : Logged) (schema : Schema)
     → TellsOf logged.undo schema place state.schemas → IsWhole room → room.stage ≡ Find
-    → (IsTold state → StageHolds chains place logged.undo schema (rows_of state) room.newest.items Find) → IsPuttingBack chains place logged.undo room state
-begins chains place room state logged schema tells whole stage holds = record {
+    → (IsTold state → StageHolds chains beside place logged.undo schema (rows_of state) room.newest.items Find)
+    → IsPuttingBack chains beside place logged.undo room state
+begins chains beside place room state logged schema tells whole stage holds = record {
   schema = schema;
   tells = tells;
   whole = whole;
   fits = subst (λ (s : Stage). FitsKeys (length schema.keys) logged.undo s) (sym stage) (record {});
-  holds = λ told. subst (λ (s : Stage). StageHolds chains place logged.undo schema (rows_of state) room.newest.items s) (sym stage) (holds told);
+  holds = λ told. subst (λ (s : Stage). StageHolds chains beside place logged.undo schema (rows_of state) room.newest.items s) (sym stage) (holds told);
 }
 
 module _ (chains : Chains) (state : WorldState) (logged : Logged) (log : List Logged) (change : Change) (own : List Change) (place : Place) (room : WorkRoom)
@@ -135,13 +122,15 @@ module _ (chains : Chains) (state : WorldState) (logged : Logged) (log : List Lo
   pub tells_of_it : TellsOf logged.undo top.schema place state.schemas
   tells_of_it = subst (λ (p : Place). TellsOf logged.undo top.schema p state.schemas) (one_found top.place place top.place_is place_is) top.tells
 
-  pub begins_settled : HasRows chains state → IsWhole room → room.stage ≡ Find → IsPuttingBack chains place logged.undo room state
+  pub begins_settled : HasRows chains state → IsWhole room → room.stage ≡ Find
+      → IsPuttingBack chains (what_is_there chains) place logged.undo room state
   begins_settled rows whole stage =
-      begins chains place room state logged top.schema tells_of_it whole stage
+      begins chains (what_is_there chains) place room state logged top.schema tells_of_it whole stage
       (λ told. let has = top.record_is told in inl (has.bytes, has.coded, way_settled chains state logged place top.schema tells_of_it has rows told))
 
   pub begins_lagging : (keys : KeysChange) → IsChangingKeys chains (what_is_there chains) state keys → keys.table ≡ logged.undo.table
-      → keys.key ≡ logged.undo.key → IsWhole room → room.stage ≡ Find → IsPuttingBack chains place logged.undo room state
+      → keys.key ≡ logged.undo.key → IsWhole room → room.stage ≡ Find
+      → IsPuttingBack chains (what_is_there chains) place logged.undo room state
   begins_lagging keys is table_is key_is whole stage =
-      begins chains place room state logged top.schema tells_of_it whole stage (λ told. let has = top.record_is told in inl
+      begins chains (what_is_there chains) place room state logged top.schema tells_of_it whole stage (λ told. let has = top.record_is told in inl
       (has.bytes, has.coded, way_lagging chains state logged place top.schema tells_of_it has keys is table_is key_is told))

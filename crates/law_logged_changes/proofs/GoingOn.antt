@@ -5,6 +5,7 @@ use Rattle.inno_db.specs.declared.change.Change.{Change}
 use Rattle.inno_model.specs.Past.{own}
 use Rattle.store_api.specs.{declared.answers.Undo.Undo, declared.moves.Move.Move, declared.moves.Move.TheVariants.Done, declared.moves.Move.TheVariants.Step}
 use Rattle.row_versions.specs.{declared.place.Place.Place, Chains.Chains}
+use Rattle.law_stored_rows.specs.Tables.{Said, what_is_there}
 use Rattle.world.specs.State.{WorldState, Session, Work, HasWork}
 use Rattle.law_world_agreement.specs.Agreement.{Agrees}
 use Rattle.law_world_agreement.proofs.Joining.{agrees_alike}
@@ -53,10 +54,13 @@ none_yet u work old new none now log =
 -- ---- the steps
 
 module _ (chains : Chains) (place : Place) (actor : ℕ) (undo : Undo) (room next : WorkRoom) (old new : WorldState) where
-  hindered_leaves : (why : Move) → IsHindered chains place actor undo room next old new why → LeavesRecords old new × ChangesPairsAlone old new
+  abbrev beside : Said
+  beside = what_is_there chains
+
+  hindered_leaves : (why : Move) → IsHindered chains beside place actor undo room next old new why → LeavesRecords old new × ChangesPairsAlone old new
   hindered_leaves why is = (stay_leaves old new is.stays, is.stays.rest)
 
-  goes_leaves : GoesOn chains place undo room next old new → LeavesRecords old new × ChangesPairsAlone old new
+  goes_leaves : GoesOn chains beside place undo room next old new → LeavesRecords old new × ChangesPairsAlone old new
   goes_leaves goes =
       let tells = goes.holds.tells in
       let few = few_keys goes.holds.schema tells.storable in
@@ -64,19 +68,20 @@ module _ (chains : Chains) (place : Place) (actor : ℕ) (undo : Undo) (room nex
       (λ one. (entry_leaves undo.table one.0 one.2 one.3 old new (let within = one.1 in omega arith) one.4, one.4.rest))
       (goes.changes goes.holds.schema tells.there)
 
-  step_leaves : (answer : Move) → PutsBack chains place actor undo room next old new answer → answer ≢ Done → LeavesRecords old new × ChangesPairsAlone old new
+  step_leaves : (answer : Move) → PutsBack chains beside place actor undo room next old new answer → answer ≢ Done
+      → LeavesRecords old new × ChangesPairsAlone old new
   step_leaves Done is not_done = absurd (not_done refl)
   step_leaves Step (inl goes) not_done = goes_leaves goes
   step_leaves Step (inr is) not_done = hindered_leaves Step is
   step_leaves why is not_done = hindered_leaves why is
 
-  pub done_beside : IsDone chains place undo room next old new → ChangesPairsAlone old new
+  pub done_beside : IsDone chains beside place undo room next old new → ChangesPairsAlone old new
   done_beside done = ⊎_elim (λ stays. stays.rest) (λ puts. puts.rest) done.changes
 
-  pub step_all : (answer : Move) → PutsBack chains place actor undo room next old new answer → answer ≢ Done → LogsAgree old → LogsAgree new
+  pub step_all : (answer : Move) → PutsBack chains beside place actor undo room next old new answer → answer ≢ Done → LogsAgree old → LogsAgree new
   step_all answer is not_done agree = let left = step_leaves answer is not_done in all_left old new left.0 (logs_beside old new left.1) agree
 
-  pub step_beside : (answer : Move) → PutsBack chains place actor undo room next old new answer → ChangesPairsAlone old new
+  pub step_beside : (answer : Move) → PutsBack chains beside place actor undo room next old new answer → ChangesPairsAlone old new
   step_beside Done is = done_beside is
   step_beside Step is = (step_leaves Step is (λ e. cc)).1
   step_beside why is = is.stays.rest

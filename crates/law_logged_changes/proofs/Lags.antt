@@ -6,32 +6,32 @@ use Rattle.inno_types.specs.{declared.value.Value.Value, declared.value.Schema.S
 use Rattle.store_api.specs.{declared.answers.Undo.Undo}
 use Rattle.store_api.specs.declared.answers.Version.{Version as Coded}
 use Rattle.row_versions.specs.{declared.place.Place.Place, declared.version.Version.Version, Chains.Chains}
-use Rattle.law_stored_rows.specs.{Entries.has_value, Records.shown, Tables.AreClustered, Tables.AreCoded}
+use Rattle.law_stored_rows.specs.{Entries.has_value, Records.shown, Tables.AreClustered, Tables.AreCoded, Tables.Said, Tables.what_is_there}
 use Rattle.world.specs.{State.WorldState, Told.IsTold, Told.pairs_of}
 use Rattle.undo_apply.specs.{declared.work_room.WorkRoom.WorkRoom, declared.work_room.Stage.Stage, Told.Rows, Told.rows_of}
 use Rattle.undo_apply.specs.Stages.{StageHolds, IsPuttingBack}
 use Rattle.undo_apply.specs.declared.work_room.Stage.TheVariants.{Find, Key, Walk, Mark, Await, Remove, Unmark, AwaitRecords, Record}
 use Rattle.undo_apply.specs.Standing.{versions_before, said_but, IsLagging, SayBefore, IsUnderWay, IsTakenBack}
-use Rattle.undo_apply.proofs.{Taken.says_place, Taken.lags_there, Columns.lagging_any}
+use Rattle.undo_apply.proofs.{Taken.says_place, Taken.lags_there, Taken.whole_yet, Columns.lagging_any}
 use Rattle.law_logged_changes.specs.Lagging.{LagsAt}
 
 -- ---- at whatever stage
 
 -- The change is being taken back, and some keys are done.
-pub record IsLagged (chains : Chains) (place : Place) (undo : Undo) (schema : Schema) (rows : Rows) : Type 0 where
+pub record IsLagged (chains : Chains) (beside : Said) (place : Place) (undo : Undo) (schema : Schema) (rows : Rows) : Type 0 where
   pub bytes : List ℕ
   pub coded : Coded
   pub done : ℕ
-  pub way : IsUnderWay chains place undo schema rows bytes coded done (IsLagging (shown coded) (versions_before chains place))
+  pub way : IsUnderWay chains beside place undo schema rows bytes coded done (IsLagging (shown coded) (versions_before chains place))
 
-module _ (chains : Chains) (place : Place) (undo : Undo) (schema : Schema) (rows : Rows) where
+module _ (chains : Chains) {beside : Said} (place : Place) (undo : Undo) (schema : Schema) (rows : Rows) where
   lagged : (bytes : List ℕ) (coded : Coded) (done : ℕ)
-      → IsUnderWay chains place undo schema rows bytes coded done (IsLagging (shown coded) (versions_before chains place))
-      → IsLagged chains place undo schema rows ⊎ IsTakenBack chains undo rows
+      → IsUnderWay chains beside place undo schema rows bytes coded done (IsLagging (shown coded) (versions_before chains place))
+      → IsLagged chains beside place undo schema rows ⊎ IsTakenBack chains beside place undo rows
   lagged bytes coded done way = inl (record { bytes = bytes; coded = coded; done = done; way = way })
 
-  pub at_stage : (bytes : List ℕ) (stage : Stage) → StageHolds chains place undo schema rows bytes stage
-      → IsLagged chains place undo schema rows ⊎ IsTakenBack chains undo rows
+  pub at_stage : (bytes : List ℕ) (stage : Stage) → StageHolds chains beside place undo schema rows bytes stage
+      → IsLagged chains beside place undo schema rows ⊎ IsTakenBack chains beside place undo rows
   at_stage bytes Find (inl (read, coded, way)) = lagged read coded 0 way
   at_stage bytes Find (inr back) = inr back
   at_stage bytes (Key which) (coded, way) = lagged bytes coded which way
@@ -48,9 +48,9 @@ module _ (chains : Chains) (place : Place) (undo : Undo) (schema : Schema) (rows
   at_stage bytes AwaitRecords (coded, way) = lagged bytes coded (length schema.keys) way
   at_stage bytes Record (coded, way) = lagged bytes coded (length schema.keys) way
 
-pub clustered_while : (chains : Chains) (place : Place) (undo : Undo) (room : WorkRoom) (state : WorldState) → IsPuttingBack chains place undo room state
-    → IsTold state → AreClustered state.schemas (pairs_of state) state.versions.kept_at chains
-clustered_while chains place undo room state is told =
+pub clustered_while : (chains : Chains) {beside : Said} (place : Place) (undo : Undo) (room : WorkRoom) (state : WorldState)
+    → IsPuttingBack chains beside place undo room state → IsTold state → AreClustered state.schemas (pairs_of state) state.versions.kept_at chains
+clustered_while chains {beside} place undo room state is told =
     ⊎_elim (λ lag. lag.way.coded_but.clustered) (λ back. back.all.clustered)
     (at_stage chains place undo is.schema (rows_of state) room.newest.items room.stage (is.holds told))
 
@@ -66,14 +66,16 @@ said_any newest before said done says which column value some =
     (λ rest. ⊎_elim (λ less. ap (any_of column value) (says.first which less) ∙ some)
     (λ more. lagging_any column value newest before (said which) some (says.others which more)) rest) (cases_order which done)
 
-pub lags_while : (chains : Chains) (place : Place) (undo : Undo) (room : WorkRoom) (state : WorldState) → IsPuttingBack chains place undo room state
-    → IsTold state → LagsAt place chains state ⊎ AreCoded state.schemas (pairs_of state) state.versions.kept_at chains
+pub lags_while : (chains : Chains) (place : Place) (undo : Undo) (room : WorkRoom) (state : WorldState)
+    → IsPuttingBack chains (what_is_there chains) place undo room state → IsTold state
+    → LagsAt place chains state ⊎ AreCoded state.schemas (pairs_of state) state.versions.kept_at chains
 lags_while chains place undo room state is told =
     ⊎_elim (λ lag. inl (record {
-      said = said_but chains place lag.way.said;
+      said = said_but (what_is_there chains) place lag.way.said;
       coded = lag.way.coded_but;
-      lag = lags_there chains place lag.way.said;
+      lag = lags_there (what_is_there chains) place lag.way.said;
       older = λ which column value some.
-          subst (λ (versions : List Version). any_of column value versions ≡ true) (sym (says_place chains place lag.way.said which))
+          subst (λ (versions : List Version). any_of column value versions ≡ true) (sym (says_place (what_is_there chains) place lag.way.said which))
           (said_any (shown lag.coded) (versions_before chains place) lag.way.said lag.done lag.way.says which column value some);
-    })) (λ back. inr back.all) (at_stage chains place undo is.schema (rows_of state) room.newest.items room.stage (is.holds told))
+    })) (λ back. inr (whole_yet chains place undo (rows_of state) back))
+    (at_stage chains place undo is.schema (rows_of state) room.newest.items room.stage (is.holds told))

@@ -13,7 +13,7 @@ use Rattle.inno_db.specs.Database.{key_of}
 use Rattle.row_versions.specs.{declared.kept.Kept.Kept, declared.place.Place.Place, declared.version.Version.Version, Chains.Chains, Chains.Pops}
 use Rattle.row_versions.specs.Chains.{older as behind}
 use Rattle.law_stored_rows.specs.{Edits.clustered_index, Edits.Puts, Records.shown, Records.kept_of, Records.LeadTo, Records.IsRecordWith}
-use Rattle.law_stored_rows.specs.Tables.{in_table}
+use Rattle.law_stored_rows.specs.Tables.{in_table, Said, what_is_there}
 use Rattle.law_stored_rows.proofs.{FromTables.decoded, KeptRows.kept_along, RowRecords.pointer_followed, RowRecords.record_back}
 use Rattle.law_past_agreement.specs.Rows.{place_in}
 use Rattle.world.specs.{State.WorldState, State.Session, State.Work, State.Logged, State.HasWork, Told.IsTold, Told.pairs_of}
@@ -21,15 +21,19 @@ use Rattle.row_changes.specs.Told.{HasRows}
 use Rattle.row_changes.proofs.Telling.{stays_told, same_pairs_of, put_told, put_pairs}
 use Rattle.undo_apply.specs.{declared.work_room.WorkRoom.WorkRoom, Told.rows_of, Stages.IsPuttingBack, Stages.IsDone}
 use Rattle.undo_apply.specs.Standing.{TellsOf, LeadsBack, was_before, versions_before, IsLagging, IsTakenBack}
-use Rattle.undo_apply.proofs.{Taken.stands, Columns.before_kept}
+use Rattle.undo_apply.proofs.{Taken.stands, Taken.taken_whole, Taken.whole_yet, Columns.before_kept}
 use Rattle.law_logged_changes.specs.Steps.{ChangesPairsAlone, IsToCut, IsRowAgain}
 use Rattle.law_logged_changes.specs.Logs.{records_of, taken_back, HasRecord, Stands, IsLogOf, LogsAgree, IsAlone}
 
 module _ (chains after : Chains) (old new : WorldState) (logged : Logged) (older : List Logged) (change : Change) (before : List Change) (place : Place)
     (room next : WorkRoom) (log_is : IsLogOf old (logged ∷ older) (change ∷ before)) (place_is : place_in old.schemas change ≡ Some place)
-    (back : IsPuttingBack chains place logged.undo room old) (done : IsDone chains place logged.undo room next old new) (pops : Pops chains after place) where
+    (back : IsPuttingBack chains (what_is_there chains) place logged.undo room old)
+    (done : IsDone chains (what_is_there chains) place logged.undo room next old new) (pops : Pops chains after place) where
   abbrev undo : Undo
   undo = logged.undo
+
+  abbrev said : Said
+  said = what_is_there chains
 
   abbrev newest : Stands (IsTold old) old.schemas (records_of old) old.versions.kept_at logged older change
   newest = top chains old logged older change before place room log_is place_is
@@ -50,17 +54,17 @@ module _ (chains after : Chains) (old new : WorldState) (logged : Logged) (older
   not_before : IsTold old → value_of undo.key (pairs_of old (clustered_index undo.table)) ≢ was_before undo
   not_before told =
       ⊎_elim
-      (λ lag. stands chains place undo back.schema (rows_of old) lag.bytes lag.coded lag.done (IsLagging _ (versions_before chains place)) back.tells lag.way)
-      (λ gone. let has = newest.record_is told in
-      stands chains place undo newest.schema (rows_of old) has.bytes has.coded 0 (IsLagging _ (versions_before chains place)) tells
-      (way_settled chains old logged place newest.schema tells has (λ again. gone.all) told))
+      (λ lag. stands chains said place undo back.schema (rows_of old) lag.bytes lag.coded lag.done (IsLagging _ (versions_before chains place)) back.tells
+      lag.way) (λ gone. let has = newest.record_is told in
+      stands chains said place undo newest.schema (rows_of old) has.bytes has.coded 0 (IsLagging _ (versions_before chains place)) tells
+      (way_settled chains old logged place newest.schema tells has (λ again. whole_yet chains place undo (rows_of old) gone) told))
       (at_stage chains place undo back.schema (rows_of old) room.newest.items room.stage (back.holds told))
 
-  taken : IsTold new → IsTakenBack after undo (rows_of new)
+  taken : IsTold new → IsTakenBack after said place undo (rows_of new)
   taken told = done.popped told (not_before (told_before told)) after pops
 
   pub rows_then : HasRows after new
-  rows_then told = (taken told).all
+  rows_then told = taken_whole chains after place undo (rows_of new) pops (taken told)
 
   puts_then : IsTold new → Puts (pairs_of old) (pairs_of new) (clustered_index undo.table) undo.key (was_before undo)
   puts_then told =
@@ -151,7 +155,8 @@ module _ (chains after : Chains) (old new : WorldState) (logged : Logged) (older
 pub to_cut_by_history : (s : ℕ) (chains after : Chains) (old new : WorldState) (session : Session) (work : Work) (logged : Logged) (older : List Logged)
     (change : Change) (before : List Change) (place : Place) (room next : WorkRoom) → LogsAgree old → IsAlone s old → HasWork s session work old
     → work.log ≡ logged ∷ older → own s old.past ≡ change ∷ before → place_in old.schemas change ≡ Some place
-    → IsPuttingBack chains place logged.undo room old → IsDone chains place logged.undo room next old new → Pops chains after place
+    → IsPuttingBack chains (what_is_there chains) place logged.undo room old → IsDone chains (what_is_there chains) place logged.undo room next old new
+    → Pops chains after place
     → IsToCut s logged older before new
 to_cut_by_history s chains after old new session work logged older change before place room next agree alone has_work is own_is place_is back done pops =
     let log =
