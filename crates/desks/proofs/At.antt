@@ -2,7 +2,7 @@
 use Rattle.std.proofs.Common.{◌≡◌, ℕ, zero, suc, ◌<◌, List, [], ◌∷◌, length, Option, Some, None, get_or, refl, sym, ap, ◌∙◌}
 use Rattle.std.proofs.lemmas.Option.{slice_get-get_or}
 use Rattle.std.specs.Prelude.{slice_set}
-use Rattle.desks.specs.{declared.desk.Desk.Desk, Desks.desk_at, Desks.with_desk}
+use Rattle.desks.specs.{declared.desk.Desk.Desk, declared.desk.Doing.Doing, Desks.desk_at, Desks.with_desk, Desks.with_doing}
 
 some_desk : (a b : Desk) → Some a ≡ Some b → a ≡ b
 some_desk a b same = cc
@@ -16,3 +16,10 @@ pub set_at : (s : ℕ) (change : Desk → Desk) {desk : Desk} (desks : List Desk
 set_at s change [] at = absurd (let none : None ≡ Some _ = at in cc)
 set_at zero change {desk} (first ∷ desks) at = ap (λ (d : Desk). change d ∷ desks) (sym (some_desk first desk at))
 set_at (suc s) change (first ∷ desks) at = ap (λ (ds : List Desk). first ∷ ds) (set_at s change desks at)
+
+-- one that was read has something else to do
+pub given_at : (s : ℕ) (doing : Doing) (desks : List Desk) {read : Desk} {put : Doing} → s < length desks → read ≡ get_or desks s read → put ≡ doing
+    → slice_set desks s (record read { doing = put }) ≡ with_doing s doing desks
+given_at s doing desks {read} within is given =
+    ap (λ (d : Doing). slice_set desks s (record read { doing = d })) given
+    ∙ set_at s (λ (desk : Desk). record desk { doing = doing }) desks (desk_read desks s within is)
