@@ -111,9 +111,9 @@ module _ (w : ℕ) {chains : Chains} {old new : WorldState} (leaves : LeavesRows
   rows_left_at (Some desk) rows = rows_left (read_into desk.undo) desk.room desk.doing rows
 
 -- rows as who may write holds them
-pub rows_by_writer : (s : ℕ) {writer : Option ℕ} (chains : Chains) (state : WorldState) {desks : List Desk} → writer ≡ Some s → {desk : Desk}
+pub rows_by_writer : (s : ℕ) {writer : Option ℕ} (chains : Chains) (state : WorldState) (desks : List Desk) → writer ≡ Some s → {desk : Desk}
     → desk_at s desks ≡ Some desk → RowsHeld chains state s (read_into desk.undo) desk.room desk.doing → RowsHeldBy writer chains state desks
-rows_by_writer s chains state {desks} mine at rows =
+rows_by_writer s chains state desks mine at rows =
     subst (λ (w : Option ℕ). RowsHeldBy w chains state desks) (sym mine) (subst (RowsHeldAt chains state s) (sym at) rows)
 
 -- who changes no row leaves the indexes coded

@@ -386,7 +386,7 @@ writes_no_more : (writer : Option ℕ) (t : ℕ) → writer_without writer t ≡
 writes_no_more None t is = cc
 writes_no_more (Some w) t is = grind (arith, nat_tests, is)
 
-module _ {store : Store} {new : WorldState} (held : IsHeld store) (t : ℕ) (rests : doing_at t store.desks ≡ Nothing) (told : IsTold store.world)
+module _ {store : Store} (held : IsHeld store) (t : ℕ) (rests : doing_at t store.desks ≡ Nothing) (told : IsTold store.world)
     (few : length store.world.past + 1 < 2 ^ 63) where
   abbrev then_closed : WorldState → Store
   then_closed world = record store { world = world; writer = writer_without store.writer t }
@@ -397,8 +397,8 @@ module _ {store : Store} {new : WorldState} (held : IsHeld store) (t : ℕ) (res
   own_still : own t store.world.past ≡ [] → own t (RolledBack t ∷ store.world.past) ≡ []
   own_still none = grind (arith, nat_tests, none)
 
-  pub committed_held : IsCommitted t store.world new → IsHeld (then_closed new)
-  committed_held is =
+  pub committed_held : {new : WorldState} → IsCommitted t store.world new → IsHeld (then_closed new)
+  committed_held {new} is =
       let old = store.world in
       let after : Session = record is.session { can_ack = true; setting = at_end is.session.setting; work = None } in
       let there = is.has_work.session_is in
@@ -408,8 +408,8 @@ module _ {store : Store} {new : WorldState} (held : IsHeld store) (t : ℕ) (res
       (inr (Committed t, eq-eqb t t refl, refl)) held.fits (λ w is_w. absurd (cc)) (held.has_room.replies t is.session there) (λ waits. refl)
       (λ w is_w. absurd (cc)) (held.started t) (λ mine. absurd (writes_no_more store.writer t mine)) (λ other. own_then))
 
-  pub rolled_back_held : own t store.world.past ≡ [] → IsRolledBack t store.world new → IsHeld (then_closed new)
-  rolled_back_held none is =
+  pub rolled_back_held : {new : WorldState} → own t store.world.past ≡ [] → IsRolledBack t store.world new → IsHeld (then_closed new)
+  rolled_back_held {new} none is =
       let old = store.world in
       let after : Session = record is.session { setting = at_end is.session.setting; work = None } in
       let there = is.has_work.session_is in

@@ -167,7 +167,7 @@ module _ {s : ℕ} {store : Store} {new : WorldState} (held : IsHeld store) (min
 
     rows_then : ((desk : Desk) → RowsHeld after new s (read_into desk.undo) desk.room doing)
         → RowsHeldBy store.writer after new (with_doing s doing store.desks)
-    rows_then rows = let was = there s store.desks within in rows_by_writer s after new mine (gives.here was.0 was.1) (rows was.0)
+    rows_then rows = let was = there s store.desks within in rows_by_writer s after new (with_doing s doing store.desks) mine (gives.here was.0 was.1) (rows was.0)
 
     pub keeps : is_undoing (doing_at s store.desks) ≡ false → is_searching doing ≡ false → FitsThen new.past → LogsAgree new
         → ((desk : Desk) → RowsHeld after new s (read_into desk.undo) desk.room doing) → AreFew after new.past → IsHeld then_held

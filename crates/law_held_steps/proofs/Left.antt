@@ -1,6 +1,6 @@
 -- Indexes that a session leaves.
 use Rattle.std.proofs.Common.{◌≡◌, ◌≢◌, ⊎_elim, ℕ, ◌<◌, ◌≤◌, false, length, Option, Some, None, refl, sym, ap, subst, ◌∙◌, ◌+◌, arith}
-use Rattle.std.specs.Prelude.{slice_get}
+use Rattle.std.specs.Prelude.{slice_get, List}
 use Rattle.std.proofs.lemmas.Bool.{cases_eq}
 use Rattle.inno_types.specs.declared.value.Schema.{Schema}
 use Rattle.entries.specs.Calls.{Leaves}
@@ -11,8 +11,10 @@ use Rattle.law_held_steps.proofs.AnyStep.{rows_left_at, held_beside}
 use Rattle.world.specs.{State.WorldState, State.index_of, Indexes.Calls, Told.IsTold}
 use Rattle.law_logged_changes.proofs.{ReadersLeft.has_rows_left, Leaving.all_left, Leaving.rows_leave, GoingOn.logs_beside, GoingOn.own_beside}
 use Rattle.law_logged_changes.proofs.{GoingOn.agrees_beside}
-use Rattle.desks.specs.{declared.desk.Doing.Doing, declared.desk.Doing.TheVariants.Searching, Store.Store, Desks.desk_at, Desks.doing_at, Holding.IsHeld}
-use Rattle.desks.specs.{Holding.RowsHeldBy, Holding.SearchHeld}
+use Rattle.row_search.specs.{declared.sight.Sight.Sight, declared.sight.Sight.TheVariants.View, declared.sight.Sight.TheVariants.Newest}
+use Rattle.desks.specs.{declared.desk.Desk.Desk, declared.desk.Doing.Doing, declared.desk.Doing.TheVariants.Searching, Store.Store, Desks.desk_at}
+use Rattle.desks.specs.{Desks.doing_at, Holding.IsHeld}
+use Rattle.desks.specs.Holding.{RowsHeldBy, SearchHeld, SightHolds}
 use Rattle.law_held_steps.specs.{Leaving.LeavesIndexes, Leaving.LeavesTable, Leaving.is_searching}
 
 pub one_left : (s index : ℕ) (old new : WorldState) → Calls index (λ before after. Leaves s before after) old new → LeavesIndexes s old new
@@ -53,6 +55,22 @@ all_gone s table count schema old new there all below = record { gone = go }
 pub no_search : (chains : Chains) (store : Store) (s : ℕ) (doing : Doing) → is_searching doing ≡ false → SearchHeld chains store s doing
 no_search chains store s (Searching on) none = absurd (cc)
 no_search chains store s other none = record {}
+
+-- what other desks are is not spoken of
+sight_as : (store : Store) (desks : List Desk) (s : ℕ) (sight : Sight) → SightHolds store s sight → SightHolds (record store { desks = desks }) s sight
+sight_as store desks s (View view reader) is = is
+sight_as store desks s Newest is = is
+
+pub search_as : (chains : Chains) (store : Store) (desks : List Desk) (s : ℕ) (doing : Doing) → SearchHeld chains store s doing
+    → SearchHeld chains (record store { desks = desks }) s doing
+search_as chains store desks s (Searching on) is = record {
+  there = is.there;
+  which = is.which;
+  since = is.since;
+  finds = is.finds;
+  sight = sight_as store desks s on.search.scan.sight is.sight;
+}
+search_as chains store desks s other is = record {}
 
 module _ {s : ℕ} {store : Store} {new : WorldState} (leaves : LeavesIndexes s store.world new) where
   pub held_left : IsHeld store → is_searching (doing_at s store.desks) ≡ false → IsTold new → IsHeld (record store { world = new })

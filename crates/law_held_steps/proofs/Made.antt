@@ -28,7 +28,7 @@ use Rattle.desks.specs.{declared.desk.Desk.Desk, declared.desk.Doing.Doing, decl
 use Rattle.desks.specs.{Store.Store, Desks.desk_at, Desks.doing_in, Desks.doing_at, Desks.started_in, Desks.started_at, Desks.with_doing}
 use Rattle.desks.specs.{Desks.is_quiet_doing, Desks.is_undoing, Desks.HasRooms, Undoing.keys_if}
 use Rattle.law_held_steps.proofs.{Desks.given, Desks.there, Desks.rooms_then, Desks.changes_at_a_desk, AnyStep.each, AnyStep.quiet_rows_at}
-use Rattle.law_held_steps.proofs.{AnyStep.rows_by_writer, Putting.rows_mine, Putting.changing_rows, Putting.alone_if}
+use Rattle.law_held_steps.proofs.{AnyStep.rows_by_writer, Left.search_as, Putting.rows_mine, Putting.changing_rows, Putting.alone_if}
 use Rattle.row_versions.specs.{declared.place.Place.Place, declared.version.Version.Version, Chains.Chains, Chains.versions_at, Chains.is_same_place}
 use Rattle.row_versions.specs.{Chains.Pushes}
 use Rattle.law_logged_changes.specs.{GoingOn.KeepsBeside, GoingOn.StaysAgreed, GoingOn.EntersAgreed, GoingOn.EndsAgreed, Logs.LogsAgree, Logs.IsAlone}
@@ -73,7 +73,7 @@ edit_fits schemas table schema (Remove value) key there fits =
 
 -- ---- a change begins
 
-module _ {store : Store} {s : ℕ} (held : IsHeld store) where
+module _ {store : Store} (held : IsHeld store) where
   abbrev state : WorldState
   state = store.world
 
@@ -92,7 +92,7 @@ module _ {store : Store} {s : ℕ} (held : IsHeld store) where
         of_kind = found.2.of_kind;
       }
 
-  module _ (mine : store.writer ≡ Some s) where
+  module _ {s : ℕ} (mine : store.writer ≡ Some s) where
     -- who may write has something else under way, while the world is what it was
     pub turned : (doing : Doing) → s < length store.desks → is_undoing (doing_at s store.desks) ≡ false
         → ((desk : Desk) → RowsHeld held.chains state s (read_into desk.undo) desk.room doing)
@@ -107,12 +107,13 @@ module _ {store : Store} {s : ℕ} (held : IsHeld store) where
           agrees = held.agrees;
           fits = held.fits;
           writes = held.writes;
-          rows = rows_by_writer s held.chains state mine (gives.here was.0 was.1) (rows was.0);
+          rows = rows_by_writer s held.chains state now.desks mine (gives.here was.0 was.1) (rows was.0);
           quiet = each s (λ u. store.writer ≢ Some u → is_quiet_doing (doing_at u now.desks) ≡ true) (λ other. absurd (other mine))
               (λ u differs other. ap (λ desk. is_quiet_doing (doing_in desk)) (gives.others u differs) ∙ held.quiet u other);
           searches = each s (λ u. SearchHeld held.chains now u (doing_at u now.desks))
               (subst (SearchHeld held.chains now s) (sym gives.doing_is) search) (λ u differs.
-              subst (λ desk. SearchHeld held.chains now u (doing_in desk)) (sym (gives.others u differs)) (held.searches u));
+              subst (λ desk. SearchHeld held.chains now u (doing_in desk)) (sym (gives.others u differs))
+              (search_as held.chains store now.desks u (doing_at u store.desks) (held.searches u)));
           logs = held.logs;
           has_room = held.has_room;
           started = each s (λ u. started u state.past ≡ started_at u now.desks) (held.started s ∙ sym gives.started)
@@ -192,7 +193,8 @@ module _ {s : ℕ} {store : Store} {new : WorldState} (held : IsHeld store) (min
 
   -- the history tells the change now
   last_logged : (change : RecordChange) (key : List ℕ) (after : Option (List Value)) (next : KeysChange)
-      → IsChangingRowAlone s held.chains old (Record change key after) → ChangesRowAlone s held.chains old new (Record change key after) (Went (Keys next)) → new.schemas ≡ old.schemas → IsLastOf new s next
+      → IsChangingRowAlone s held.chains old (Record change key after)
+      → ChangesRowAlone s held.chains old new (Record change key after) (Went (Keys next)) → new.schemas ≡ old.schemas → IsLastOf new s next
   last_logged change key after next row c same =
       let p = row.0 in
       let logged =

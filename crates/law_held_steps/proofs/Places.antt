@@ -12,8 +12,8 @@ use Rattle.entries.specs.{Pairs.Pair, Index.AreKept, Calls.Leaves, Calls.release
 use Rattle.world.specs.{State.WorldState, Told.IsTold, Told.LeavesRows, Indexes.Calls, Undoing.IsUnchanged}
 use Rattle.law_logged_changes.proofs.{ReadersLeft.left_told, Leaving.rows_leave, Leaving.all_left, GoingOn.logs_beside}
 use Rattle.law_held_steps.specs.{Moving.MovesPlaces}
-use Rattle.desks.specs.{declared.desk.Desk.Desk, declared.desk.Doing.Doing, declared.desk.Doing.TheVariants.Nothing, Desks.doing_at, Desks.with_doing}
-use Rattle.desks.specs.{Desks.is_quiet_doing, Store.Store, Holding.SearchHeld, Holding.IsHeld}
+use Rattle.desks.specs.{declared.desk.Desk.Desk, declared.desk.Doing.Doing, declared.desk.Doing.TheVariants.Nothing, Desks.desk_at, Desks.doing_at}
+use Rattle.desks.specs.{Desks.with_doing, Desks.is_quiet_doing, Store.Store, Holding.SearchHeld, Holding.IsHeld}
 
 kept_same : {old new : Option (List Pair)} → new ≡ old → AreKept old new
 kept_same {old} same = subst (AreKept old) (sym same) (same_pairs old)
@@ -105,7 +105,8 @@ module _ {s : ℕ} {store : Store} {new : WorldState} (moves : MovesPlaces s sto
   held_stays was is told search =
       let now = with_doing s doing store.desks in
       let rows = moves_leave moves in
-      let same = λ u differs. desk_elsewhere s u (λ (desk : Desk). record desk { doing = doing }) store.desks differs in
+      let same : (u : ℕ) → u ≢ s → desk_at u now ≡ desk_at u store.desks
+      = λ u differs. desk_elsewhere s u (λ (desk : Desk). record desk { doing = doing }) store.desks differs in
       let does = does_beside s held now moves.rest moves.versions (moves_told moves told) told moves.places same in
       let quiet : is_quiet_doing (doing_at s now) ≡ true =
       ⊎_elim (λ here. ap is_quiet_doing here ∙ is) (λ none. ap is_quiet_doing none) (doing_mine s doing store.desks) in

@@ -107,7 +107,7 @@ module _ (s : ℕ) {store : Store} (held : IsHeld store) where
       (ap started_in gives.here ∙ gives.started ∙ sym (ap started_in gives.before)) gives.count (λ other. absurd (other mine))
       (subst (λ desk. SearchHeld held.chains (record store { world = new; desks = now }) s (doing_in desk)) (sym gives.here) search)
       (λ desk there. subst HasRooms (some_same is desk (sym gives.here ∙ there)) rooms)
-      (rows_by_writer s held.chains new mine gives.here rows) logs
+      (rows_by_writer s held.chains new now mine gives.here rows) logs
 
 -- a step that was hindered doesn't answer that it went on
 module _ (actor : ℕ) (old new : WorldState) (memory : IsInMemory old) where

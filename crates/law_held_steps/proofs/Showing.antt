@@ -87,7 +87,7 @@ quiet_shown schemas left later other quiet = absurd (cc)
 
 -- ---- one session searches, or has nothing to do, while tables and versions are the same
 
-module _ {s : ℕ} {store : Store} {new : WorldState} (names : new.names ≡ store.world.names) (past : new.past ≡ store.world.past)
+module _ {s : ℕ} (store : Store) (new : WorldState) (names : new.names ≡ store.world.names) (past : new.past ≡ store.world.past)
     (stays : (desk : Option Desk) → task_at new desk ≡ task_at store.world desk) (doing : Doing) (quiet : is_quiet_doing doing ≡ true)
     (within : s < length store.desks) where
   turned : Turns s (shown store.world.schemas 0 doing) (lists_of store).state
@@ -105,7 +105,7 @@ module _ {s : ℕ} {store : Store} {new : WorldState} (names : new.names ≡ sto
             ∙ ap (task_at store.world) (desk_elsewhere s u (λ (desk : Desk). record desk { doing = doing }) store.desks differs) ∙ sym (task_is u store);
       }
 
-module _ {s : ℕ} {store : Store} {new : WorldState} (moves : MovesPlaces s store.world new) (told : IsTold new) where
+module _ {s : ℕ} (store : Store) {new : WorldState} (moves : MovesPlaces s store.world new) (told : IsTold new) where
   moved : (desk : Option Desk) → task_at new desk ≡ task_at store.world desk
   moved desk =
       task_stays store.world new desk (ap (λ (state : WorldState). state.schemas) moves.rest) (moves.versions.kept told.versions)
@@ -116,7 +116,7 @@ module _ {s : ℕ} {store : Store} {new : WorldState} (moves : MovesPlaces s sto
   pub turns_now : (doing : Doing) → is_quiet_doing doing ≡ true → s < length store.desks → Turns s (shown store.world.schemas 0 doing) (lists_of store).state
       (lists_of (record store { world = new; desks = with_doing s doing store.desks })).state
   turns_now =
-      turned (ap (λ (state : WorldState). state.names) moves.rest) (ap (λ (state : WorldState). state.past) moves.rest) moved
+      turned store new (ap (λ (state : WorldState). state.names) moves.rest) (ap (λ (state : WorldState). state.past) moves.rest) moved
 
 pub search_shown : (left : ℕ) (schemas : List Schema) (doing : Doing) {table : ℕ} {plan : Plan} {reading : Reading}
     → shown schemas left doing ≡ tasks.Searching table plan reading → IsSearchOf doing table plan reading
@@ -148,7 +148,7 @@ module _ (s : ℕ) (store : Store) where
       (lists_of (record store { desks = with_doing s (Searching on) store.desks })).state
   turns_to_search {on} within is =
       subst (λ (task : Task). Turns s task (lists_of store).state (lists_of (record store { desks = with_doing s (Searching on) store.desks })).state)
-      (begun_shown store.world.schemas is) (turned refl refl (λ desk. refl) (Searching on) refl within)
+      (begun_shown store.world.schemas is) (turned store store.world refl refl (λ desk. refl) (Searching on) refl within)
 
   pub searches_on : {new : WorldState} (cuts : ℕ) {on : TableSearch} (next : RowSearch) → doing_at s store.desks ≡ Searching on
       → MovesPlaces s store.world new → IsSameScan on.search.scan next.scan → IsTold new
@@ -159,7 +159,7 @@ module _ (s : ℕ) (store : Store) where
       let left = left_in store.world (desk_at s store.desks) in
       subst (λ (task : Task). Turns s task (lists_of store).state (lists_of (record store { world = new; desks = with_doing s on_now store.desks })).state)
       (same_shown left cuts store.world.schemas on next same ∙ (ap (shown store.world.schemas left) (sym is) ∙ sym (task_is s store)))
-      (turns_now moves told on_now refl (has_desk s store.desks is))
+      (turns_now store moves told on_now refl (has_desk s store.desks is))
 
 -- ---- who may write changes rows
 
@@ -184,14 +184,14 @@ shows_now {s} old new writer mine quiet others names schemas is shows = record {
 task_by : (state : WorldState) {schemas : List Schema} (desk : Option Desk) (doing : Doing) → doing_in desk ≡ doing → is_undoing doing ≡ false
     → state.schemas ≡ schemas → task_at state desk ≡ shown schemas 0 doing
 task_by state desk doing is not schemas =
-    ap (shown state.schemas (left_in state desk)) is ∙ ap (λ (x : List Schema). shown x (left_in state desk) doing) schemas ∙ undoes_not doing not
+    ap (shown state.schemas (left_in state desk)) is ∙ ap (λ (x : List Schema). shown x (left_in state desk) doing) schemas ∙ undoes_not _ (left_in state desk) doing not
   where
-    undoes_not : {x : List Schema} {left : ℕ} (d : Doing) → is_undoing d ≡ false → shown x left d ≡ shown x 0 d
-    undoes_not Undoing none = absurd (cc)
-    undoes_not Nothing none = refl
-    undoes_not (Searching on) none = refl
-    undoes_not (Changing change) none = refl
-    undoes_not Lagging none = refl
+    undoes_not : (x : List Schema) (left : ℕ) (d : Doing) → is_undoing d ≡ false → shown x left d ≡ shown x 0 d
+    undoes_not x left Undoing none = absurd (cc)
+    undoes_not x left Nothing none = refl
+    undoes_not x left (Searching on) none = refl
+    undoes_not x left (Changing change) none = refl
+    undoes_not x left Lagging none = refl
 
 module _ {s : ℕ} {store : Store} {new : WorldState} (held : IsHeld store) (mine : store.writer ≡ Some s) (leaves : LeavesLists store.world new)
     (within : s < length store.desks) where
@@ -309,4 +309,4 @@ module _ {store : Store} {s : ℕ} (held : IsHeld store) (mine : store.writer �
 
 pub left_shown : {s : ℕ} (store : Store) {new : WorldState} → LeavesIndexes s store.world new → is_searching (doing_at s store.desks) ≡ false → IsTold new
     → lists_of (record store { world = new }) ≡ lists_of store
-left_shown {s} store leaves none told = seen_stay leaves told (λ on is. true≢false (sym (ap is_searching is) ∙ none))
+left_shown {s} store leaves none told = seen_stay store leaves told (λ on is. true≢false (sym (ap is_searching is) ∙ none))

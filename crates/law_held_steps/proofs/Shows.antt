@@ -212,7 +212,7 @@ columns_of chains said state table {schema} coded there =
 
 -- ---- a search of another session
 
-module _ {chains : Chains} {store : Store} (agrees : Agrees chains store.world) (logs : LogsAgree store.world) (told : IsTold store.world)
+module _ {chains : Chains} (store : Store) (agrees : Agrees chains store.world) (logs : LogsAgree store.world) (told : IsTold store.world)
     {w : ℕ} (s : ℕ) (writes : store.writer ≡ Some w) (differs : s ≢ w) {schema : Schema} (scan : Scan)
     (there : slice_get store.world.schemas scan.table ≡ Some schema) (columns : HasItsColumns schema) (le : scan.which ≤ length schema.keys)
     (holds : SightHolds store s scan.sight) where
@@ -269,7 +269,7 @@ module _ {store : Store} (held : IsHeld store) (told : IsTold store.world) (s : 
       let some : HasSome held.chains store.world = some_rows_by held.chains told (Some w) store.desks rows in
       let columns = columns_of held.chains some.0 store.world scan.table some.1 there in
       ⊎_elim (λ same. shows_coded schema scan store.world held.chains told there columns le (quiet_rows_at held.chains store.world w (desk_at w store.desks)
-      (ap (λ (n : ℕ). is_quiet_doing (doing_at n store.desks)) (sym same) ∙ searching) rows told)) (λ differs. shows_other_at held.agrees held.logs told s is
+      (ap (λ (n : ℕ). is_quiet_doing (doing_at n store.desks)) (sym same) ∙ searching) rows told)) (λ differs. shows_other_at store held.agrees held.logs told s is
       differs scan there columns le holds (desk_at w store.desks) rows) (cases_eq s w)
 
   pub shows_held : ShowsRows schema scan store.world (in_table scan.table held.chains)

@@ -75,9 +75,9 @@ new_finding {s} {schema} {state} {chains} {search} new there columns le =
     (omega (arith, le, new.scan.which_is)) (omega (arith, le, new.scan.which_is, columns.few))
 
 -- the reader's transaction is another session's no more than it was
-sight_on : {s : ℕ} {store : Store} {new : WorldState} (now : List Desk) (sight : Sight) → MovesPlaces s store.world new → SightHolds store s sight
+sight_on : {s : ℕ} (store : Store) {new : WorldState} (now : List Desk) (sight : Sight) → MovesPlaces s store.world new → SightHolds store s sight
     → SightHolds (record store { world = new; desks = now }) s sight
-sight_on {s} now (View view reader) moves is = record {
+sight_on {s} store now (View view reader) moves is = record {
   session = is.session;
   work = is.work;
   has_work = record { session_is = ap (λ (state : WorldState). slice_get state.sessions s) moves.rest ∙ is.has_work.session_is; work_is = is.has_work.work_is };
@@ -86,7 +86,7 @@ sight_on {s} now (View view reader) moves is = record {
   same = is.same;
   reader_is = is.reader_is;
 }
-sight_on now Newest moves is = is
+sight_on store now Newest moves is = is
 
 pub begun : (s : ℕ) {table : ℕ} {store : Store} {plan : Plan} {sight : Sight} {schema : Schema} {on : TableSearch} → IsHeld store → IsTold store.world
     → doing_at s store.desks ≡ Nothing → slice_get store.world.schemas table ≡ Some schema → plan.which ≤ length schema.keys → SightHolds store s sight
@@ -106,7 +106,7 @@ begun s {table} {store} {sight = sight} {on = on} held told idle there le sees i
       since = omega (arith, is.cuts_is);
       finds = subst (λ (b : Bool). FindsSince b s store.world held.chains on) (sym (eq-eqb on.cuts store.cuts is.cuts_is)) finding;
       sight = subst (SightHolds (record store { desks = with_doing s (Searching on) store.desks }) s) (sym is.search.scan.sight_is)
-          (sight_on (with_doing s (Searching on) store.desks) sight none_moves sees);
+          (sight_on store (with_doing s (Searching on) store.desks) sight none_moves sees);
     }
 
 -- ---- the view of a transaction
@@ -269,7 +269,7 @@ module _ (s : ℕ) {store : Store} {on : TableSearch} (held : IsHeld store) (is 
               finds =
                   subst (λ (b : Bool). FindsSince b s new held.chains (further next)) (sym (eq-eqb store.cuts store.cuts refl)) on_now.0;
               sight = subst (SightHolds (then_does new (Searching (further next))) s) (sym on_now.1.sight)
-                  (sight_on (with_doing s (Searching (further next)) store.desks) search.scan.sight moves sight_taken);
+                  (sight_on store (with_doing s (Searching (further next)) store.desks) search.scan.sight moves sight_taken);
             }),
             moves,
             subst (λ (scan : Scan). IsSameScan scan next.scan) taken_up.1 on_now.1,

@@ -1,7 +1,7 @@
 -- The first world, sessions that join, and tables that are made by who may write.
 use Rattle.law_held_steps.proofs.Items.{entered_by}
 use Rattle.std.proofs.Common.{◌≡◌, ◌≢◌, ℕ, zero, suc, ◌+◌, ◌<◌, Bool, true, false, Option, Some, None, List, [], ◌∷◌, ◌++◌, length, refl, sym, ap, subst, ◌∙◌}
-use Rattle.std.proofs.Common.{inl, arith, ◌≤◌, ◌^◌, ⊎_elim, inr, eq-eqb, ◌⊎◌}
+use Rattle.std.proofs.Common.{inl, arith, ◌≤◌, ◌^◌, inr, eq-eqb}
 use Rattle.std.proofs.lemmas.List.{length-append}
 use Rattle.std.specs.Prelude.{slice_get, is_some}
 use Rattle.inno_model.specs.Past.{own, started, under_way, of_item, level, awaits_ack}
@@ -9,7 +9,6 @@ use Rattle.law_past_agreement.specs.Agreement.{owed_by, owed_by_txn, owed_by_ite
 use Rattle.shared_lists.specs.Fitting.{FitsThen}
 use Rattle.world.specs.State.{WorldState, Session, Work, IsSession, HasWork, index_of}
 use Rattle.std.proofs.lemmas.Option.{slice_get_within, get_or_from_slice_get}
-use Rattle.std.proofs.lemmas.Bool.{cases_eq}
 use Rattle.std.proofs.lemmas.Bool.Decides.{nat_tests}
 use Rattle.inno_db.specs.declared.change.Change.TheVariants.{Create}
 use Rattle.inno_model.specs.declared.event.Event.TheVariants.{Changed}
@@ -24,11 +23,11 @@ use Rattle.law_world_agreement.proofs.{Joining.first_agrees, Joining.joined_agre
 use Rattle.desks.specs.{declared.desk.Desk.Desk, Holding.IsFresh, Holding.IsHeld, Holding.RowsHeldAt, Holding.RowsHeldBy, Holding.SearchHeld}
 use Rattle.desks.specs.{declared.desk.Doing.TheVariants.Nothing, Store.Store, Leaves.Does}
 use Rattle.desks.specs.Desks.{desk_at, doing_in, doing_at, started_in, is_quiet_doing, HasRooms, IsNewDesk}
-use Rattle.entries.specs.{Pairs.Pair, Pairs.value_of, Index.Index, Lists.empty_index}
+use Rattle.entries.specs.{Pairs.Pair, Index.Index, Lists.empty_index}
 use Rattle.law_stored_rows.specs.{Storable.IsStorable, Storable.IsKeyOn, Edits.clustered_index, Edits.key_index, Tables.HasItsColumns, Tables.HasNoPairs}
 use Rattle.law_stored_rows.specs.{Tables.AreCoded}
 use Rattle.law_world_agreement.specs.{Steps.IsChangedBy, Agreement.Agrees}
-use Rattle.law_logged_changes.specs.{Logs.LogsAgree, Logs.IsLogOf, Pointers.IsNeededBy, Pointers.Reaches}
+use Rattle.law_logged_changes.specs.{Logs.LogsAgree, Logs.IsLogOf}
 
 behind : (desks : List Desk) → desk_at (length desks) desks ≡ None
 behind [] = refl
@@ -60,31 +59,28 @@ module _ {store : Store} (held : IsHeld store) (told : IsTold store.world) (name
   abbrev t : ℕ
   t = length store.desks
 
-  abbrev old : WorldState
-  old = store.world
-
   at_last : desk_at t (store.desks ++ desk ∷ []) ≡ Some desk
   at_last = last_there store.desks desk
 
-  pub joined_held : IsHeld (record store { world = joined name old; desks = store.desks ++ desk ∷ [] })
+  pub joined_held : IsHeld (record store { world = joined name store.world; desks = store.desks ++ desk ∷ [] })
   joined_held =
-      let t_is : t ≡ length old.sessions = held.count ∙ sym held.agrees.count in
-      let stranger : owed_by old.past t ≡ 0 = held.agrees.lists.strangers t (omega (arith, held.count)) in
-      entered_by {t = length store.desks} held (ap doing_in (behind store.desks)) told (ap (slice_get (joined name old).sessions) t_is
-      ∙ last_there old.sessions fresh_session) (record { indexes = refl; versions = refl; schemas = refl }) (record {
-        sessions = λ s differ. others_there old.sessions fresh_session s (λ same. differ (same ∙ sym t_is));
+      let t_is : t ≡ length store.world.sessions = held.count ∙ sym held.agrees.count in
+      let stranger : owed_by store.world.past t ≡ 0 = held.agrees.lists.strangers t (omega (arith, held.count)) in
+      entered_by {t = length store.desks} held (ap doing_in (behind store.desks)) told (ap (slice_get (joined name store.world).sessions) t_is
+      ∙ last_there store.world.sessions fresh_session) (record { indexes = refl; versions = refl; schemas = refl }) (record {
+        sessions = λ s differ. others_there store.world.sessions fresh_session s (λ same. differ (same ∙ sym t_is));
         same = λ s differ. others_there store.desks desk s differ;
         doing = ap doing_in at_last ∙ fresh.doing_is ∙ sym (ap doing_in (behind store.desks));
         rooms = λ other there. subst HasRooms (some_same desk other (sym at_last ∙ there)) fresh.rooms;
         rights = λ s differ is. is;
         back = λ s differ is. is;
         cuts = refl;
-      }) (length-append store.desks (desk ∷ []) ∙ ap (λ n. n + 1) held.count ∙ sym (length-append old.names (name ∷ [])))
-      (omega (arith, length-append old.names (name ∷ []), room_left)) (joined_agrees held.chains old (joined name old) name held.agrees
+      }) (length-append store.desks (desk ∷ []) ∙ ap (λ n. n + 1) held.count ∙ sym (length-append store.world.names (name ∷ [])))
+      (omega (arith, length-append store.world.names (name ∷ []), room_left)) (joined_agrees held.chains store.world (joined name store.world) name held.agrees
       (record { session = fresh_session; closed = refl; sessions = refl; names = refl; past = refl; schemas = refl; txns = refl })) (inl refl) held.fits
-      (λ work is. absurd (cc)) (λ busy. absurd (no_item (owed_by_txn (level t old.past) (length (own t old.past)) (awaits_ack (of_item t old.past)))
-      (under_way t old.past) stranger busy)) (λ waits. absurd (no_ack (level t old.past) (length (own t old.past)) (awaits_ack (of_item t old.past))
-      (owed_by_item (under_way t old.past)) stranger waits)) (λ work is. absurd (cc))
+      (λ work is. absurd (cc)) (λ busy. absurd (no_item (owed_by_txn (level t store.world.past) (length (own t store.world.past)) (awaits_ack (of_item t store.world.past)))
+      (under_way t store.world.past) stranger busy)) (λ waits. absurd (no_ack (level t store.world.past) (length (own t store.world.past)) (awaits_ack (of_item t store.world.past))
+      (owed_by_item (under_way t store.world.past)) stranger waits)) (λ work is. absurd (cc))
       (held.started t ∙ ap started_in (behind store.desks) ∙ sym (ap started_in at_last ∙ fresh.started_is)) (held.writes.opened t) (held.writes.clean t)
 
 -- ---- the first world
@@ -109,7 +105,7 @@ first_held state first =
       rows = first.coded;
       quiet = λ s other. refl;
       searches = λ s. tt;
-      logs = record { each = λ s session work has. absurd (nobody s session has.session_is); apart = first.apart };
+      logs = record { each = λ s session work has. absurd (nobody s session has.session_is) };
       has_room = record {
         replies = λ s session has busy. absurd (nobody s session has);
         acks = λ s session has waits. absurd (nobody s session has);
@@ -132,14 +128,6 @@ its_columns schema storable = record {
       (get_or_from_slice_get schema.keys which key key there) (storable.keys which key (slice_get_within schema.keys which key there)) in
       (is.column, is.there);
 }
-
-there_before : (schemas : List Schema) (schema : Schema) (n : ℕ) (s : Schema) → slice_get (schemas ++ schema ∷ []) n ≡ Some s
-    → (slice_get schemas n ≡ Some s) ⊎ (n ≡ length schemas)
-there_before schemas schema n s there =
-    ⊎_elim (λ last. inr last) (λ differs. inl (sym (others_there schemas schema n differs) ∙ there)) (cases_eq n (length schemas))
-
-no_value : (key bytes : List ℕ) → value_of key [] ≡ Some bytes → ⊥
-no_value key bytes there = cc
 
 module _ {store : Store} {new : WorldState} {t : ℕ} {schema : Schema} (held : IsHeld store) (mine : store.writer ≡ Some t)
     (rests : doing_at t store.desks ≡ Nothing) (told : IsTold store.world) (told_now : IsTold new)
@@ -225,35 +213,8 @@ module _ {store : Store} {new : WorldState} {t : ℕ} {schema : Schema} (held : 
       no_log u session work (record { session_is = sym (by.others u differ) ∙ has.session_is; work_is = has.work_is }) (alone u differ) in
       subst (IsLogOf new work.log) (sym ((others_past t u old.past new.past differ adds).own_is ∙ alone u differ)) log_is) s
 
-  -- the new table needs no version
-  needed_before : (table pointer : ℕ) → IsNeededBy new.schemas (pairs_of new) new.versions.kept_at table pointer
-      → IsNeededBy old.schemas (pairs_of old) old.versions.kept_at table pointer
-  needed_before table pointer needed =
-      let there : slice_get (old.schemas ++ schema ∷ []) table ≡ Some needed.schema =
-      ap (λ (schemas : List Schema). slice_get schemas table) (sym by.schemas) ∙ needed.there in
-      let record_is : value_of needed.key (pairs_of old (clustered_index table)) ≡ Some needed.bytes =
-      ap (λ (f : ℕ → List Pair). value_of needed.key (f (clustered_index table))) (sym same_pairs) ∙ needed.record_is in
-      record {
-        schema = needed.schema;
-        there = elim (there_before old.schemas schema table needed.schema there) [
-          | inl was ↦ was
-          | inr is ↦ absurd (no_value needed.key needed.bytes
-              (ap (value_of needed.key) (sym (ap (λ n. pairs_of old (clustered_index n)) is ∙ no_pairs.rows)) ∙ record_is))
-        ];
-        key = needed.key;
-        bytes = needed.bytes;
-        coded = needed.coded;
-        record_is = record_is;
-        code_is = needed.code_is;
-        further = needed.further;
-        reaches = subst (λ (v : _). Reaches v.kept_at needed.coded.pointer needed.further pointer) versions needed.reaches;
-      }
-
   logs_now : LogsAgree new
-  logs_now = record {
-    each = log_now;
-    apart = λ told' table other pointer one two. held.logs.apart told table other pointer (needed_before table pointer one) (needed_before other pointer two);
-  }
+  logs_now = record { each = log_now }
 
   pub created_held : IsHeld made
   created_held =

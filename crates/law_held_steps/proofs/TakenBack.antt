@@ -320,7 +320,7 @@ module _ (s : ℕ) {store : Store} (held : IsHeld store) (busy : doing_at s stor
                 whole = done.whole;
                 anew = λ none. done.anew;
               });
-            }) (subst FitsThen (sym past_now) held.fits) (rows_by_writer s after new by_me gives.here rows_now) logs_now
+            }) (subst FitsThen (sym past_now) held.fits) (rows_by_writer s after new taken.desks by_me gives.here rows_now) logs_now
             (gives.count ∙ held.count ∙ ap length (sym names)) (subst (λ (n : List (List ℕ)). length n ≤ 68) (sym names) held.few)
             (omega (arith, held.cut, long)) (λ place. omega (arith, held.short place, popped_fewer back_to.place place held.chains after pops, long))
 
