@@ -143,7 +143,7 @@ left_walks schema key kept keys most which pointer behind versions others leads 
 
 module _ (chains : Chains) (place : Place) (undo : Undo) (schema : Schema) (old new : WorldState) (bytes read : List ℕ) (keys most : ℕ)
     (few : length (versions_before chains place) ≤ most) (tells : IsTold new) (same : new.versions.kept_at ≡ old.versions.kept_at) where
-  walks_near : (stage next : Stage) → WalksOn schema undo new stage next 
+  walks_near : (stage next : Stage) → WalksOn schema undo new stage next
       → StageHolds chains (what_is_there chains) place undo schema (rows_of old) bytes stage
       → StageHolds chains (what_is_there chains) place undo schema (rows_of new) read next → left_at keys most new.versions.kept_at next < left_at keys most new.versions.kept_at stage
   walks_near (Walk which pointer) (Walk other behind) walks was now =

@@ -118,7 +118,7 @@ module _ {state : WorldState} (logs : LogsAgree state) {w : ℕ} {logged : Logge
 
   -- the place at which keys are changed
   pub keys_place : {chains : Chains} {change : KeysChange}
-    (p : IsChangingKeys chains (what_is_there chains) state change) → place.table ≡ change.table
+      (p : IsChangingKeys chains (what_is_there chains) state change) → place.table ≡ change.table
       → logged.undo.key ≡ change.key → place ≡ record { table = change.table; key = p.value }
   keys_place {change} p table_is key_is =
       let tells = last_tells in

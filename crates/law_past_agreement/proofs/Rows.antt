@@ -86,7 +86,8 @@ module _ (opened : Option (List Value)) (at : Change → Bool) where
   by_writer h t lone v =
       record {
         behind = v.1.behind;
-        parts = grind (arith, eqb_tells v.0 t, v.1.parts, versions_of-none (id_of h v.0) (own v.0 h), versions_of-none (id_of h t) (own t h), lone v.0, v.1.alone t);
+        parts = grind
+            (arith, eqb_tells v.0 t, v.1.parts, versions_of-none (id_of h v.0) (own v.0 h), versions_of-none (id_of h t) (own t h), lone v.0, v.1.alone t);
         alone = lone;
         are_settled = v.1.are_settled;
         reads = v.1.reads;

@@ -138,7 +138,8 @@ pub after : {chains chains' : Chains} {old new : WorldState} → Agrees chains o
     → ((u : ℕ) → u ≢ s → is_of u e ≡ false) → MayCome old.past e → length old.past + 1 < 2 ^ 63 → s < length old.names → Adds e s old new
     → new.schemas ≡ created (e ∷ old.past) → new.txns ≡ txns_of (e ∷ old.past)
     → (work : Option Work) → works_at s new.sessions ≡ Some work → KeepsWork (e ∷ old.past) s work
-    → ((place : Place) → AreVersions (e ∷ old.past) (row_opened (e ∷ old.past) place) (is_at new.schemas place) (versions_at place chains')) → Agrees chains' new
+    → ((place : Place) → AreVersions (e ∷ old.past) (row_opened (e ∷ old.past) place) (is_at new.schemas place) (versions_at place chains'))
+    → Agrees chains' new
 after {chains' = chains'} {old = old} {new = new} agrees e s mine may few joined by tables txns work here keeps rows =
     let h = e ∷ old.past in
     let each : (u : ℕ) → Keeps h u (works_at u new.sessions) =

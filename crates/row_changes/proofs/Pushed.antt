@@ -272,7 +272,8 @@ module _ (s : ℕ) (chains : Chains) (beside : Said) (pushed : Chains) (old new 
       (λ now told puts.
       next_rows _ _ _ _ _ change.table p.schema change.edit change.key p.table.there p.fits writer small pushes _ former o.session.next_pointer
       (record { table = change.table; key = change.key; version = (kept_over p o).version; bytes = o.bytes }) (there told) o.was.code_is
-      (kept_code p o) o.leads o.small (kept_here new.versions.kept_at change.table change.key o.session.next_pointer _ ((kept_over p o).here now) refl refl) puts
+      (kept_code p o) o.leads o.small
+      (kept_here new.versions.kept_at change.table change.key o.session.next_pointer _ ((kept_over p o).here now) refl refl) puts
       (coded_still _ _ _ _ _ _ (kept_more _ o.session.next_pointer (undo_of_former change.table change.key o.bytes) _ _ (kept_over p o) now)
       (rows told).1))
     where

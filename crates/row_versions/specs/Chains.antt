@@ -50,7 +50,8 @@ older (v ∷ versions) = versions
 
 -- the place has a newer version, and each other place has what it had
 abbrev pub Pushes : Chains → Chains → Place → Version → Type 0
-Pushes old new place version = (other : Place) → versions_at other new ≡ (if is_same_place place other then version ∷ versions_at other old else versions_at other old)
+Pushes old new place version =
+    (other : Place) → versions_at other new ≡ (if is_same_place place other then version ∷ versions_at other old else versions_at other old)
 
 -- the place has no longer its newest version, and each other place has what it had
 abbrev pub Pops : Chains → Chains → Place → Type 0

@@ -47,7 +47,7 @@ module _ (undo : Undo) (schema : Schema) (place : Place) (schemas : List Schema)
       let both = key_there schema undo.key bytes coded clustered.primary clustered.primary_is is.code_is in
       let here = rw (← both.1, is.there) at (clustered.records (key_of schema coded.row) both.0) in
       let at_place = subst (λ (p : Place). IsRecordWith schema undo.key (kept_of kept undo.table undo.key) (Some bytes) (versions_at p chains))
-          (place_is bytes coded is.code_is) here in
+      (place_is bytes coded is.code_is) here in
       let told = record_of schema undo.key kept undo.table (Some bytes) (versions_at place chains) at_place in
       record_read schema undo.key bytes kept (versions_at place chains) coded told is.code_is
 
