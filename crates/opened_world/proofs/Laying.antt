@@ -13,7 +13,7 @@ use Rattle.entries.specs.{Pairs.value_of, Index.Index, Lists.empty_index}
 use Rattle.row_versions.specs.{declared.kept.Kept.Kept, Versions.Versions, declared.place.Place.Place, declared.version.Version.Version}
 use Rattle.row_versions.specs.{Laws.same_place_equiv}
 use Rattle.row_versions.specs.Chains.{Chains, in_model, is_same_place, versions_at, newest, Pushes}
-use Rattle.law_stored_rows.specs.{Storable.IsStorable, Edits.clustered_index, Records.IsRecordWith}
+use Rattle.law_stored_rows.specs.{Storable.IsStorable, Edits.clustered_index, Records.IsRecordWith, Records.kept_of}
 use Rattle.law_stored_rows.proofs.{Applying.AreFitting-no_rows, Applying.AreFitting-apply_one, Numbers.empty-Has64Bits, Numbers.apply_one-Has64Bits}
 use Rattle.law_stored_rows.proofs.{Values.same_place, Tables.lag_stays, Tables.pushed_here, Tables.pushed_elsewhere, FromTables.absent, Made.no_tables}
 use Rattle.law_stored_rows.proofs.{Made.a_table_more}
@@ -287,7 +287,8 @@ row_there db table row schema state laid told there has none =
     let has_key = subst (λ (c : Column). HasKey c.kind (key_of schema row)) one at.has_key in
     let spelled = ap (λ (c : Column). key_code c.kind (key_of schema row)) (sym one) ∙ sym at.spelled in
     let recorded = rows.records (key_of schema row) has_key in
-    no_record_there schema has.key state.versions.kept_at (value_of has.key (pairs_of state (clustered_index table))) found
-    (subst (λ vs. IsRecordWith schema has.key state.versions.kept_at (value_of has.key (pairs_of state (clustered_index table))) vs) empty
-    (subst (λ k. IsRecordWith schema k state.versions.kept_at (value_of k (pairs_of state (clustered_index table)))
+    let kept : List ℕ → ℕ → Option Kept = kept_of state.versions.kept_at table in
+    no_record_there schema has.key (kept has.key) (value_of has.key (pairs_of state (clustered_index table))) found
+    (subst (λ vs. IsRecordWith schema has.key (kept has.key) (value_of has.key (pairs_of state (clustered_index table))) vs) empty
+    (subst (λ k. IsRecordWith schema k (kept k) (value_of k (pairs_of state (clustered_index table)))
     (in_table table laid.chains (key_of schema row))) spelled recorded))

@@ -1,5 +1,5 @@
 -- The keys of a table take a row over, step by step.
-use Rattle.std.proofs.Common.{false, ◌≡◌, ◌∙◌, ⊎_elim, inl, inr, sym, ap, subst, ℕ, ◌≤◌, List, length, None, Some, slice_get, arith}
+use Rattle.std.proofs.Common.{false, ◌≡◌, ◌∙◌, ⊎_elim, inr, sym, ap, subst, ℕ, ◌≤◌, List, length, None, Some, slice_get, arith}
 use Rattle.std.specs.Prelude.{All}
 use Rattle.inno_types.specs.declared.value.Value.{Value}
 use Rattle.inno_types.specs.declared.value.Column.{Column}
