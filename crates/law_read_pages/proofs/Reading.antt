@@ -26,9 +26,9 @@ use Rattle.law_past_agreement.specs.DatabaseTables.{with_all_tables}
 use Rattle.law_past_agreement.proofs.Ids.{ids_of}
 use Rattle.law_past_agreement.proofs.Opens.{IsEntry, active_open, opens_of}
 use Rattle.law_stored_rows.specs.Edits.{clustered_index}
-use Rattle.law_stored_rows.specs.Records.{IsRecordWith}
+use Rattle.law_stored_rows.specs.Records.{IsRecordWith, kept_of}
 use Rattle.law_stored_rows.specs.Tables.{AreClustered, in_table}
-use Rattle.law_stored_rows.proofs.RowRecords.{one_record}
+use Rattle.law_stored_rows.proofs.RowRecords.{one_record, record_of}
 use Rattle.law_logged_pages.specs.HeldRows.{AreSlots}
 use Rattle.law_logged_pages.proofs.FirstCommitted.{row_read}
 use Rattle.law_read_pages.specs.Rows.{has_id, is_settled_id, ReadsAs, ReadAs}
@@ -102,9 +102,11 @@ module _ (past : List Event) (ordered : IsOrdered past) where
           record {
             versions = in_table table chains value;
             leads =
-                subst (λ (c : Column). IsRecordWith schema (key_code c.kind value) kept
+                record_of schema (key_code primary.kind value) kept table
+                (value_of (key_code primary.kind value) (indexes (clustered_index table))) (in_table table chains value)
+                (subst (λ (c : Column). IsRecordWith schema (key_code c.kind value) (kept_of kept table (key_code c.kind value))
                 (value_of (key_code c.kind value) (indexes (clustered_index table))) (in_table table chains value)) (sym same)
-                (of_table.records value (subst (λ (c : Column). HasKey c.kind value) same has));
+                (of_table.records value (subst (λ (c : Column). HasKey c.kind value) same has)));
             first = at_place table value;
           };
       no_others = λ table schema primary value there is none.
