@@ -1,6 +1,6 @@
 -- Desks of which one is another.
 use Rattle.std.proofs.Common.{◌≡◌, ◌≢◌, ◌⊎◌, inl, inr, ℕ, zero, suc, ◌<◌, true, false, subst, List, [], ◌∷◌, length}
-use Rattle.std.proofs.Common.{Option, Some, None, option_map, refl, sym, ap, ◌∙◌, arith}
+use Rattle.std.proofs.Common.{Some, option_map, refl, sym, ap, ◌∙◌, arith}
 use Rattle.row_changes.specs.declared.row_change.RowChange.{RowChange}
 use Rattle.desks.specs.{declared.desk.Desk.Desk, declared.desk.Doing.Doing, declared.desk.Doing.TheVariants.Nothing, declared.desk.Doing.TheVariants.Changing}
 use Rattle.desks.specs.declared.desk.Doing.TheVariants.{Undoing}

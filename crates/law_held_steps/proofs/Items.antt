@@ -1,41 +1,50 @@
 -- An entry that changes no row leaves all that is held: one session is another then, and the desks are as they were but its own. Such entries are
 -- items that start and end, commits that are acknowledged, signals, what sessions set, and transactions that open, take views, keep savepoints and end.
 use Rattle.std.proofs.Common.{◌≡◌, ◌≢◌, ℕ, ◌+◌, ◌<◌, true, Option, Some, None, List, length, refl, sym, ap, ◌∙◌, inl, arith, ◌⊎◌, subst, [], ◌^◌, false, ◌∷◌}
-use Rattle.std.proofs.Common.{inr, eq-eqb, ⊎_elim, Bool, cond, zero, suc}
-use Rattle.std.proofs.lemmas.Bool.Decides.{nat_tests, eqb_tells}
-use Rattle.std.proofs.lemmas.List.{length-set, set-get_or, length-map}
-use Rattle.std.proofs.lemmas.Bool.{false≢true}
-use Rattle.std.proofs.lemmas.Option.{get_or_from_slice_get, slice_get-map}
+use Rattle.std.proofs.Common.{inr, eq-eqb, ⊎_elim, Bool, cond, zero, suc, ◌++◌, ◌≤◌}
+use Rattle.std.proofs.lemmas.List.{length-set, set-get_or, length-map, length-append}
+use Rattle.std.proofs.lemmas.Option.{get_or_from_slice_get, slice_get-map, slice_get_within}
 use Rattle.std.specs.Prelude.{slice_get, is_some, option_map, ◌≤◌, slice_set}
 use Rattle.inno_model.specs.Past.{own, started, under_way, of_item, awaits_ack, level, IsOpen, IsClosed}
-use Rattle.inno_model.specs.declared.event.Event.{Event}
-use Rattle.inno_model.specs.declared.event.Event.TheVariants.{Started, Ended, Acked, Signal, Begin, View, Committed, RolledBack}
-use Rattle.world.specs.State.{WorldState, Session, Work, IsSession, HasWork}
+use Rattle.inno_model.specs.declared.event.Event.TheVariants.{Started, Ended, Acked, Signal, Begin, View, Committed, RolledBack, Changed}
+use Rattle.world.specs.State.{WorldState, Session, Work, IsSession, HasWork, index_of}
 use Rattle.law_logged_changes.specs.Steps.{LeavesLog, HasNoLog, LeavesLogs, OfAll}
-use Rattle.desks.specs.Desks.{desk_at, with_start, doing_at, started_at, is_quiet_doing, HasRooms}
-use Rattle.law_held_steps.specs.Entries.{LeavesDesks, HasSameRows, IsEntered}
-use Rattle.entries.specs.Index.{Index, AreKept}
-use Rattle.row_versions.specs.Versions.{Stays}
-use Rattle.shared_lists.specs.Fitting.{FitsThen}
-use Rattle.law_found_rows.specs.Pasts.{AddsAtMostOne}
-use Rattle.law_logged_changes.proofs.Leaving.{rows_leave, all_left}
-use Rattle.law_held_steps.proofs.AnyStep.{some_same, each, others_past, past_grows, quiet_step, held_after, waits_not}
+use Rattle.desks.specs.Desks.{desk_at, with_start, doing_at, started_at, is_quiet_doing, HasRooms, doing_in, started_in, IsNewDesk}
+use Rattle.law_logged_changes.proofs.Leaving.{rows_leave, all_left, more_grow}
+use Rattle.law_held_steps.proofs.AnyStep.{some_same, each, others_past, past_grows, quiet_step, held_after, waits_not, quiet_rows_at, rows_quiet_at}
 use Rattle.law_world_agreement.proofs.Entries.{started_agrees, ended_agrees, acked_agrees, signal_agrees, unentered_agrees}
-use Rattle.sql_history.specs.Settings.{at_end, saved}
-use Rattle.law_past_agreement.proofs.Ids.{ids_of}
-use Rattle.law_world_agreement.specs.Steps.{IsEntered as IsSettled}
-use Rattle.txn_table.specs.Txns.{ids_of as listed_ids}
+use Rattle.law_world_agreement.specs.Steps.{IsEntered as IsSettled, opened, viewed, session_begun, IsChangedBy}
+use Rattle.world.specs.Told.{IsTold, LeavesRows, pairs_in, pairs_of}
+use Rattle.world.specs.EngineCalls.{item_started, acknowledged, signalled, fresh_session, joined}
+use Rattle.world.specs.Sessions.{fresh_work, of_txn, change_txn, with_save}
+use Rattle.desks.specs.Holding.{SearchHeld, IsHeld, IsFresh, RowsHeldAt, RowsHeldBy}
+use Rattle.law_world_agreement.proofs.Opening.{set_here, set_other, opened_agrees, viewed_agrees}
+use Rattle.law_world_agreement.proofs.Ending.{one_session_of, committed_agrees, rolled_back_agrees}
+use Rattle.law_past_agreement.specs.Agreement.{owed_by, owed_by_txn, owed_by_item}
+use Rattle.law_stored_rows.specs.Tables.{HasItsColumns, HasNoPairs, AreCoded}
+use Rattle.std.proofs.{lemmas.Bool.Decides.nat_tests, lemmas.Bool.Decides.eqb_tells, lemmas.Bool.false≢true}
+use Rattle.inno_model.specs.{declared.event.Event.Event}
+use Rattle.law_held_steps.specs.{Entries.LeavesDesks, Entries.HasSameRows}
+use Rattle.entries.specs.{Index.Index, Index.AreKept, Pairs.Pair, Lists.empty_index}
+use Rattle.row_versions.specs.{Versions.Stays}
+use Rattle.shared_lists.specs.{Fitting.FitsThen}
+use Rattle.law_found_rows.specs.{Pasts.AddsAtMostOne}
+use Rattle.sql_history.specs.{Settings.at_end, Settings.saved}
+use Rattle.law_past_agreement.proofs.{Ids.ids_of}
+use Rattle.txn_table.specs.{Txns.ids_of as listed_ids}
 use Rattle.law_past_agreement.specs.{Slots.writer_without, Order.MayCome}
-use Rattle.world.specs.{Told.IsTold, Told.LeavesRows, EngineCalls.item_started, EngineCalls.acknowledged}
-use Rattle.world.specs.{EngineCalls.signalled, Sessions.fresh_work, Sessions.of_txn, Sessions.change_txn, Sessions.with_save, Endings.IsCommitted}
-use Rattle.world.specs.{Endings.IsRolledBack}
-use Rattle.desks.specs.{declared.desk.Desk.Desk, declared.desk.Doing.TheVariants.Nothing, Holding.SearchHeld, Holding.IsHeld, Store.Store, Leaves.Does}
-use Rattle.row_changes.proofs.Sessions.{same_pairs, same_versions}
-use Rattle.law_world_agreement.specs.{Agreement.Agrees, Steps.opened, Steps.viewed, Steps.session_begun}
-use Rattle.inno_types.specs.{declared.reply.Item.Item, declared.reply.Reply.Reply, declared.lock.Level.Level}
-use Rattle.law_world_agreement.proofs.{Opening.set_here, Opening.set_other, Opening.opened_agrees, Opening.viewed_agrees, Ending.one_session_of}
-use Rattle.law_world_agreement.proofs.{Ending.committed_agrees, Ending.rolled_back_agrees}
-use Rattle.law_held_steps.proofs.Desks.{desk_elsewhere, as_many}
+use Rattle.world.specs.{Endings.IsCommitted, Endings.IsRolledBack}
+use Rattle.desks.specs.{declared.desk.Desk.Desk, declared.desk.Doing.TheVariants.Nothing, Store.Store, Leaves.Does}
+use Rattle.row_changes.proofs.{Sessions.same_pairs, Sessions.same_versions}
+use Rattle.law_world_agreement.specs.{Agreement.Agrees}
+use Rattle.inno_types.specs.{declared.reply.Item.Item, declared.reply.Reply.Reply, declared.lock.Level.Level, declared.value.Schema.Schema}
+use Rattle.law_held_steps.proofs.{Desks.desk_elsewhere, Desks.as_many}
+use Rattle.inno_db.specs.{declared.change.Change.TheVariants.Create}
+use Rattle.law_stored_rows.proofs.{Made.a_table_more}
+use Rattle.row_changes.specs.{Told.HasRows}
+use Rattle.law_world_agreement.proofs.{Joining.first_agrees, Joining.joined_agrees, Changing.created_agrees}
+use Rattle.law_stored_rows.specs.{Storable.IsStorable, Storable.IsKeyOn, Edits.clustered_index, Edits.key_index}
+use Rattle.law_logged_changes.specs.{Logs.LogsAgree, Logs.IsLogOf}
 
 -- a transaction whose log and changes are as they were
 pub same_log : {t : ℕ} {old new : WorldState} {session : Session} {before work : Work} → HasWork t session before old → work.log ≡ before.log
@@ -122,84 +131,65 @@ leaves_rows {old} same = record {
   versions = subst (λ versions. Stays old.versions versions) (sym same.versions) (same_versions old.versions);
 }
 
-module _ {t : ℕ} {old new : Store} (held : IsHeld old) (rests : doing_at t old.desks ≡ Nothing) where
-  module _ (is : IsEntered t held.chains old new) where
-    rests_now : doing_at t new.desks ≡ Nothing
-    rests_now = is.others.doing ∙ rests
+-- what holds then, by what the session's state is
+module _ {t : ℕ} {old new : Store} (held : IsHeld old) (rests : doing_at t old.desks ≡ Nothing) {after : Session} (told : IsTold old.world)
+    (here : slice_get new.world.sessions t ≡ Some after) (rows : HasSameRows old.world new.world) (others : LeavesDesks t old new)
+    (agrees : Agrees held.chains new.world) (adds : AddsAtMostOne t old.world.past new.world.past) where
+  rests_now : doing_at t new.desks ≡ Nothing
+  rests_now = others.doing ∙ rests
 
-    does : Does t held.chains held.chains old new
-    does = record {
-      agreed = held.agrees;
-      agrees = is.agrees;
-      adds = is.adds;
-      told = is.told;
-      tables = λ n schema there. ap (λ schemas. slice_get schemas n) is.rows.schemas ∙ there;
-      sessions = is.others.sessions;
-      desks = is.others.same;
-      places = λ s index differ. ap (λ (indexes : ℕ → Index). (indexes index).place s) is.rows.indexes;
-      rights = is.others.rights;
-      back = is.others.back;
-      changes = inl refl;
-      kept = inl (is.others.cuts, λ pointer found there. ap (λ (versions : _). versions.kept_at pointer) is.rows.versions ∙ there);
-    }
+  does : Does t held.chains held.chains old new
+  does = record {
+    agreed = held.agrees;
+    agrees = agrees;
+    adds = adds;
+    told = told;
+    tables = λ n schema there. ap (λ schemas. slice_get schemas n) rows.schemas ∙ there;
+    sessions = others.sessions;
+    desks = others.same;
+    places = λ s index differ. ap (λ (indexes : ℕ → Index). (indexes index).place s) rows.indexes;
+    rights = others.rights;
+    back = others.back;
+    changes = inl refl;
+    kept = inl (others.cuts, λ pointer found there. ap (λ (versions : _). versions.kept_at pointer) rows.versions ∙ there);
+  }
 
-    log_of : LeavesLogs OfAll old.world new.world
-    log_of s session work any has =
-        each t (λ u. HasWork u session work new.world → LeavesLog u work old.world new.world ⊎ HasNoLog u work new.world) (is.own.log session work)
-        (λ u differ has.
-        same_log (record { session_is = sym (is.others.sessions u differ) ∙ has.session_is; work_is = has.work_is }) refl
-        (others_past t u old.world.past new.world.past differ is.adds).own_is) s has
+  one : (session : Session) → IsSession t session new.world → session ≡ after
+  one session has = some_same session after (sym has ∙ here)
 
-    pub entered : IsHeld new
-    entered =
-        let leaves : LeavesRows old.world new.world = leaves_rows is.rows in
-        let long = past_grows t old.world.past new.world.past is.adds in
-        held_after held does (record {
-          replies = is.own.replies;
-          acks = is.own.acks;
-          ends = is.own.ends;
-          started = is.own.started;
-          opened = is.own.opened;
-          clean = is.own.clean;
-          quiet = λ other. ap is_quiet_doing rests_now;
-          search = subst (SearchHeld held.chains new t) (sym rests_now) tt;
-          rooms = is.others.rooms;
-        })
-        is.fits (quiet_step held does leaves (ap is_quiet_doing rests) (ap is_quiet_doing rests_now)) (all_left old.world new.world
-        (rows_leave old.world new.world leaves) log_of held.logs) is.count is.few (omega (arith, held.cut, is.others.cuts, long))
-        (λ place. omega (arith, held.short place, long))
+  had : (session : Session) (work : Work) → HasWork t session work new.world → after.work ≡ Some work
+  had session work has = ap (λ (s : Session). s.work) (sym (one session has.session_is)) ∙ has.work_is
 
-  -- the same, by what the session's state is then
-  pub entered_by : {after : Session} → IsTold old.world → slice_get new.world.sessions t ≡ Some after → HasSameRows old.world new.world
-      → LeavesDesks t old new → length new.desks ≡ length new.world.names → length new.world.names ≤ 68 → Agrees held.chains new.world
-      → AddsAtMostOne t old.world.past new.world.past → FitsThen new.world.past
+  log_of : ((work : Work) → after.work ≡ Some work → LeavesLog t work old.world new.world ⊎ HasNoLog t work new.world)
+      → LeavesLogs OfAll old.world new.world
+  log_of log s session work any has =
+      each t (λ u. HasWork u session work new.world → LeavesLog u work old.world new.world ⊎ HasNoLog u work new.world)
+      (λ has. log work (had session work has)) (λ u differ has.
+      same_log (record { session_is = sym (others.sessions u differ) ∙ has.session_is; work_is = has.work_is }) refl
+      (others_past t u old.world.past new.world.past differ adds).own_is) s has
+
+  pub entered_by : length new.desks ≡ length new.world.names → length new.world.names ≤ 68 → FitsThen new.world.past
       → ((work : Work) → after.work ≡ Some work → LeavesLog t work old.world new.world ⊎ HasNoLog t work new.world)
       → (is_some (under_way t new.world.past) ≡ true → after.can_reply ≡ true) → (awaits_ack (of_item t new.world.past) ≡ true → after.can_ack ≡ true)
       → ((work : Work) → after.work ≡ Some work → work.can_end ≡ true) → started t new.world.past ≡ started_at t new.desks
       → (new.writer ≡ Some t → IsOpen t new.world.past) → (new.writer ≢ Some t → own t new.world.past ≡ []) → IsHeld new
-  entered_by {after} told here rows leaves count few agrees adds fits log replies acks ends begun opens clean =
-      let one : (session : Session) → IsSession t session new.world → session ≡ after = λ session has. some_same session after (sym has ∙ here) in
-      let had : (session : Session) (work : Work) → HasWork t session work new.world → after.work ≡ Some work
-      = λ session work has. ap (λ (s : Session). s.work) (sym (one session has.session_is)) ∙ has.work_is in
-      entered (record {
-        agrees = agrees;
-        adds = adds;
-        told = told;
-        rows = rows;
-        others = leaves;
-        count = count;
-        few = few;
-        own = record {
-          log = λ session work has. log work (had session work has);
-          replies = λ session has busy. ap (λ (s : Session). s.can_reply) (one session has) ∙ replies busy;
-          acks = λ session has waits. ap (λ (s : Session). s.can_ack) (one session has) ∙ acks waits;
-          ends = λ session work has. ends work (had session work has);
-          started = begun;
-          opened = opens;
-          clean = clean;
-        };
-        fits = fits;
+  entered_by count few fits log replies acks ends begun opens clean =
+      let leaves : LeavesRows old.world new.world = leaves_rows rows in
+      let long = past_grows t old.world.past new.world.past adds in
+      held_after held does (record {
+        replies = λ session has busy. ap (λ (s : Session). s.can_reply) (one session has) ∙ replies busy;
+        acks = λ session has waits. ap (λ (s : Session). s.can_ack) (one session has) ∙ acks waits;
+        ends = λ session work has. ends work (had session work has);
+        started = begun;
+        opened = opens;
+        clean = clean;
+        quiet = λ other. ap is_quiet_doing rests_now;
+        search = subst (SearchHeld held.chains new t) (sym rests_now) tt;
+        rooms = others.rooms;
       })
+      fits (quiet_step held does leaves (ap is_quiet_doing rests) (ap is_quiet_doing rests_now)) (all_left old.world new.world
+      (rows_leave old.world new.world leaves) (log_of log) held.logs) count few (omega (arith, held.cut, others.cuts, long))
+      (λ place. omega (arith, held.short place, long))
 
 -- a session with other rooms for entries, and another past
 abbrev pub with_past : ℕ → Session → List Event → ℕ → WorldState → WorldState
@@ -256,8 +246,8 @@ module _ {store : Store} (held : IsHeld store) (t : ℕ) (rests : doing_at t sto
         count = length-set old.sessions t after;
       } in
       let was : (work : Work) → after.work ≡ Some work → HasWork t session work old = λ work is. record { session_is = there; work_is = sym same ∙ is } in
-      entered_by held rests told (set_here old.sessions t session after there) (record { indexes = refl; versions = refl; schemas = refl }) leaves count
-      held.few (agrees settled) adds fits (λ work is. same_log (was work is) refl own_is) replies acks
+      entered_by held rests told (set_here old.sessions t session after there) (record { indexes = refl; versions = refl; schemas = refl }) leaves
+      (agrees settled) adds count held.few fits (λ work is. same_log (was work is) refl own_is) replies acks
       (λ work is. held.has_room.ends t session work (was work is)) started_is (λ is. ap is_some level_is ∙ held.writes.opened t is)
       (λ other. own_is ∙ held.writes.clean t other)
 
@@ -335,8 +325,8 @@ module _ {store : Store} (held : IsHeld store) (t : ℕ) (rests : doing_at t sto
       let nothing : own t (Begin t n level ∷ old.past) ≡ [] = begin_own n level ((ids_of old.past held.agrees.lists.ordered).closed t closed) in
       entered_by held rests told (set_here (slice_set old.sessions t begun) t begun after (set_here old.sessions t session begun there))
       (record { indexes = refl; versions = refl; schemas = refl }) (same_writer (λ s differ. set_other (slice_set old.sessions t begun) t s after differ
-      ∙ others begun s differ) (held.rooms t)) held.count held.few (opened_agrees held.chains old t level session held.agrees there none few)
-      (inr (Begin t n level, eq-eqb t t refl, refl)) held.fits (λ work is. inr (record {
+      ∙ others begun s differ) (held.rooms t)) (opened_agrees held.chains old t level session held.agrees there none few)
+      (inr (Begin t n level, eq-eqb t t refl, refl)) held.count held.few held.fits (λ work is. inr (record {
         log_is = ap (λ (w : Work). w.log) (sym (some_same fresh work is));
         own_is = nothing;
       })) (held.has_room.replies t session there) (λ waits. absurd (waits_not t (Begin t n level ∷ of_item t old.past) old.past waits refl))
@@ -351,8 +341,8 @@ module _ {store : Store} (held : IsHeld store) (t : ℕ) (rests : doing_at t sto
         let seen : Work = record work { view = Some (record { active = listed_ids old.txns.open_txns; next = old.txns.next }) } in
         let after : Session = record session { work = Some seen } in
         entered_by held rests told (set_here old.sessions t session after there) (record { indexes = refl; versions = refl; schemas = refl })
-        (same_writer (others after) (held.rooms t)) held.count held.few (viewed_agrees held.chains old t session work held.agrees has_work few)
-        (inr (View t, eq-eqb t t refl, refl)) held.fits (λ w is_w. same_log has_work (ap (λ (x : Work). x.log) (sym (some_same seen w is_w))) refl)
+        (same_writer (others after) (held.rooms t)) (viewed_agrees held.chains old t session work held.agrees has_work few)
+        (inr (View t, eq-eqb t t refl, refl)) held.count held.few held.fits (λ w is_w. same_log has_work (ap (λ (x : Work). x.log) (sym (some_same seen w is_w))) refl)
         (held.has_room.replies t session there) (λ waits. absurd (waits_not t (View t ∷ of_item t old.past) old.past waits refl))
         (λ w is_w. ap (λ (x : Work). x.can_end) (sym (some_same seen w is_w)) ∙ held.has_room.ends t session work has_work) (held.started t)
         (held.writes.opened t) (held.writes.clean t)
@@ -369,15 +359,15 @@ module _ {store : Store} (held : IsHeld store) (t : ℕ) (rests : doing_at t sto
         let f : Session → Session = λ x. record x { setting = record x.setting { saves = saved name count true x.setting.saves } } in
         let here = txn_here t work.txn session work f old.sessions there is refl in
         let was : (w : Work) → session.work ≡ Some w → HasWork t session w old = λ w is_w. record { session_is = there; work_is = is_w } in
-        entered_by held rests told here (record { indexes = refl; versions = refl; schemas = refl }) (same_writer (saved_else f) (held.rooms t)) held.count
-        held.few (unentered_agrees held.chains old (with_save work.txn name count old) held.agrees (record {
+        entered_by held rests told here (record { indexes = refl; versions = refl; schemas = refl }) (same_writer (saved_else f) (held.rooms t))
+        (unentered_agrees held.chains old (with_save work.txn name count old) held.agrees (record {
           past_is = refl;
           names = refl;
           schemas = refl;
           txns = refl;
           works = works_by t old.sessions (change_txn work.txn f old.sessions) there here refl (saved_else f);
           count = length-map old.sessions (λ x. of_txn work.txn f x x.work);
-        })) (inl refl) held.fits (λ w is_w. same_log (was w is_w) refl refl) (held.has_room.replies t session there) (held.has_room.acks t session there)
+        })) (inl refl) held.count held.few held.fits (λ w is_w. same_log (was w is_w) refl refl) (held.has_room.replies t session there) (held.has_room.acks t session there)
         (λ w is_w. held.has_room.ends t session w (was w is_w)) (held.started t) (held.writes.opened t) (held.writes.clean t)
 
 -- ---- the session's open transaction ends, and it may write no longer
@@ -404,8 +394,8 @@ module _ {store : Store} (held : IsHeld store) (t : ℕ) (rests : doing_at t sto
       let there = is.has_work.session_is in
       subst (λ (w : WorldState). IsHeld (then_closed w)) (sym is.rest) (entered_by held rests told (set_here old.sessions t
       is.session after there) (record { indexes = refl; versions = refl; schemas = refl }) (closed_desks (λ u differ. set_other old.sessions t u after differ)
-      (held.rooms t)) held.count held.few (subst (Agrees held.chains) is.rest (committed_agrees held.chains old new t held.agrees is few))
-      (inr (Committed t, eq-eqb t t refl, refl)) held.fits (λ w is_w. absurd (cc)) (held.has_room.replies t is.session there) (λ waits. refl)
+      (held.rooms t)) (subst (Agrees held.chains) is.rest (committed_agrees held.chains old new t held.agrees is few))
+      (inr (Committed t, eq-eqb t t refl, refl)) held.count held.few held.fits (λ w is_w. absurd (cc)) (held.has_room.replies t is.session there) (λ waits. refl)
       (λ w is_w. absurd (cc)) (held.started t) (λ mine. absurd (writes_no_more store.writer t mine)) (λ other. own_then))
 
   pub rolled_back_held : {new : WorldState} → own t store.world.past ≡ [] → IsRolledBack t store.world new → IsHeld (then_closed new)
@@ -415,7 +405,220 @@ module _ {store : Store} (held : IsHeld store) (t : ℕ) (rests : doing_at t sto
       let there = is.has_work.session_is in
       subst (λ (w : WorldState). IsHeld (then_closed w)) (sym is.rest) (entered_by held rests told (set_here old.sessions t
       is.session after there) (record { indexes = refl; versions = refl; schemas = refl }) (closed_desks (λ u differ. set_other old.sessions t u after differ)
-      (held.rooms t)) held.count held.few (subst (Agrees held.chains) is.rest (rolled_back_agrees held.chains old new t held.agrees is none
-      few)) (inr (RolledBack t, eq-eqb t t refl, refl)) held.fits (λ w is_w. absurd (cc)) (held.has_room.replies t is.session there)
+      (held.rooms t)) (subst (Agrees held.chains) is.rest (rolled_back_agrees held.chains old new t held.agrees is none
+      few)) (inr (RolledBack t, eq-eqb t t refl, refl)) held.count held.few held.fits (λ w is_w. absurd (cc)) (held.has_room.replies t is.session there)
       (λ waits. absurd (waits_not t (RolledBack t ∷ of_item t old.past) old.past waits refl)) (λ w is_w. absurd (cc)) (held.started t)
       (λ mine. absurd (writes_no_more store.writer t mine)) (λ other. own_still none))
+
+-- ---- The first world, sessions that join, and tables that are made by who may write.
+
+behind : (desks : List Desk) → desk_at (length desks) desks ≡ None
+behind [] = refl
+behind (desk ∷ desks) = behind desks
+
+last_there : {X : Type 0} (xs : List X) (x : X) → slice_get (xs ++ x ∷ []) (length xs) ≡ Some x
+last_there [] x = refl
+last_there (first ∷ xs) x = last_there xs x
+
+pub others_there : {X : Type 0} (xs : List X) (x : X) (s : ℕ) → s ≢ length xs → slice_get (xs ++ x ∷ []) s ≡ slice_get xs s
+others_there [] x zero differ = absurd (differ refl)
+others_there [] x (suc s) differ = refl
+others_there (first ∷ xs) x zero differ = refl
+others_there (first ∷ xs) x (suc s) differ = others_there xs x s (λ same. differ (ap suc same))
+
+-- ---- who has not joined is owed nothing
+
+no_item : (txn : ℕ) (item : Option Item) → txn + owed_by_item item ≡ 0 → is_some item ≡ true → ⊥
+no_item txn None none some = cc
+no_item txn (Some item) none some = omega (arith, none)
+
+no_ack : (l : Option Level) (changes : ℕ) (waits : Bool) (item : ℕ) → owed_by_txn l changes waits + item ≡ 0 → waits ≡ true → ⊥
+no_ack (Some l) changes waits item none is = omega (arith, none)
+no_ack None changes true item none is = omega (arith, none)
+no_ack None changes false item none is = cc
+
+module _ {store : Store} (held : IsHeld store) (told : IsTold store.world) (name : List ℕ) (room_left : length store.world.names < 68) {desk : Desk}
+    (fresh : IsNewDesk desk) where
+  abbrev t : ℕ
+  t = length store.desks
+
+  at_last : desk_at t (store.desks ++ desk ∷ []) ≡ Some desk
+  at_last = last_there store.desks desk
+
+  pub joined_held : IsHeld (record store { world = joined name store.world; desks = store.desks ++ desk ∷ [] })
+  joined_held =
+      let t_is : t ≡ length store.world.sessions = held.count ∙ sym held.agrees.count in
+      let stranger : owed_by store.world.past t ≡ 0 = held.agrees.lists.strangers t (omega (arith, held.count)) in
+      entered_by {t = length store.desks} held (ap doing_in (behind store.desks)) told (ap (slice_get (joined name store.world).sessions) t_is
+      ∙ last_there store.world.sessions fresh_session) (record { indexes = refl; versions = refl; schemas = refl }) (record {
+        sessions = λ s differ. others_there store.world.sessions fresh_session s (λ same. differ (same ∙ sym t_is));
+        same = λ s differ. others_there store.desks desk s differ;
+        doing = ap doing_in at_last ∙ fresh.doing_is ∙ sym (ap doing_in (behind store.desks));
+        rooms = λ other there. subst HasRooms (some_same desk other (sym at_last ∙ there)) fresh.rooms;
+        rights = λ s differ is. is;
+        back = λ s differ is. is;
+        cuts = refl;
+      }) (joined_agrees held.chains store.world (joined name store.world) name held.agrees
+      (record { session = fresh_session; closed = refl; sessions = refl; names = refl; past = refl; schemas = refl; txns = refl })) (inl refl)
+      (length-append store.desks (desk ∷ []) ∙ ap (λ n. n + 1) held.count ∙ sym (length-append store.world.names (name ∷ [])))
+      (omega (arith, length-append store.world.names (name ∷ []), room_left)) held.fits
+      (λ work is. absurd (cc)) (λ busy. absurd (no_item (owed_by_txn (level t store.world.past) (length (own t store.world.past)) (awaits_ack (of_item t store.world.past)))
+      (under_way t store.world.past) stranger busy)) (λ waits. absurd (no_ack (level t store.world.past) (length (own t store.world.past)) (awaits_ack (of_item t store.world.past))
+      (owed_by_item (under_way t store.world.past)) stranger waits)) (λ work is. absurd (cc))
+      (held.started t ∙ ap started_in (behind store.desks) ∙ sym (ap started_in at_last ∙ fresh.started_is)) (held.writes.opened t) (held.writes.clean t)
+
+-- ---- the first world
+
+pub first_held : (state : WorldState) → IsFresh state → IsHeld (record { world = state; writer = None; desks = []; cuts = 0 })
+first_held state first =
+    let nobody : (s : ℕ) (session : Session) → slice_get state.sessions s ≡ Some session → ⊥
+    = λ s session there. let no : None ≡ Some session = sym (ap (λ (sessions : List Session). slice_get sessions s) first.sessions) ∙ there in cc in
+    record {
+      chains = first.chains;
+      agrees = first_agrees first.chains state (record {
+        db = first.db;
+        opened = first.opened;
+        past = first.past;
+        names = first.names;
+        schemas = first.schemas;
+        sessions = first.sessions;
+        txns = first.txns;
+      });
+      fits = subst FitsThen (sym first.past) first.fits;
+      writes = record { opened = λ s is. absurd (cc); clean = λ s other. ap (own s) first.past };
+      rows = first.coded;
+      quiet = λ s other. refl;
+      searches = λ s. tt;
+      logs = record { each = λ s session work has. absurd (nobody s session has.session_is) };
+      has_room = record {
+        replies = λ s session has busy. absurd (nobody s session has);
+        acks = λ s session has waits. absurd (nobody s session has);
+        ends = λ s session work has. absurd (nobody s session has.session_is);
+      };
+      started = λ s. ap (started s) first.past;
+      rooms = λ s desk there. absurd (cc);
+      count = sym (ap length first.names);
+      few = omega (arith, ap length first.names);
+      cut = omega arith;
+      short = first.few_versions;
+    }
+
+pub its_columns : (schema : Schema) → IsStorable schema → HasItsColumns schema
+its_columns schema storable = record {
+  primary = storable.column;
+  primary_is = storable.primary;
+  few = storable.few;
+  keys = λ which key there. let is : IsKeyOn schema.columns storable.column.kind key = subst (IsKeyOn schema.columns storable.column.kind)
+      (get_or_from_slice_get schema.keys which key key there) (storable.keys which key (slice_get_within schema.keys which key there)) in
+      (is.column, is.there);
+}
+
+module _ {store : Store} {new : WorldState} {t : ℕ} {schema : Schema} (held : IsHeld store) (mine : store.writer ≡ Some t)
+    (rests : doing_at t store.desks ≡ Nothing) (told : IsTold store.world) (told_now : IsTold new)
+    (by : IsChangedBy t (Create schema) (store.world.schemas ++ schema ∷ []) store.world new) (can_reply : by.session_now.can_reply ≡ by.session.can_reply)
+    (can_end : by.work_now.can_end ≡ by.work.can_end) (log : by.work_now.log ≡ by.work.log)
+    (same : (index : ℕ) → new.indexes index ≡ store.world.indexes index) (versions : new.versions ≡ store.world.versions)
+    (empty : (which : ℕ) → which < 8 → new.indexes (index_of (length store.world.schemas) which) ≡ empty_index)
+    (storable : IsStorable schema) (few : length store.world.past + 1 < 2 ^ 63) (none : own t store.world.past ≡ []) where
+  abbrev source : WorldState
+  source = store.world
+
+  abbrev made : Store
+  made = record store { world = new }
+
+  adds : AddsAtMostOne t source.past new.past
+  adds = inr (Changed t (Create schema), eq-eqb t t refl, by.past)
+
+  agrees : Agrees held.chains new
+  agrees = created_agrees held.chains source new t schema held.agrees by few
+
+  pairs_are : pairs_of new ≡ pairs_of source
+  pairs_are = λ i index. ap (λ (x : Index). pairs_in x.pairs) (same index) i
+
+  mine_held : RowsHeldAt held.chains source t (desk_at t store.desks)
+  mine_held = subst (λ by. RowsHeldBy by held.chains source store.desks) mine held.rows
+
+  was : HasRows held.chains source
+  was = quiet_rows_at held.chains source t (desk_at t store.desks) (ap is_quiet_doing rests) mine_held
+
+  no_pairs : HasNoPairs (pairs_of source) (length source.schemas)
+  no_pairs = record {
+    rows =
+        sym (ap (λ (f : ℕ → List Pair). f (clustered_index (length source.schemas))) pairs_are) ∙ subst (λ n. pairs_of new n ≡ []) (omega arith)
+        (ap (λ (x : Index). pairs_in x.pairs) (empty 0 (omega arith)));
+    entries =
+        λ which within. sym (ap (λ (f : ℕ → List Pair). f (key_index (length source.schemas) which)) pairs_are) ∙ ap (λ (x : Index). pairs_in x.pairs)
+        (empty (1 + which) (omega (arith, within)));
+  }
+
+  coded : HasRows held.chains new
+  coded told' =
+      subst (λ (schemas : List Schema). AreCoded schemas (pairs_of new) new.versions.kept_at held.chains) (sym by.schemas)
+      (subst (λ (pairs : ℕ → List Pair). AreCoded (source.schemas ++ schema ∷ []) pairs new.versions.kept_at held.chains) (sym pairs_are)
+      (subst (λ (v : _). AreCoded (source.schemas ++ schema ∷ []) (pairs_of source) v.kept_at held.chains) (sym versions)
+      (a_table_more source.schemas schema (pairs_of source) source.versions.kept_at held.chains (was told) (its_columns schema storable) no_pairs)))
+
+  does_make : Does t held.chains held.chains store made
+  does_make = record {
+    agreed = held.agrees;
+    agrees = agrees;
+    adds = adds;
+    told = told;
+    tables = λ n s there. ap (λ (schemas : List Schema). slice_get schemas n) by.schemas ∙ more_grow source.schemas schema n s there;
+    sessions = by.others;
+    desks = λ s differ. refl;
+    places = λ s index differ. ap (λ (x : Index). x.place s) (same index);
+    rights = λ s differ is. is;
+    back = λ s differ is. is;
+    changes = inl refl;
+    kept = inl (refl, λ pointer found there. ap (λ (v : _). v.kept_at pointer) versions ∙ there);
+  }
+
+  -- the log of a session that has changed no row is empty
+  no_log : (s : ℕ) (session : Session) (work : Work) → HasWork s session work source → own s source.past ≡ [] → work.log ≡ []
+  no_log s session work has empty_own = subst (λ changes. IsLogOf source work.log changes) empty_own (held.logs.each s session work has)
+
+  alone : (s : ℕ) → s ≢ t → own s source.past ≡ []
+  alone s differ = held.writes.clean s (λ is. differ (some_same s t (sym is ∙ mine)))
+
+  own_now : own t new.past ≡ Create schema ∷ []
+  own_now =
+      let made : own t (Changed t (Create schema) ∷ source.past) ≡ Create schema ∷ [] = grind (arith, nat_tests, none) in ap (own t) by.past ∙ made
+
+  one_now : (session : Session) (work : Work) → HasWork t session work new → work ≡ by.work_now
+  one_now session work has = let is = by.has in let a = is.session_is in let b = is.work_is in let c = has.session_is in let d = has.work_is in cc
+
+  log_now : (s : ℕ) (session : Session) (work : Work) → HasWork s session work new → IsLogOf new work.log (own s new.past)
+  log_now s session work =
+      each t (λ u. HasWork u session work new → IsLogOf new work.log (own u new.past)) (λ has.
+      let log_is : work.log ≡ [] = ap (λ (w : Work). w.log) (one_now session work has) ∙ (log ∙ no_log t by.session by.work by.had none) in
+      subst (IsLogOf new work.log) (sym own_now) log_is) (λ u differ has.
+      let log_is : work.log ≡ [] =
+      no_log u session work (record { session_is = sym (by.others u differ) ∙ has.session_is; work_is = has.work_is }) (alone u differ) in
+      subst (IsLogOf new work.log) (sym ((others_past t u source.past new.past differ adds).own_is ∙ alone u differ)) log_is) s
+
+  logs_now : LogsAgree new
+  logs_now = record { each = log_now }
+
+  pub created_held : IsHeld made
+  created_held =
+      held_after held does_make (record {
+        replies = λ session has busy. ap (λ (x : Session). x.can_reply) (one_session session has) ∙ can_reply ∙
+            held.has_room.replies t by.session by.had.session_is (sym (ap (λ h. is_some (under_way t h)) by.past) ∙ busy);
+        acks = λ session has waits. absurd
+            (waits_not t (Changed t (Create schema) ∷ of_item t source.past) source.past (sym (ap (λ h. awaits_ack (of_item t h)) by.past) ∙ waits) refl);
+        ends = λ session work has. ap (λ (w : Work). w.can_end) (one_now session work has) ∙ can_end ∙ held.has_room.ends t by.session by.work by.had;
+        started = ap (started t) by.past ∙ held.started t;
+        opened = λ is. ap (λ h. is_some (level t h)) by.past ∙ held.writes.opened t is;
+        clean = λ other. absurd (other mine);
+        quiet = λ other. absurd (other mine);
+        search = subst (SearchHeld held.chains made t) (sym rests) tt;
+        rooms = held.rooms t;
+      })
+      (subst FitsThen (sym by.past) ((storable, tt), held.fits)) (subst (λ w. RowsHeldBy w held.chains new store.desks) (sym mine)
+      (rows_quiet_at held.chains new t (desk_at t store.desks) (ap is_quiet_doing rests) coded)) logs_now
+      (held.count ∙ ap length (sym by.names)) (subst (λ (names : List (List ℕ)). length names ≤ 68) (sym by.names) held.few)
+      (omega (arith, held.cut, past_grows t source.past new.past adds)) (λ place. omega (arith, held.short place, past_grows t source.past new.past adds))
+    where
+      one_session : (session : Session) → IsSession t session new → session ≡ by.session_now
+      one_session session has = let is = by.has.session_is in cc

@@ -25,7 +25,7 @@ use Rattle.desks.specs.{declared.desk.Desk.Desk, declared.desk.Doing.Doing, Stor
 use Rattle.desks.specs.Desks.{doing_at, with_doing, is_undoing}
 use Rattle.law_held_steps.specs.{Making.LeavesLists, Leaving.is_searching}
 use Rattle.law_held_steps.proofs.{AnyStep.each, AnyStep.waits_not, AnyStep.past_grows, AnyStep.held_after, AnyStep.rows_by_writer}
-use Rattle.law_held_steps.proofs.{Desks.GivesDoing, Desks.given, Desks.there, Desks.rooms_then, Left.no_search}
+use Rattle.law_held_steps.proofs.{Desks.GivesDoing, Desks.given, Desks.there, Desks.rooms_then, Places.no_search}
 
 -- it has started or ended no item, and no commit of its own waits for its acknowledgement that didn't
 pub record GoesOnBy (s : ℕ) (old new : List Event) : Type 0 where

@@ -1,15 +1,11 @@
 pub mod Desks
 pub mod AnyStep
-pub mod Left
 pub mod Made
 pub mod Keeping
 pub mod Showing
 pub mod Items
-pub mod Tables
 pub mod Putting
-pub mod TakenBack
 pub mod Places
 pub mod Shows
 pub mod Nearing
 pub mod Stepping
-pub mod AtOnce

@@ -28,7 +28,7 @@ use Rattle.desks.specs.{declared.desk.Desk.Desk, declared.desk.Doing.Doing, decl
 use Rattle.desks.specs.{Store.Store, Desks.desk_at, Desks.doing_in, Desks.doing_at, Desks.started_in, Desks.started_at, Desks.with_doing}
 use Rattle.desks.specs.{Desks.is_quiet_doing, Desks.is_undoing, Desks.HasRooms, Undoing.keys_if}
 use Rattle.law_held_steps.proofs.{Desks.given, Desks.there, Desks.rooms_then, Desks.changes_at_a_desk, AnyStep.each, AnyStep.quiet_rows_at}
-use Rattle.law_held_steps.proofs.{AnyStep.rows_by_writer, Left.search_as, Putting.rows_mine, Putting.changing_rows, Putting.alone_if}
+use Rattle.law_held_steps.proofs.{AnyStep.rows_by_writer, Places.search_as, Putting.rows_mine, Putting.changing_rows, Putting.alone_if}
 use Rattle.row_versions.specs.{declared.place.Place.Place, declared.version.Version.Version, Chains.Chains, Chains.versions_at, Chains.is_same_place}
 use Rattle.row_versions.specs.{Chains.Pushes}
 use Rattle.law_logged_changes.specs.{GoingOn.KeepsBeside, GoingOn.StaysAgreed, GoingOn.EntersAgreed, GoingOn.EndsAgreed, Logs.LogsAgree, Logs.IsAlone}

@@ -1,41 +1,47 @@
 -- A search that begins, with the view by which it reads; one that is under way goes on, ends or is given up.
 use Rattle.std.proofs.Common.{◌≡◌, ◌≢◌, ℕ, ◌<◌, Bool, true, List, Option, Some, None, refl, sym, ap, subst, ◌∙◌, length, slice_get, arith, eq-eqb, inl, inr}
-use Rattle.std.proofs.Common.{◌≤◌, false, map}
-use Rattle.std.specs.Prelude.{is_some, option_map, ◌==◌, ◌-◌, filter}
-use Rattle.inno_model.specs.Past.{view_of, IsOpen, commits, changed}
-use Rattle.sql_plan.specs.declared.choice.Plan.{Plan}
-use Rattle.law_stored_rows.specs.Tables.{HasItsColumns, in_table}
+use Rattle.std.proofs.Common.{◌≤◌, false, map, ◌⊎◌, []}
+use Rattle.std.specs.Prelude.{is_some, option_map, ◌==◌, ◌-◌, filter, ◌<◌, ◌≤◌}
+use Rattle.inno_model.specs.Past.{view_of, IsOpen, commits, changed, own}
+use Rattle.law_stored_rows.specs.Tables.{HasItsColumns, in_table, Said, what_is_there}
 use Rattle.world.specs.State.{WorldState, Session, Work, Seen, HasWork, id_of, standing_of, index_of}
-use Rattle.law_world_agreement.specs.Agreement.{sight_of, Agrees}
-use Rattle.law_found_rows.specs.Finding.{IsFinding, IsFindingAnew}
 use Rattle.desks.specs.Holding.{SightHolds, FindsSince, IsSearchHeld, IsOwnView, IsHeld, SearchHeld}
 use Rattle.law_held_steps.proofs.Places.{none_moves, held_stays, moves_then, moves_in_one, moves_nothing, leaving_moves, moves_leave, moves_told}
-use Rattle.law_held_steps.proofs.Nearing.{IsLess, keys_before, visit_before, keys_anew, steps_nearer, still_nearer, anew_nearer}
-use Rattle.law_world_agreement.proofs.Ending.{work_of}
-use Rattle.inno_db.specs.Database.{rows_of}
-use Rattle.store_api.specs.declared.moves.Move.{Move}
-use Rattle.entries.specs.Calls.{Leaves}
-use Rattle.law_logged_changes.proofs.ReadersLeft.{rows_left}
-use Rattle.read_view.specs.Sight.{Sight as ReadSight}
-use Rattle.inno_types.specs.{declared.value.Schema.Schema, Order.IsBelow}
+use Rattle.law_held_steps.proofs.Nearing.{IsLess, keys_before, visit_before, keys_anew, steps_nearer, still_nearer, anew_nearer, nearer_in}
+use Rattle.row_search.specs.Searches.{BeginsWithNothing, MayBegin, IsSearching, place_in}
+use Rattle.row_search.specs.Steps.{IsSameScan, GoesOn, Waits, Ends}
+use Rattle.law_found_rows.proofs.Finding.{begins, may_come_anew, goes_on, waits_on}
+use Rattle.law_found_rows.proofs.Showing.{holds_table, shows_coded, shows_clustered}
+use Rattle.desks.specs.Desks.{doing_at, with_doing, is_quiet_doing, is_quiet}
+use Rattle.law_held_steps.specs.Begun.{IsNewSearch, IsBegun, HasView, IsScanOf}
+use Rattle.law_held_steps.specs.TakenUp.{IsTakenUp, MayStep, plan_of}
+use Rattle.law_held_steps.proofs.Shows.{HasSome, some_rows_by, columns_of, shows_held, coded_while_quiet}
+use Rattle.shared_lists.specs.Steps.{AreRowsSeen, AreFoundBy, rows_in_range, AreNewestRows}
+use Rattle.law_held_steps.specs.Newest.{plan_read, TellsTable, IsReadingNewest, AreRead, left_in}
+use Rattle.sql_plan.specs.{declared.choice.Plan.Plan, Plans.whole_index, Visits.index_key}
+use Rattle.law_world_agreement.specs.{Agreement.sight_of, Agreement.Agrees}
+use Rattle.law_found_rows.specs.{Finding.IsFinding, Finding.IsFindingAnew}
+use Rattle.law_world_agreement.proofs.{Ending.work_of}
+use Rattle.inno_db.specs.{Database.rows_of}
+use Rattle.store_api.specs.{declared.moves.Move.Move}
+use Rattle.entries.specs.{Calls.Leaves}
+use Rattle.law_logged_changes.proofs.{ReadersLeft.rows_left}
+use Rattle.read_view.specs.{Sight.Sight as ReadSight}
+use Rattle.inno_types.specs.{declared.value.Schema.Schema, Order.IsBelow, declared.value.Value.Value, declared.stmt.Range.Range, Ranges.is_within}
 use Rattle.row_versions.specs.{Chains.Chains, Chains.versions_at, declared.place.Place.Place}
 use Rattle.law_past_agreement.specs.{Agreement.ViewAgrees, Rows.seen, DatabaseTables.with_all_tables}
 use Rattle.world.specs.{Sessions.IsShown, Told.IsTold, Told.pairs_of, Indexes.Calls}
-use Rattle.row_search.specs.{declared.sight.Sight.Sight, declared.scan.Scan.Scan, declared.search.RowSearch.RowSearch, Searches.BeginsWithNothing}
-use Rattle.row_search.specs.{Searches.MayBegin, Searches.IsSearching, Searches.place_in, declared.found.FoundRow.FoundRow}
+use Rattle.row_search.specs.{declared.sight.Sight.Sight, declared.scan.Scan.Scan, declared.search.RowSearch.RowSearch, declared.found.FoundRow.FoundRow}
 use Rattle.row_search.specs.{declared.sight.Sight.TheVariants.View, declared.sight.Sight.TheVariants.Newest, FoundRows.AreFound, FoundRows.RiseByKey}
-use Rattle.row_search.specs.{Ranges.lies_in, Sights.rows_seen, Steps.IsSameScan, Steps.GoesOn, Steps.Waits, Steps.Ends, Tables.most_versions}
-use Rattle.row_search.specs.{Tables.ShowsRows}
-use Rattle.law_found_rows.proofs.{Finding.begins, Finding.may_come_anew, Finding.goes_on, Showing.holds_table, Databases.found_by_view}
-use Rattle.law_found_rows.proofs.{Databases.found_newest}
-use Rattle.desks.specs.{declared.desk.Desk.Desk, declared.desk.Doing.Doing, declared.desk.Doing.TheVariants.Nothing, declared.desk.Doing.TheVariants.Searching}
-use Rattle.desks.specs.Store.{Store}
-use Rattle.desks.specs.{declared.desk.TableSearch.TableSearch, Desks.doing_at, Desks.with_doing, Desks.is_quiet_doing, Searching.keys_left}
+use Rattle.row_search.specs.{Ranges.lies_in, Sights.rows_seen, Tables.most_versions, Tables.ShowsRows}
+use Rattle.law_found_rows.proofs.{Databases.found_by_view, Databases.found_newest}
+use Rattle.desks.specs.{declared.desk.Desk.Desk, declared.desk.Doing.Doing, declared.desk.Doing.TheVariants.Nothing}
+use Rattle.desks.specs.{declared.desk.Doing.TheVariants.Searching, Store.Store, declared.desk.TableSearch.TableSearch, Searching.keys_left}
 use Rattle.desks.specs.{Searching.places_in, Shown.reading_of}
-use Rattle.law_held_steps.specs.{Begun.IsNewSearch, Begun.IsBegun, Begun.HasView, Moving.MovesPlaces, TakenUp.IsTakenUp, TakenUp.MayStep, TakenUp.plan_of}
-use Rattle.law_held_steps.proofs.{Shows.HasSome, Shows.some_rows_by, Shows.columns_of, Shows.shows_held, Keeping.open_work, AnyStep.some_same}
-use Rattle.law_held_steps.proofs.{Putting.alone_if}
-use Rattle.shared_lists.specs.{State.counted, Steps.AreRowsSeen, Steps.AreFoundBy, Steps.rows_in_range}
+use Rattle.law_held_steps.specs.{Moving.MovesPlaces}
+use Rattle.law_held_steps.proofs.{Keeping.open_work, AnyStep.some_same, Putting.alone_if}
+use Rattle.shared_lists.specs.{State.counted}
+use Rattle.row_changes.specs.{Told.AreRowsAs}
 
 pub columns_held : {store : Store} (table : ℕ) {schema : Schema} → IsHeld store → IsTold store.world → slice_get store.world.schemas table ≡ Some schema
     → HasItsColumns schema
@@ -325,3 +331,128 @@ module _ (s : ℕ) {store : Store} {on : TableSearch} (held : IsHeld store) (is 
   given_up {index} {new} {later} first leaves told =
       let moves : MovesPlaces s old later = moves_then first (leaving_moves s index new later leaves) in
       (over later moves told, moves)
+
+-- ---- A whole search of the newest rows.
+
+module _ {store : Store} (table : ℕ) (plan : Plan) (schema : Schema) (held : IsHeld store) where
+  module _ (told : IsTold store.world) (there : slice_get store.world.schemas table ≡ Some schema) (le : plan.which ≤ length schema.keys) where
+    tells_by : (quiet : Bool) → is_quiet store.writer store.desks ≡ quiet → TellsTable held.chains table (plan_read quiet plan) schema store.world
+    tells_by true is = record {
+      there = there;
+      columns = columns_held table held told there;
+      which = le;
+      said = what_is_there held.chains;
+      coded = coded_while_quiet held.chains told store.writer store.desks is held.rows;
+      tells = inl refl;
+      short = few_held held;
+    }
+    tells_by false is =
+        let rows : HasSome held.chains store.world = some_rows_by held.chains told store.writer store.desks held.rows in
+        record {
+          there = there;
+          columns = columns_held table held told there;
+          which = omega arith;
+          said = rows.0;
+          coded = rows.1;
+          tells = inr refl;
+          short = few_held held;
+        }
+
+    pub tells_held : TellsTable held.chains table (plan_read (is_quiet store.writer store.desks) plan) schema store.world
+    tells_held = tells_by (is_quiet store.writer store.desks) refl
+
+  module _ (rows : List FoundRow) where
+    abbrev only_rows : List (List Value)
+    only_rows = map (λ (found : FoundRow). found.row) rows
+
+    seen_by : (by : Plan) → AreRead held.chains table by schema store.world rows → (w : ℕ) → ((u : ℕ) → u ≢ w → own u store.world.past ≡ [])
+        → AreRowsSeen table by store.world.past w (commits store.world.past) only_rows
+    seen_by by are w alone other is =
+        found_newest held.chains store.world table schema store.world.versions.kept_at (pairs_of store.world _) held.agrees (are.readable.coded.clustered.tables table
+        schema are.readable.there) w alone by.which (λ row. is_within by.range (index_key schema by.which row)) rows are.found are.rise
+        ∙ ap (λ (t : Schema). rows_in_range by t (rows_of table (changed (with_all_tables store.world.past) (seen store.world.past w (commits store.world.past)))))
+        (some_same schema other (sym are.readable.there ∙ (ap (λ (tables : List Schema). slice_get tables table) held.agrees.lists.tables ∙ is)))
+
+    newest_by : (quiet : Bool) → AreRead held.chains table (plan_read quiet plan) schema store.world rows → (w : ℕ) → ((u : ℕ) → u ≢ w → own u store.world.past ≡ [])
+        → AreNewestRows table plan store.world.past w only_rows
+    newest_by true are w alone = inl (seen_by plan are w alone)
+    newest_by false are w alone = inr (seen_by whole_index are w alone)
+
+    pub are_newest : AreRead held.chains table (plan_read (is_quiet store.writer store.desks) plan) schema store.world rows → (w : ℕ)
+        → ((u : ℕ) → u ≢ w → own u store.world.past ≡ []) → AreNewestRows table plan store.world.past w only_rows
+    are_newest = newest_by (is_quiet store.writer store.desks)
+
+module _ (chains : Chains) (s table : ℕ) (plan : Plan) (schema : Schema) where
+  pub reading_begins : {state : WorldState} {search : RowSearch} → TellsTable chains table plan schema state → IsNewSearch table plan Newest search
+      → IsReadingNewest chains s table plan schema state state search
+  reading_begins {state} {search} tells new = record {
+    readable = tells;
+    moves = none_moves;
+    scan = new.scan;
+    finds = new_finding new tells.there tells.columns tells.which;
+  }
+
+  scan_on : {scan next : Scan} → IsSameScan scan next → IsScanOf table plan Newest scan → IsScanOf table plan Newest next
+  scan_on same is = record {
+    table_is = same.table ∙ is.table_is;
+    which_is = same.which ∙ is.which_is;
+    range_is = same.range ∙ is.range_is;
+    sight_is = same.sight ∙ is.sight_is;
+  }
+
+  -- what was found, in the words of the plan
+  in_plan : (scan : Scan) (rows : List FoundRow) → IsScanOf table plan Newest scan
+      → AreFound schema scan.which (rows_seen scan.sight (in_table scan.table chains)) (lies_in schema scan) rows
+      → AreFound schema plan.which (rows_seen Newest (in_table table chains)) (λ row. is_within plan.range (index_key schema plan.which row)) rows
+  in_plan scan rows is are =
+      subst (λ (which : ℕ). AreFound schema which (rows_seen Newest (in_table table chains)) (λ row. is_within plan.range (index_key schema which row)) rows)
+      is.which_is (subst (λ (range : Range). AreFound schema scan.which (rows_seen Newest (in_table table chains)) (λ row. is_within range (index_key schema
+      scan.which row)) rows) is.range_is (subst (λ (sight : Sight). AreFound schema scan.which (rows_seen sight (in_table table chains)) (lies_in schema scan)
+      rows) is.sight_is (subst (λ (n : ℕ). AreFound schema scan.which (rows_seen scan.sight (in_table n chains)) (lies_in schema scan) rows) is.table_is are)))
+
+  module _ (first : WorldState) where
+    pub reading_steps : {state : WorldState} {search : RowSearch} → IsReadingNewest chains s table plan schema first state search → IsTold state
+        → MayStep s schema state search
+    reading_steps is told = may_step chains told (rows_on chains is.moves told (is.readable.said, is.readable.coded)) is.readable.short is.finds.searching
+
+    shows_newest : {state : WorldState} {search : RowSearch} → IsReadingNewest chains s table plan schema first state search → IsTold state
+        → ShowsRows schema search.scan state (in_table search.scan.table chains)
+    shows_newest {state} {search} is told = by is.readable.tells where
+      coded : AreRowsAs chains is.readable.said state
+      coded = rows_left first state (moves_leave is.moves) chains is.readable.said told is.readable.coded
+
+      by : (is.readable.said ≡ what_is_there chains) ⊎ (plan.which ≡ 0) → ShowsRows schema search.scan state (in_table search.scan.table chains)
+      by (inl there) =
+          shows_coded schema search.scan state chains told is.finds.searching.there is.readable.columns is.finds.searching.key
+          (subst (λ (said : Said). AreRowsAs chains said state) there coded)
+      by (inr clustered) =
+          shows_clustered state chains is.readable.said told coded schema search.scan is.finds.searching.there is.readable.columns
+          (is.scan.which_is ∙ clustered)
+
+    pub reading_goes_on : {old new : WorldState} {search next : RowSearch} → IsReadingNewest chains s table plan schema first old search
+        → GoesOn s schema old new search next → IsTold new → IsReadingNewest chains s table plan schema first new next
+    reading_goes_on {old} {new} {search} {next} is goes told =
+        let moves : MovesPlaces s old new = moves_in_one goes.moves in
+        let on = goes_on s schema old new chains search next is.finds (shows_newest is (moves_told moves told)) goes told in
+        record { readable = is.readable; moves = moves_then is.moves moves; scan = scan_on on.1 is.scan; finds = on.0 }
+
+    pub reading_nears : {old new : WorldState} {search next : RowSearch} → IsReadingNewest chains s table plan schema first old search
+        → GoesOn s schema old new search next → IsTold new → left_in s new next < left_in s old search
+    reading_nears {old} {new} {search} {next} is goes told =
+        let was : IsTold old = moves_told (moves_in_one goes.moves) told in
+        nearer_in s old new search next (steps_nearer (shows_newest is was) is.finds.searching is.finds.finds goes was told)
+
+    pub reading_waits : {old new : WorldState} {search same : RowSearch} {why : Move} → IsReadingNewest chains s table plan schema first old search
+        → Waits s schema old new search same why → IsTold new → IsReadingNewest chains s table plan schema first new same
+    reading_waits {old} {new} {search} {same} {why} is waits told =
+        let moves : MovesPlaces s old new = moves_nothing waits.unchanged in
+        let on = waits_on s schema old new chains search same why is.finds waits told in
+        record { readable = is.readable; moves = moves_then is.moves moves; scan = scan_on on.1 is.scan; finds = on.0 }
+
+    pub reading_ends : {old new : WorldState} {search : RowSearch} {rows : List FoundRow} → IsReadingNewest chains s table plan schema first old search → Ends s
+        schema old new search rows → AreRead chains table plan schema first rows × MovesPlaces s first new
+    reading_ends {old} {new} {search} {rows} is ends =
+        let found = ends.found (in_table search.scan.table chains) is.finds.finds in (
+          record { readable = is.readable; found = in_plan search.scan rows is.scan found.0; rise = found.1 },
+          moves_then is.moves (leaving_moves s _ old new ends.leaves),
+        )
