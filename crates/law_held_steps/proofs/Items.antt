@@ -24,7 +24,7 @@ use Rattle.law_past_agreement.specs.Agreement.{owed_by, owed_by_txn, owed_by_ite
 use Rattle.law_stored_rows.specs.Tables.{HasItsColumns, HasNoPairs, AreCoded}
 use Rattle.std.proofs.{lemmas.Bool.Decides.nat_tests, lemmas.Bool.Decides.eqb_tells, lemmas.Bool.false≢true}
 use Rattle.inno_model.specs.{declared.event.Event.Event}
-use Rattle.law_held_steps.specs.{Entries.LeavesDesks, Entries.HasSameRows}
+use Rattle.law_held_steps.specs.{Leaving.LeavesDesks, Leaving.HasSameRows}
 use Rattle.entries.specs.{Index.Index, Index.AreKept, Pairs.Pair, Lists.empty_index}
 use Rattle.row_versions.specs.{Versions.Stays}
 use Rattle.shared_lists.specs.{Fitting.FitsThen}

@@ -6,7 +6,7 @@ use Rattle.law_held_steps.proofs.Desks.{desk_elsewhere, started_still, doing_min
 use Rattle.law_logged_changes.proofs.GoingOn.{logs_beside, own_beside, agrees_beside}
 use Rattle.desks.specs.Desks.{desk_at, doing_at, with_doing, is_quiet_doing}
 use Rattle.desks.specs.Holding.{SearchHeld, IsHeld, RowsHeldBy, SightHolds}
-use Rattle.law_held_steps.specs.Leaving.{LeavesIndexes, LeavesTable, is_searching}
+use Rattle.law_held_steps.specs.Leaving.{MovesPlaces, LeavesTable, is_searching}
 use Rattle.std.proofs.{lemmas.Bool.Decides.eqb_tells, lemmas.Bool.cases_eq}
 use Rattle.row_versions.specs.{Versions.Versions, Versions.Stays, Chains.Chains}
 use Rattle.row_changes.proofs.{Sessions.same_pairs, Sessions.same_versions}
@@ -15,7 +15,6 @@ use Rattle.row_search.specs.{Steps.OnlyMoves, declared.sight.Sight.Sight, declar
 use Rattle.entries.specs.{Pairs.Pair, Index.AreKept, Calls.Leaves, Calls.released}
 use Rattle.world.specs.{State.WorldState, State.index_of, Told.IsTold, Told.LeavesRows, Indexes.Calls, Undoing.IsUnchanged}
 use Rattle.law_logged_changes.proofs.{ReadersLeft.left_told, ReadersLeft.has_rows_left, Leaving.rows_leave, Leaving.all_left}
-use Rattle.law_held_steps.specs.{Moving.MovesPlaces}
 use Rattle.desks.specs.{declared.desk.Desk.Desk, declared.desk.Doing.Doing, declared.desk.Doing.TheVariants.Nothing}
 use Rattle.desks.specs.{declared.desk.Doing.TheVariants.Searching, Store.Store}
 use Rattle.inno_types.specs.{declared.value.Schema.Schema}
@@ -131,24 +130,18 @@ held_idle {s} {store} {new} held idle moves told =
 
 -- ---- Indexes that a session leaves.
 
-pub one_left : (s index : ℕ) (old new : WorldState) → Calls index (λ before after. Leaves s before after) old new → LeavesIndexes s old new
-one_left = leaving_moves
-
-pub none_left : (s : ℕ) (state : WorldState) → LeavesIndexes s state state
-none_left s state = none_moves
-
 -- so many of them are left
 pub record LeftBelow (s table count : ℕ) (old new : WorldState) : Type 0 where
-  pub leaves : LeavesIndexes s old new
+  pub leaves : MovesPlaces s old new
   pub gone : (index by which : ℕ) → which < count → index ≡ index_of table which → (new.indexes index).awaited ≡ Some by → by ≢ s
 
 pub none_below : (s table : ℕ) (state : WorldState) → LeftBelow s table 0 state state
-none_below s table state = record { leaves = none_left s state; gone = λ index by which below at is. absurd (omega (arith, below)) }
+none_below s table state = record { leaves = none_moves; gone = λ index by which below at is. absurd (omega (arith, below)) }
 
 pub one_more_below : (s table count index : ℕ) (old mid new : WorldState) → LeftBelow s table count old mid → index ≡ index_of table count
     → Calls index (λ before after. Leaves s before after) mid new → LeftBelow s table (count + 1) old new
 one_more_below s table count index old mid new below is call = record {
-  leaves = moves_then below.leaves (one_left s index mid new call);
+  leaves = moves_then below.leaves (leaving_moves s index mid new call);
   gone = λ at by which less number awaited. ⊎_elim (λ here. (left_over s (mid.indexes index).awaited by (sym call.index_is.here.awaited
       ∙ subst (λ n. (new.indexes n).awaited ≡ Some by) here awaited)).1) (λ apart. below.gone at by which (let not_it : which ≢ count = λ same. apart
       (number ∙ (ap (index_of table) same ∙ sym is)) in
@@ -186,7 +179,7 @@ search_as chains store desks s (Searching on) is = record {
 }
 search_as chains store desks s other is = record {}
 
-module _ {s : ℕ} {store : Store} {new : WorldState} (leaves : LeavesIndexes s store.world new) where
+module _ {s : ℕ} {store : Store} {new : WorldState} (leaves : MovesPlaces s store.world new) where
   pub held_left : IsHeld store → is_searching (doing_at s store.desks) ≡ false → IsTold new → IsHeld (record store { world = new })
   held_left held none told =
       let rows = moves_leave leaves in

@@ -51,7 +51,7 @@ use Rattle.shared_lists.specs.{Fitting.FitsThen, State.task_of, State.Turns}
 use Rattle.law_logged_changes.proofs.{ReadersLeft.has_rows_left, TakenBack.rows_then, TakenBack.to_cut_by_history, Cutting.rows_cut, Cutting.has_cut}
 use Rattle.law_past_agreement.specs.{Rows.place_in}
 use Rattle.law_world_agreement.specs.{Agreement.Agrees, Steps.IsTakenBackBy}
-use Rattle.law_held_steps.specs.{SeenUndoing.TakesBackIn}
+use Rattle.law_held_steps.specs.{Undoing.TakesBackIn}
 use Rattle.law_world_agreement.proofs.{Opening.set_here, Opening.set_other, Changing.one_session, Changing.one_work, Entries.taken_back_agrees}
 
 -- nobody else has changes

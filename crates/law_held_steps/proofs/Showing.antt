@@ -18,7 +18,7 @@ use Rattle.law_stored_rows.specs.Storable.{IsStorable}
 use Rattle.law_found_rows.proofs.FittingChanges.{tables_storable}
 use Rattle.shared_lists.specs.Tasks as tasks
 use Rattle.shared_lists.specs.declared.answers.Changed.TheVariants as answers
-use Rattle.law_held_steps.specs.{SeenEntries.settings_of, Begun.IsBegun, Moving.MovesPlaces, TakenUp.IsSearchOf, Beginning.begun, Leaving.LeavesIndexes}
+use Rattle.law_held_steps.specs.{Undoing.settings_of, Begun.IsBegun, Leaving.MovesPlaces, TakenUp.IsSearchOf, Beginning.begun}
 use Rattle.law_held_steps.specs.{Leaving.is_searching}
 use Rattle.law_held_steps.proofs.{Keeping.same_settings, AnyStep.some_same, AnyStep.each}
 use Rattle.inno_model.specs.{declared.event.Event.Event}
@@ -307,6 +307,6 @@ module _ {store : Store} {s : ℕ} (held : IsHeld store) (mine : store.writer �
 
 -- ---- an index that is left
 
-pub left_shown : {s : ℕ} (store : Store) {new : WorldState} → LeavesIndexes s store.world new → is_searching (doing_at s store.desks) ≡ false → IsTold new
+pub left_shown : {s : ℕ} (store : Store) {new : WorldState} → MovesPlaces s store.world new → is_searching (doing_at s store.desks) ≡ false → IsTold new
     → lists_of (record store { world = new }) ≡ lists_of store
 left_shown {s} store leaves none told = seen_stay store leaves told (λ on is. true≢false (sym (ap is_searching is) ∙ none))

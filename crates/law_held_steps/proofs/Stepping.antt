@@ -38,7 +38,7 @@ use Rattle.law_found_rows.proofs.{Databases.found_by_view, Databases.found_newes
 use Rattle.desks.specs.{declared.desk.Desk.Desk, declared.desk.Doing.Doing, declared.desk.Doing.TheVariants.Nothing}
 use Rattle.desks.specs.{declared.desk.Doing.TheVariants.Searching, Store.Store, declared.desk.TableSearch.TableSearch, Searching.keys_left}
 use Rattle.desks.specs.{Searching.places_in, Shown.reading_of}
-use Rattle.law_held_steps.specs.{Moving.MovesPlaces}
+use Rattle.law_held_steps.specs.{Leaving.MovesPlaces}
 use Rattle.law_held_steps.proofs.{Keeping.open_work, AnyStep.some_same, Putting.alone_if}
 use Rattle.shared_lists.specs.{State.counted}
 use Rattle.row_changes.specs.{Told.AreRowsAs}

@@ -1,11 +1,7 @@
 pub mod Beginning
 pub mod Making
 pub mod Leaving
-pub mod Entries
-pub mod SeenEntries
 pub mod Undoing
-pub mod SeenUndoing
-pub mod Moving
 pub mod Begun
 pub mod TakenUp
 pub mod Newest

@@ -10,7 +10,7 @@ use Rattle.row_search.specs.{declared.found.FoundRow.FoundRow, declared.search.R
 use Rattle.row_search.specs.{FoundRows.AreFound, FoundRows.RiseByKey, Searches.place_in, Tables.most_versions}
 use Rattle.desks.specs.Searching.{keys_left, visit_left}
 use Rattle.law_found_rows.specs.Finding.{IsFinding}
-use Rattle.law_held_steps.specs.{Moving.MovesPlaces, Begun.IsScanOf}
+use Rattle.law_held_steps.specs.{Leaving.MovesPlaces, Begun.IsScanOf}
 
 -- the plan that is searched by: all of the table while keys may lag
 abbrev pub plan_read : Bool → Plan → Plan
