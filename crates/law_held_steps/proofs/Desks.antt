@@ -71,33 +71,6 @@ there s [] within = absurd (omega (arith, within))
 there zero (desk ∷ desks) within = (desk, refl)
 there (suc s) (desk ∷ desks) within = there s desks (omega (arith, within))
 
--- The session has this to do now; the others' desks, how many items it has started and its rooms are as they were.
-pub record GivesDoing (s : ℕ) (doing : Doing) (old new : List Desk) : Type 0 where
-  pub here : (desk : Desk) → desk_at s old ≡ Some desk → desk_at s new ≡ Some (record desk { doing = doing })
-  pub doing_is : doing_at s new ≡ doing
-  pub others : (t : ℕ) → t ≢ s → desk_at t new ≡ desk_at t old
-  pub started : started_at s new ≡ started_at s old
-  pub count : length new ≡ length old
-
-pub given : (s : ℕ) (doing : Doing) (desks : List Desk) → s < length desks → GivesDoing s doing desks (with_doing s doing desks)
-given s doing desks joined = record {
-  here = λ desk at. desk_here s (λ d. record d { doing = doing }) desks ∙ ap (option_map (λ (d : Desk). record d { doing = doing })) at;
-  doing_is = doing_here s doing desks joined;
-  others = λ t differs. desk_elsewhere s t (λ d. record d { doing = doing }) desks differs;
-  started = started_still s doing desks;
-  count = as_many s (λ d. record d { doing = doing }) desks;
-}
-
--- it goes on with what it does
-pub kept_on : (s : ℕ) (doing : Doing) (desks : List Desk) → doing_at s desks ≡ doing → GivesDoing s doing desks desks
-kept_on s doing desks is = record {
-  here = λ desk at. at ∙ (let same : desk.doing ≡ doing = sym (ap doing_in at) ∙ is in ap (λ (d : Doing). Some (record desk { doing = d })) same);
-  doing_is = is;
-  others = λ t differs. refl;
-  started = refl;
-  count = refl;
-}
-
 -- ---- rooms
 
 -- who takes nothing back has the rooms that it had
@@ -145,5 +118,7 @@ given_then one two = record {
   count = two.count ∙ one.count;
 }
 
-pub busy_desk : (s : ℕ) (desks : List Desk) → doing_at s desks ≢ Nothing → (desk : Desk) × (desk_at s desks ≡ Some desk)
-busy_desk s desks busy = there s desks (busy_at_a_desk s desks busy)
+-- it has something else to do
+pub given : (s : ℕ) (doing : Doing) {desk : Desk} (desks : List Desk) → desk_at s desks ≡ Some desk
+    → IsGiven s desk (record desk { doing = doing }) desks (with_doing s doing desks)
+given s doing desks at = is_given s (λ (desk : Desk). record desk { doing = doing }) desks at refl

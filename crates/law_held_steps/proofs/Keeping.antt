@@ -22,10 +22,10 @@ use Rattle.world.specs.{Told.IsTold, Undoing.read_into}
 use Rattle.row_changes.proofs.{Sessions.one_session, Ids.one_work}
 use Rattle.law_logged_changes.specs.{GoingOn.StaysOpen, GoingOn.KeepsBeside, Logs.LogsAgree}
 use Rattle.desks.specs.{declared.desk.Desk.Desk, declared.desk.Doing.Doing, Store.Store, Leaves.Does}
-use Rattle.desks.specs.Desks.{doing_at, with_doing, is_undoing}
+use Rattle.desks.specs.Desks.{desk_at, doing_in, doing_at, with_doing, is_undoing}
 use Rattle.law_held_steps.specs.{Making.LeavesLists, Leaving.is_searching}
 use Rattle.law_held_steps.proofs.{AnyStep.each, AnyStep.waits_not, AnyStep.past_grows, AnyStep.held_after, AnyStep.rows_by_writer}
-use Rattle.law_held_steps.proofs.{Desks.GivesDoing, Desks.given, Desks.there, Desks.rooms_then, Places.no_search}
+use Rattle.law_held_steps.proofs.{Desks.IsGiven, Desks.given, Desks.there, Desks.started_still, Desks.rooms_then, Places.no_search}
 
 -- it has started or ended no item, and no commit of its own waits for its acknowledgement that didn't
 pub record GoesOnBy (s : ℕ) (old new : List Event) : Type 0 where
@@ -146,8 +146,11 @@ module _ {s : ℕ} {store : Store} {new : WorldState} (held : IsHeld store) (min
     abbrev then_held : Store
     then_held = record store { world = new; desks = with_doing s doing store.desks }
 
-    gives : GivesDoing s doing store.desks (with_doing s doing store.desks)
-    gives = given s doing store.desks within
+    was : (desk : Desk) × (desk_at s store.desks ≡ Some desk)
+    was = there s store.desks within
+
+    gives : IsGiven s was.0 (record was.0 { doing = doing }) store.desks (with_doing s doing store.desks)
+    gives = given s doing store.desks was.1
 
     does : Does s held.chains after store then_held
     does = record {
@@ -167,7 +170,7 @@ module _ {s : ℕ} {store : Store} {new : WorldState} (held : IsHeld store) (min
 
     rows_then : ((desk : Desk) → RowsHeld after new s (read_into desk.undo) desk.room doing)
         → RowsHeldBy store.writer after new (with_doing s doing store.desks)
-    rows_then rows = let was = there s store.desks within in rows_by_writer s after new (with_doing s doing store.desks) mine (gives.here was.0 was.1) (rows was.0)
+    rows_then rows = rows_by_writer s after new (with_doing s doing store.desks) mine gives.here (rows was.0)
 
     pub keeps : is_undoing (doing_at s store.desks) ≡ false → is_searching doing ≡ false → FitsThen new.past → LogsAgree new
         → ((desk : Desk) → RowsHeld after new s (read_into desk.undo) desk.room doing) → AreFew after new.past → IsHeld then_held
@@ -179,11 +182,11 @@ module _ {s : ℕ} {store : Store} {new : WorldState} (held : IsHeld store) (min
               was_open.2.session_is (goes.awaits waits);
           ends = λ session work has. sym (ap (λ (w : Work). w.can_end) (one_work s stays_open.session_now session stays_open.work_now work new stays_open.has
               has)) ∙ stays_open.can_end ∙ held.has_room.ends s was_open.0 was_open.1 was_open.2;
-          started = goes.started_is ∙ held.started s ∙ sym gives.started;
+          started = goes.started_is ∙ held.started s ∙ sym (started_still s doing store.desks);
           opened = λ is. goes.open_is (held.writes.opened s is);
           clean = λ other. absurd (other mine);
           quiet = λ other. absurd (other mine);
-          search = subst (SearchHeld after then_held s) (sym gives.doing_is) (no_search after then_held s doing searches_not);
+          search = subst (SearchHeld after then_held s) (sym (ap doing_in gives.here)) (no_search after then_held s doing searches_not);
           rooms = rooms_then s doing store.desks (held.rooms s) not;
         }) fits (rows_then rows) logs (gives.count ∙ held.count ∙ ap length (sym beside.names))
         (subst (λ (names : List (List ℕ)). length names ≤ 68) (sym beside.names) held.few)

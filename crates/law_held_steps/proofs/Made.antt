@@ -27,7 +27,7 @@ use Rattle.inno_model.specs.{Past.IsOpen, Past.own, Past.started, declared.event
 use Rattle.desks.specs.{declared.desk.Desk.Desk, declared.desk.Doing.Doing, declared.desk.Doing.TheVariants.Nothing, declared.desk.Doing.TheVariants.Changing}
 use Rattle.desks.specs.{Store.Store, Desks.desk_at, Desks.doing_in, Desks.doing_at, Desks.started_in, Desks.started_at, Desks.with_doing}
 use Rattle.desks.specs.{Desks.is_quiet_doing, Desks.is_undoing, Desks.HasRooms, Undoing.keys_if}
-use Rattle.law_held_steps.proofs.{Desks.given, Desks.there, Desks.rooms_then, Desks.changes_at_a_desk, AnyStep.each, AnyStep.quiet_rows_at}
+use Rattle.law_held_steps.proofs.{Desks.given, Desks.there, Desks.started_still, Desks.rooms_then, Desks.changes_at_a_desk, AnyStep.each, AnyStep.quiet_rows_at}
 use Rattle.law_held_steps.proofs.{AnyStep.rows_by_writer, Places.search_as, Putting.rows_mine, Putting.changing_rows, Putting.alone_if}
 use Rattle.row_versions.specs.{declared.place.Place.Place, declared.version.Version.Version, Chains.Chains, Chains.versions_at, Chains.is_same_place}
 use Rattle.row_versions.specs.{Chains.Pushes}
@@ -99,24 +99,24 @@ module _ {store : Store} (held : IsHeld store) where
         → SearchHeld held.chains (record store { desks = with_doing s doing store.desks }) s doing
         → IsHeld (record store { desks = with_doing s doing store.desks })
     turned doing within not rows search =
-        let gives = given s doing store.desks within in
         let was = there s store.desks within in
+        let gives = given s doing store.desks was.1 in
         let now : Store = record store { desks = with_doing s doing store.desks } in
         record {
           chains = held.chains;
           agrees = held.agrees;
           fits = held.fits;
           writes = held.writes;
-          rows = rows_by_writer s held.chains state now.desks mine (gives.here was.0 was.1) (rows was.0);
+          rows = rows_by_writer s held.chains state now.desks mine gives.here (rows was.0);
           quiet = each s (λ u. store.writer ≢ Some u → is_quiet_doing (doing_at u now.desks) ≡ true) (λ other. absurd (other mine))
               (λ u differs other. ap (λ desk. is_quiet_doing (doing_in desk)) (gives.others u differs) ∙ held.quiet u other);
           searches = each s (λ u. SearchHeld held.chains now u (doing_at u now.desks))
-              (subst (SearchHeld held.chains now s) (sym gives.doing_is) search) (λ u differs.
+              (subst (SearchHeld held.chains now s) (sym (ap doing_in gives.here)) search) (λ u differs.
               subst (λ desk. SearchHeld held.chains now u (doing_in desk)) (sym (gives.others u differs))
               (search_as held.chains store now.desks u (doing_at u store.desks) (held.searches u)));
           logs = held.logs;
           has_room = held.has_room;
-          started = each s (λ u. started u state.past ≡ started_at u now.desks) (held.started s ∙ sym gives.started)
+          started = each s (λ u. started u state.past ≡ started_at u now.desks) (held.started s ∙ sym (started_still s doing store.desks))
               (λ u differs. held.started u ∙ ap started_in (sym (gives.others u differs)));
           rooms = each s (λ u. (desk : Desk) → desk_at u now.desks ≡ Some desk → HasRooms desk) (rooms_then s doing store.desks (held.rooms s) not)
               (λ u differs desk at. held.rooms u desk (sym (gives.others u differs) ∙ at));

@@ -5,7 +5,7 @@ use Rattle.std.proofs.lemmas.List.{length-set, map-set, set-get_or}
 use Rattle.std.proofs.lemmas.Bool.{true≢false}
 use Rattle.std.specs.Prelude.{slice_get, slice_set, slice_index_or}
 use Rattle.law_held_steps.specs.Making.{given_up, LeavesLists, AddsNothing, IsNearer, IsEntered}
-use Rattle.law_held_steps.proofs.Desks.{doing_here, desk_elsewhere, busy_at_a_desk, given}
+use Rattle.law_held_steps.proofs.Desks.{doing_here, desk_elsewhere, busy_at_a_desk, given, there}
 use Rattle.inno_types.specs.declared.value.Schema.{Schema}
 use Rattle.row_versions.specs.Versions.{Versions}
 use Rattle.sql_history.specs.Settings.{Setting, at_first}
@@ -211,7 +211,7 @@ module _ {s : ℕ} {store : Store} {new : WorldState} (held : IsHeld store) (min
   pub now_shown : (doing : Doing) {past : List Event} {task : Task} → is_undoing doing ≡ false → new.past ≡ past → shown new.schemas 0 doing ≡ task
       → IsNow past s task store.writer (lists_of store).state (lists_of (then_does doing)).state
   now_shown doing not past_is task_is =
-      shows_now store (then_does doing) refl mine held.quiet (given s doing store.desks within).others leaves.names leaves.schemas past_is
+      shows_now store (then_does doing) refl mine held.quiet (given s doing store.desks (there s store.desks within).1).others leaves.names leaves.schemas past_is
       (mine_shown doing not ∙ task_is)
 
   module _ {change : RowChange} (at : doing_at s store.desks ≡ Changing change) where
