@@ -55,7 +55,8 @@ module _ (state : WorldState) (chains : Chains) (said : Said) (told : IsTold sta
           rising = clustered.rising;
           keys =
               subst (λ which. HaveKeys schema which (pairs_of state (clustered_index scan.table)) (rows_seen scan.sight (in_table scan.table chains))) (sym is)
-              (in_clustered scan.table schema state.versions.kept_at (pairs_of state (clustered_index scan.table)) (in_table scan.table chains) scan.sight clustered);
+              (in_clustered scan.table schema state.versions.kept_at (pairs_of state (clustered_index scan.table)) (in_table scan.table chains) scan.sight
+              clustered);
         }
 
     -- a key tells of what the reader sees
