@@ -52,12 +52,14 @@ pub fn seen_rows_have_their_keys()
     ensures clustered { (table : ℕ) (schema : Schema) (kept : ℕ → Option Kept) (pairs : List Pair) (versions_at : Value → List Version) (sight : Sight)
         → IsClustered table schema kept pairs versions_at
         → HaveKeys schema 0 pairs (rows_seen sight versions_at) }
-    ensures keyed { (table : ℕ) (schema : Schema) (kept : ℕ → Option Kept) (pairs entries : List Pair) (versions_at : Value → List Version) (sight : Sight) (at : ℕ) (key : Key)
+    ensures keyed { (table : ℕ) (schema : Schema) (kept : ℕ → Option Kept) (pairs entries : List Pair) (versions_at : Value → List Version)
+        (sight : Sight) (at : ℕ) (key : Key)
         → IsClustered table schema kept pairs versions_at
         → slice_get schema.keys at ≡ Some key
         → HasEntries schema key.column entries versions_at
         → HaveKeys schema (1 + at) entries (rows_seen sight versions_at) }
-    ensures lagging { (table : ℕ) (schema : Schema) (kept : ℕ → Option Kept) (pairs entries : List Pair) (versions_at said : Value → List Version) (sight : Sight) (at : ℕ) (key : Key)
+    ensures lagging { (table : ℕ) (schema : Schema) (kept : ℕ → Option Kept) (pairs entries : List Pair) (versions_at said : Value → List Version)
+        (sight : Sight) (at : ℕ) (key : Key)
         → IsClustered table schema kept pairs versions_at
         → slice_get schema.keys at ≡ Some key
         → HasEntries schema key.column entries said
