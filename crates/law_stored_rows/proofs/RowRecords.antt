@@ -32,11 +32,6 @@ module _ (schema : Schema) (key : List ℕ) (old new : ℕ → Option Kept) wher
   record_still None [] more is = tt
   record_still found versions more is = absurd is
 
--- what is kept of a row is kept
-pub leads_of : (schema : Schema) (key : List ℕ) (kept : ℕ → Option Kept) (table pointer : ℕ) (versions : List Version)
-    → LeadTo schema key (kept_of kept table key) pointer versions → LeadTo schema key kept pointer versions
-leads_of schema key kept table pointer versions is = leads_still schema key (kept_of kept table key) kept pointer versions (found_of kept table key) is
-
 pub record_of : (schema : Schema) (key : List ℕ) (kept : ℕ → Option Kept) (table : ℕ) (found : Option (List ℕ)) (versions : List Version)
     → IsRecordWith schema key (kept_of kept table key) found versions → IsRecordWith schema key kept found versions
 record_of schema key kept table found versions is = record_still schema key (kept_of kept table key) kept found versions (found_of kept table key) is

@@ -337,12 +337,7 @@ module _ (schemas : List Schema) (pairs : ℕ → List Pair) (kept : ℕ → Opt
       change_over schemas pairs kept chains place beside (said_but beside place there) (what_is_there chains) are (lags_there beside place there) same
       (λ which schema key is_there key_is value. ap (entry_said key.column value) (says_place beside place there which))
 
--- Where nothing else is under way, all keys say what is there: before a change is taken back, once it is, and where it had been.
-pub begun_whole : (schemas : List Schema) (pairs : ℕ → List Pair) (kept : ℕ → Option Kept) (chains : Chains) (place : Place)
-    → AreCoded schemas pairs kept chains → AreCodedBut schemas pairs kept chains (what_is_there chains) place (λ which. versions_at place chains)
-begun_whole schemas pairs kept chains place are =
-    as_but schemas pairs kept chains (what_is_there chains) place (what_is_there chains) are (λ table which value apart. refl)
-
+-- Where nothing else is under way, all keys say what is there once a change is taken back.
 pub taken_whole : (chains after : Chains) (place : Place) (undo : Undo) (rows : Rows) → Pops chains after place
     → IsTakenBack after (what_is_there chains) place undo rows → AreCoded rows.schemas rows.pairs rows.kept after
 taken_whole chains after place undo rows pops back =
