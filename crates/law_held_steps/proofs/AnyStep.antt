@@ -26,7 +26,7 @@ use Rattle.row_changes.specs.{Told.HasRows, declared.row_change.RowChange.RowCha
 use Rattle.row_changes.specs.{declared.row_change.RowChange.TheVariants.Keys}
 use Rattle.undo_apply.specs.declared.work_room.WorkRoom.{WorkRoom}
 use Rattle.law_logged_changes.specs.{Logs.IsLogOf, Logs.LogsAgree, Steps.ChangesPairsAlone}
-use Rattle.law_logged_changes.proofs.{GoingOn.work_beside, GoingOn.agrees_beside, ReadersLeft.has_rows_left, ReadersLeft.change_left}
+use Rattle.law_logged_changes.proofs.{Leaving.work_beside, Leaving.agrees_beside, Leaving.has_rows_left, Leaving.change_left}
 use Rattle.desks.specs.{declared.desk.Desk.Desk, declared.desk.Doing.Doing, Store.Store, Leaves.Does}
 use Rattle.desks.specs.Desks.{desk_at, doing_in, doing_at, started_in, started_at, is_quiet_doing, HasRooms}
 

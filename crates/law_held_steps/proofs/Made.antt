@@ -32,7 +32,7 @@ use Rattle.law_held_steps.proofs.{AnyStep.rows_by_writer, Places.search_as, Putt
 use Rattle.row_versions.specs.{declared.place.Place.Place, declared.version.Version.Version, Chains.Chains, Chains.versions_at, Chains.is_same_place}
 use Rattle.row_versions.specs.{Chains.Pushes}
 use Rattle.law_logged_changes.specs.{GoingOn.KeepsBeside, GoingOn.StaysAgreed, GoingOn.EntersAgreed, GoingOn.EndsAgreed, Logs.LogsAgree, Logs.IsAlone}
-use Rattle.law_logged_changes.proofs.{Entering.goes_on, Entering.place_there, Logging.change_logged, Crossing.row_all}
+use Rattle.law_logged_changes.proofs.{Entering.goes_on, Entering.place_there, Logging.change_logged, Logging.row_all}
 
 some_there : (found : Option Schema) (P : Schema → Type 0) → IsSomeAnd found P → (schema : Schema) × (found ≡ Some schema) × P schema
 some_there None P fits = absurd fits

@@ -3,7 +3,7 @@ use Rattle.std.proofs.Common.{◌≡◌, ◌≢◌, ◌⊎◌, ⊎_elim, ℕ, Bo
 use Rattle.std.specs.Prelude.{◌==◌, if◌then◌else◌, slice_get, List}
 use Rattle.law_held_steps.proofs.AnyStep.{each, quiet_step, does_beside, held_beside, rows_left_at}
 use Rattle.law_held_steps.proofs.Desks.{desk_elsewhere, started_still, doing_mine, as_many, doing_stays, rooms_then, quiet_undoes_not}
-use Rattle.law_logged_changes.proofs.GoingOn.{logs_beside, own_beside, agrees_beside}
+use Rattle.law_logged_changes.proofs.Leaving.{logs_beside, own_beside, agrees_beside}
 use Rattle.desks.specs.Desks.{desk_at, doing_at, with_doing, is_quiet_doing}
 use Rattle.desks.specs.Holding.{SearchHeld, IsHeld, RowsHeldBy, SightHolds}
 use Rattle.law_held_steps.specs.Leaving.{MovesPlaces, LeavesTable, is_searching}
@@ -14,7 +14,7 @@ use Rattle.world.proofs.{Stores.store_stays, Stores.store_goes_on}
 use Rattle.row_search.specs.{Steps.OnlyMoves, declared.sight.Sight.Sight, declared.sight.Sight.TheVariants.View, declared.sight.Sight.TheVariants.Newest}
 use Rattle.entries.specs.{Pairs.Pair, Index.AreKept, Calls.Leaves, Calls.released}
 use Rattle.world.specs.{State.WorldState, State.index_of, Told.IsTold, Told.LeavesRows, Indexes.Calls, Undoing.IsUnchanged}
-use Rattle.law_logged_changes.proofs.{ReadersLeft.left_told, ReadersLeft.has_rows_left, Leaving.rows_leave, Leaving.all_left}
+use Rattle.law_logged_changes.proofs.{Leaving.left_told, Leaving.has_rows_left, Leaving.rows_leave, Leaving.all_left}
 use Rattle.desks.specs.{declared.desk.Desk.Desk, declared.desk.Doing.Doing, declared.desk.Doing.TheVariants.Nothing}
 use Rattle.desks.specs.{declared.desk.Doing.TheVariants.Searching, Store.Store}
 use Rattle.inno_types.specs.{declared.value.Schema.Schema}

@@ -7,7 +7,7 @@ use Rattle.std.proofs.Common.{Bool, ◌+◌, ◌*◌, ◌^◌, ◌<◌, inl, inr
 use Rattle.world.specs.State.{WorldState, Logged, Session, Work, HasWork, IsSession, standing_of}
 use Rattle.world.specs.Undoing.{read_into, ReadsLast, newest, IsRead, HoldsRecord, IsCutBack}
 use Rattle.desks.specs.Holding.{RowsHeld, RowsHeldAt, RowsHeldBy, IsLast, IsLastIfTold, IsLagging, SearchHeld, IsHeld, IsGoingBack, WriterAgrees}
-use Rattle.law_logged_changes.proofs.GoingOn.{own_beside, agrees_beside, step_all, step_beside, logs_beside, work_beside, work_again}
+use Rattle.law_logged_changes.proofs.Leaving.{own_beside, agrees_beside, step_all, step_beside, logs_beside, work_beside, work_again}
 use Rattle.law_held_steps.proofs.AnyStep.{some_same, last_left, held_beside, rows_left, last_log, rows_by_writer, waits_not, held_after}
 use Rattle.undo_apply.specs.Stages.{Stops, StopsAt, IsPuttingBack, GoesOn, IsHindered, IsDone, PutsBack, StageHolds, WalksOn}
 use Rattle.law_held_steps.specs.Undoing.{HasPutBack, HasLast, IsReady}
@@ -48,7 +48,7 @@ use Rattle.entries.specs.{Index.Index}
 use Rattle.law_past_agreement.proofs.{Rows.own_undone}
 use Rattle.row_changes.proofs.{Sessions.same_pairs, Sessions.same_versions}
 use Rattle.shared_lists.specs.{Fitting.FitsThen, State.task_of, State.Turns}
-use Rattle.law_logged_changes.proofs.{ReadersLeft.has_rows_left, TakenBack.rows_then, TakenBack.to_cut_by_history, Cutting.rows_cut, Cutting.has_cut}
+use Rattle.law_logged_changes.proofs.{Leaving.has_rows_left, TakenBack.rows_then, TakenBack.to_cut_by_history, Cutting.rows_cut, Cutting.has_cut}
 use Rattle.law_past_agreement.specs.{Rows.place_in}
 use Rattle.law_world_agreement.specs.{Agreement.Agrees, Steps.IsTakenBackBy}
 use Rattle.law_held_steps.specs.{Undoing.TakesBackIn}

@@ -33,7 +33,7 @@ use Rattle.desks.specs.{declared.desk.Desk.Desk, declared.desk.Doing.Doing, Stor
 use Rattle.inno_types.specs.{declared.value.Value.Value, declared.value.Column.Column, declared.value.Schema.Schema}
 use Rattle.row_changes.specs.{declared.keys_change.KeysChange.KeysChange, Keys.IsChangingKeys, declared.row_change.RowChange.TheVariants.Record}
 use Rattle.row_changes.specs.{declared.row_change.RowChange.TheVariants.Keys, Told.AreRowsAs}
-use Rattle.law_logged_changes.proofs.{Readable.lags, Lags.lags_while, Logs.newest_stands}
+use Rattle.law_logged_changes.proofs.{Lags.lags, Lags.lags_while, Logs.newest_stands}
 use Rattle.undo_apply.specs.{Standing.TellsOf, declared.work_room.WorkRoom.WorkRoom}
 use Rattle.law_logged_changes.specs.{Logs.records_of, Logs.Stands, Logs.LogsAgree, Lagging.LagsAt}
 use Rattle.row_search.specs.{declared.scan.Scan.Scan, Sights.sees_by, Tables.ShowsRows, declared.sight.Sight.Sight, declared.sight.Sight.TheVariants.View}

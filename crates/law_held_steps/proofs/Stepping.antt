@@ -25,7 +25,7 @@ use Rattle.law_world_agreement.proofs.{Ending.work_of}
 use Rattle.inno_db.specs.{Database.rows_of}
 use Rattle.store_api.specs.{declared.moves.Move.Move}
 use Rattle.entries.specs.{Calls.Leaves}
-use Rattle.law_logged_changes.proofs.{ReadersLeft.rows_left}
+use Rattle.law_logged_changes.proofs.{Leaving.rows_left}
 use Rattle.read_view.specs.{Sight.Sight as ReadSight}
 use Rattle.inno_types.specs.{declared.value.Schema.Schema, Order.IsBelow, declared.value.Value.Value, declared.stmt.Range.Range, Ranges.is_within}
 use Rattle.row_versions.specs.{Chains.Chains, Chains.versions_at, declared.place.Place.Place}

@@ -33,7 +33,6 @@ pub record TakesBackIn (s keep : ℕ) (old new : Lists) (answer : Undone) : Type
   pub settings : new.settings ≡ old.settings
   pub rows : new.rows ≡ old.rows
 
-
 -- what its sessions have set
 abbrev pub settings_of : List Session → List Setting
 settings_of sessions = map (λ (session : Session). session.setting) sessions

@@ -17,8 +17,8 @@ use Rattle.row_versions.specs.{declared.kept.Kept.Kept, declared.version.Version
 use Rattle.world.specs.{State.WorldState, State.Session, State.Work, State.Logged, State.HasWork, Told.IsTold, Told.pairs_of, Undoing.IsCutBack}
 use Rattle.row_changes.specs.Told.{HasRows, AreRowsAs}
 use Rattle.row_changes.proofs.{Ids.one_work, Sessions.one_found, Sessions.set_here, Sessions.set_other}
-use Rattle.law_logged_changes.proofs.{Leaving.same_schemas_grow, GoingOn.none_yet, Logs.all_of, Logs.all_mapped, Logs.Keeps, Logs.log_on}
-use Rattle.law_logged_changes.proofs.Without.{here_or_not}
+use Rattle.law_logged_changes.proofs.{Leaving.same_schemas_grow, Leaving.none_yet, Logs.all_of, Logs.all_mapped, Logs.Keeps, Logs.log_on}
+use Rattle.law_logged_changes.proofs.Logs.{here_or_not}
 
 -- ---- a record without what its row has again
 

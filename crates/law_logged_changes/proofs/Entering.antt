@@ -1,5 +1,5 @@
 -- Each step of a change: those that add no entry, and the one that adds its entry.
-use Rattle.law_logged_changes.proofs.{Leaving.stay_kept, GoingOn.work_again, GoingOn.agrees_beside}
+use Rattle.law_logged_changes.proofs.{Leaving.stay_kept, Leaving.work_again, Leaving.agrees_beside}
 use Rattle.std.proofs.Common.{◌≡◌, ⊎_elim, ℕ, ◌^◌, ◌<◌, ◌==◌, Bool, true, false, List, ◌∷◌, length, Option, Some, refl, sym, ap, subst, ◌∙◌, arith}
 use Rattle.std.specs.Prelude.{slice_get, IsTrue, option_map}
 use Rattle.std.specs.{List.list_any}

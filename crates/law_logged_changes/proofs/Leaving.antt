@@ -1,20 +1,37 @@
 -- Steps that change no record leave logs as they are.
+use Rattle.row_changes.specs.declared.entry_put.PutPhase.TheVariants as puts
 use Rattle.law_logged_changes.specs.Logs.{RecordsAt, LogStands, records_of, IsLogOf, LogsAgree, LogsAgreeBut}
-use Rattle.law_logged_changes.specs.Steps.{LeavesRecords, LeavesLog, HasNoLog, LeavesLogs, OfAll, HasCut, MakesTable}
-use Rattle.law_stored_rows.specs.{Records.KeepsMore, Edits.clustered_index, Edits.key_index}
-use Rattle.row_versions.specs.{Versions.Stays, declared.kept.Kept.Kept}
+use Rattle.law_logged_changes.specs.Steps.{LeavesRecords, LeavesLog, HasNoLog, LeavesLogs, OfAll, HasCut, MakesTable, ChangesPairsAlone}
 use Rattle.std.proofs.Common.{Some, ◌≡◌, ◌≢◌, ◌⊎◌, inl, inr, ⊎_elim, ℕ, zero, suc, ◌<◌, List, [], ◌∷◌, ◌++◌, Option, refl, sym, ap, subst, ◌∙◌, slice_get}
-use Rattle.std.proofs.lemmas.{Bool.cases_eq, Option.slice_get_within}
-use Rattle.inno_types.specs.declared.value.Schema.{Schema}
+use Rattle.std.proofs.Common.{arith, true, false, None}
+use Rattle.world.specs.State.{WorldState, Session, Work, Logged, HasWork, IsIndex}
+use Rattle.world.specs.Told.{pairs_of, IsTold, LeavesRows}
+use Rattle.row_changes.proofs.Telling.{went, put_told, told_if, rows_if, rows_alone}
+use Rattle.law_logged_changes.proofs.Logs.{all_of, Grows, Keeps, log_on, empty_log}
+use Rattle.std.specs.Prelude.{slice_get, IfSome, is_some}
+use Rattle.undo_apply.specs.Stages.{GoesOn, IsHindered, IsDone, PutsBack}
+use Rattle.row_changes.specs.Keys.{IsChangingKeys, said_next, HasRowsSoFar, IsEntering}
+use Rattle.law_stored_rows.specs.{Records.KeepsMore, Edits.clustered_index, Edits.key_index, Tables.Said, Tables.what_is_there}
+use Rattle.row_versions.specs.{Versions.Stays, declared.kept.Kept.Kept, declared.place.Place.Place, Chains.Chains, declared.version.Version.Version}
+use Rattle.std.proofs.{lemmas.Bool.cases_eq, lemmas.Option.slice_get_within}
+use Rattle.inno_types.specs.{declared.value.Schema.Schema, declared.value.Value.Value}
 use Rattle.inno_db.specs.{declared.change.Change.Change, declared.change.Change.TheVariants.Create}
-use Rattle.inno_model.specs.Past.{own}
-use Rattle.entries.specs.Pairs.{value_of}
-use Rattle.law_stored_rows.proofs.Pairs.{no_key}
-use Rattle.world.specs.{State.WorldState, State.Session, State.Work, State.Logged, State.HasWork, Told.pairs_of, Told.IsTold, Told.LeavesRows}
-use Rattle.row_changes.specs.{Asides.StepsAside, Pairs.RowsStay, Pairs.PutsPair}
-use Rattle.row_changes.proofs.{Telling.went, Telling.put_told, Ids.one_work, Sessions.one_session}
-use Rattle.undo_apply.proofs.Telling.{leaves_told, rows_left}
-use Rattle.law_logged_changes.proofs.Logs.{all_of, Grows, Keeps, log_on}
+use Rattle.inno_model.specs.{Past.own}
+use Rattle.entries.specs.{Pairs.value_of, Index.Index, Index.AreKept}
+use Rattle.law_stored_rows.proofs.{Pairs.no_key}
+use Rattle.row_changes.specs.{Asides.StepsAside, Pairs.RowsStay, Pairs.PutsPair, declared.entry_put.PutPhase.PutPhase}
+use Rattle.row_changes.specs.{declared.keys_change.KeysChange.KeysChange, declared.row_change.RowChange.RowChange, Entries.PutPhaseHolds}
+use Rattle.row_changes.specs.{declared.record_change.RecordChange.RecordChange, declared.entry_put.EntryPut.EntryPut, Told.HasRows, Told.AreRowsAs}
+use Rattle.row_changes.specs.{Rows.IsChangingRowAlone, Records.IsChangingRecord, declared.row_change.RowChange.TheVariants.Keys}
+use Rattle.row_changes.specs.{declared.row_change.RowChange.TheVariants.Record}
+use Rattle.row_changes.proofs.{Ids.one_work, Sessions.one_session, Changing.stage_kept, Changing.told_kept, Alone.alone_rows, Pushed.table_kept}
+use Rattle.row_changes.proofs.{Keying.changing_next}
+use Rattle.undo_apply.proofs.{Telling.leaves_told, Telling.rows_left as stays_leave, Columns.few_keys}
+use Rattle.store_api.specs.{declared.answers.Undo.Undo, declared.moves.Move.Move, declared.moves.Move.TheVariants.Done, declared.moves.Move.TheVariants.Step}
+use Rattle.law_world_agreement.specs.{Agreement.Agrees}
+use Rattle.law_world_agreement.proofs.{Joining.agrees_alike}
+use Rattle.undo_apply.specs.{declared.work_room.WorkRoom.WorkRoom}
+use Rattle.law_logged_changes.proofs.{Listed.listed_of}
 
 -- ---- which steps are such
 
@@ -23,7 +40,7 @@ rows_leave old new leaves =
     record { schemas = leaves.schemas; told = leaves_told leaves; pairs = λ table. leaves.pairs (clustered_index table); versions = leaves.versions }
 
 pub stay_leaves : (old new : WorldState) → RowsStay old new → LeavesRecords old new
-stay_leaves old new stays = rows_leave old new (rows_left stays)
+stay_leaves old new stays = rows_leave old new (stays_leave stays)
 
 pub entry_leaves : (table which : ℕ) (entry : List ℕ) (value : Option (List ℕ)) (old new : WorldState) → which < 4
     → PutsPair (key_index table which) entry value old new → LeavesRecords old new
@@ -158,3 +175,155 @@ table_made old new schema log changes made stands =
     (λ told table found key there. ap (value_of key)
     (went (λ pairs. pairs) (old.indexes (clustered_index table)).pairs (new.indexes (clustered_index table)).pairs
     (made.pairs table (slice_get_within old.schemas table found there)) (told.pairs (clustered_index table)))) (stay_kept old new made.versions) stands
+
+-- ---- Until a taking back is done, entries of keys alone change.
+
+-- ---- sessions and the history stay
+
+pub work_beside : (u : ℕ) (session : Session) (work : Work) (old new : WorldState) → ChangesPairsAlone old new → HasWork u session work new
+    → HasWork u session work old
+work_beside u session work old new rest has =
+    record { session_is = sym (ap (λ (state : WorldState). slice_get state.sessions u) rest) ∙ has.session_is; work_is = has.work_is }
+
+pub work_again : (u : ℕ) (session : Session) (work : Work) (old new : WorldState) → ChangesPairsAlone old new → HasWork u session work old
+    → HasWork u session work new
+work_again u session work old new rest has =
+    record { session_is = ap (λ (state : WorldState). slice_get state.sessions u) rest ∙ has.session_is; work_is = has.work_is }
+
+pub own_beside : (u : ℕ) (old new : WorldState) → ChangesPairsAlone old new → own u new.past ≡ own u old.past
+own_beside u old new rest = ap (λ (state : WorldState). own u state.past) rest
+
+pub agrees_beside : {old new : WorldState} {chains : Chains} → ChangesPairsAlone old new → Agrees chains old
+    → Agrees chains new
+agrees_beside {old} {new} {chains} rest agrees =
+    agrees_alike chains old new agrees (ap (λ (x : WorldState). x.names) rest) (ap (λ (x : WorldState). x.past) rest)
+    (ap (λ (x : WorldState). x.schemas) rest) (ap (λ (x : WorldState). x.txns) rest) (ap (λ (x : WorldState). x.sessions) rest)
+
+pub logs_beside : (old new : WorldState) → ChangesPairsAlone old new → LeavesLogs OfAll old new
+logs_beside old new rest u session work of has = inl (record {
+  session = session;
+  before = work;
+  has_work = work_beside u session work old new rest has;
+  log_is = refl;
+  own_is = own_beside u old new rest;
+})
+
+-- a session without changes has an empty log, whatever becomes of rows
+pub none_yet : (u : ℕ) (work : Work) (old new : WorldState) → own u old.past ≡ [] → own u new.past ≡ [] → IsLogOf old work.log (own u old.past)
+    → IsLogOf new work.log (own u new.past)
+none_yet u work old new none now log =
+    let empty = empty_log _ old.schemas _ old.versions.kept_at work.log (own u old.past) none log in
+    subst (λ (changes : List Change). IsLogOf new work.log changes) (sym now) empty
+
+-- ---- the steps
+
+module _ (chains : Chains) (place : Place) (actor : ℕ) (undo : Undo) (room next : WorkRoom) (old new : WorldState) where
+  abbrev beside : Said
+  beside = what_is_there chains
+
+  hindered_leaves : (why : Move) → IsHindered chains beside place actor undo room next old new why → LeavesRecords old new × ChangesPairsAlone old new
+  hindered_leaves why is = (stay_leaves old new is.stays, is.stays.rest)
+
+  goes_leaves : GoesOn chains beside place undo room next old new → LeavesRecords old new × ChangesPairsAlone old new
+  goes_leaves goes =
+      let tells = goes.holds.tells in
+      let few = few_keys goes.holds.schema tells.storable in
+      ⊎_elim (λ stays. (stay_leaves old new stays, stays.rest))
+      (λ one. (entry_leaves undo.table one.0 one.2 one.3 old new (let within = one.1 in omega arith) one.4, one.4.rest))
+      (goes.changes goes.holds.schema tells.there)
+
+  step_leaves : (answer : Move) → PutsBack chains beside place actor undo room next old new answer → answer ≢ Done
+      → LeavesRecords old new × ChangesPairsAlone old new
+  step_leaves Done is not_done = absurd (not_done refl)
+  step_leaves Step (inl goes) not_done = goes_leaves goes
+  step_leaves Step (inr is) not_done = hindered_leaves Step is
+  step_leaves why is not_done = hindered_leaves why is
+
+  pub done_beside : IsDone chains beside place undo room next old new → ChangesPairsAlone old new
+  done_beside done = ⊎_elim (λ stays. stays.rest) (λ puts. puts.rest) done.changes
+
+  pub step_all : (answer : Move) → PutsBack chains beside place actor undo room next old new answer → answer ≢ Done → LogsAgree old → LogsAgree new
+  step_all answer is not_done agree = let left = step_leaves answer is not_done in all_left old new left.0 (logs_beside old new left.1) agree
+
+  pub step_beside : (answer : Move) → PutsBack chains beside place actor undo room next old new answer → ChangesPairsAlone old new
+  step_beside Done is = done_beside is
+  step_beside Step is = (step_leaves Step is (λ e. cc)).1
+  step_beside why is = is.stays.rest
+
+-- ---- A step of another session that changes no row leaves a change as it was.
+
+phase_kept : (phase : PutPhase) (entry : List ℕ) (old new : Index) → AreKept old.pairs new.pairs → PutPhaseHolds phase entry old → PutPhaseHolds phase entry new
+phase_kept puts.Look entry old new kept is = is
+phase_kept puts.Unmark entry old new kept is = told_kept (λ pairs. is_some (value_of entry pairs) ≡ true) old.pairs new.pairs kept is
+phase_kept puts.Insert entry old new kept is = told_kept (λ pairs. is_some (value_of entry pairs) ≡ false) old.pairs new.pairs kept is
+
+some_kept : (P Q : EntryPut → Type 0) (put : Option EntryPut) → ((x : EntryPut) → P x → Q x) → IfSome put P → IfSome put Q
+some_kept P Q None each is = record {}
+some_kept P Q (Some put) each is = each put is
+
+-- ---- rows
+
+module _ (old new : WorldState) (leaves : LeavesRows old new) where
+  pub left_told : IsTold new → IsTold old
+  left_told = told_if old new leaves.pairs leaves.versions
+
+  pub rows_left : (chains : Chains) (said : Said) → IsTold new → AreRowsAs chains said old → AreRowsAs chains said new
+  rows_left chains said = rows_if old new chains said leaves.schemas leaves.pairs leaves.versions
+
+  pub has_rows_left : (chains : Chains) → HasRows chains old → HasRows chains new
+  has_rows_left chains rows told = rows_left chains (what_is_there chains) told (rows (left_told told))
+
+  so_far_left : (chains : Chains) (beside : Said) (place : Place) (done : ℕ) (next older : List Version)
+      → HasRowsSoFar chains beside place done next older old → HasRowsSoFar chains beside place done next older new
+  so_far_left chains beside place done next older rows told = let was = rows (left_told told) in (was.0, rows_left chains was.0 told was.1, was.2)
+
+  -- ---- the change
+
+  record_left : (s : ℕ) (chains : Chains) (change : RecordChange) → IsChangingRecord s old change
+      → slice_get new.sessions s ≡ slice_get old.sessions s → Agrees chains new → IsChangingRecord s new change
+  record_left s chains change p session agrees =
+      let has : HasWork s p.session p.work new = record { session_is = session ∙ p.has_work.session_is; work_is = p.has_work.work_is } in
+      record {
+        schema = p.schema;
+        table = table_kept change.table p.schema old new leaves.schemas p.table;
+        fits = p.fits;
+        session = p.session;
+        work = p.work;
+        has_work = has;
+        listed = listed_of chains new s p.session p.work agrees has;
+        small = p.small;
+        stage =
+            stage_kept change.stage p.schema change.edit change.key p.session (old.indexes (clustered_index change.table))
+            (new.indexes (clustered_index change.table)) (leaves.pairs (clustered_index change.table)) p.stage;
+      }
+
+  entering_left : (schema : Schema) (table which : ℕ) (row : Option (List Value)) (primary : List ℕ) (put : EntryPut)
+      → IsEntering schema table which row primary old put → IsEntering schema table which row primary new put
+  entering_left schema table which row primary put p = record {
+    index_is = p.index_is;
+    entry_is = p.entry_is;
+    within = p.within;
+    putting = record {
+      index_is = subst (λ (schemas : List Schema). IsIndex schemas put.index) (sym leaves.schemas) p.putting.index_is;
+      short = p.putting.short;
+      phase = phase_kept put.phase put.entry (old.indexes put.index) (new.indexes put.index) (leaves.pairs put.index) p.putting.phase;
+    };
+  }
+
+  keys_left : (chains : Chains) (beside : Said) (change : KeysChange) → IsChangingKeys chains beside old change → IsChangingKeys chains beside new change
+  keys_left chains beside change p =
+      changing_next chains beside old new change change.which change.put p leaves.schemas left_told p.within
+      (some_kept (IsEntering p.schema change.table change.which change.after change.key old)
+      (IsEntering p.schema change.table change.which change.after change.key new) change.put
+      (entering_left p.schema change.table change.which change.after change.key) p.put)
+      (so_far_left chains beside (record { table = change.table; key = p.value }) change.which (said_next change.put change.before p.older) p.older p.rows)
+
+  pub change_left : (s : ℕ) (chains : Chains) (change : RowChange) → IsChangingRowAlone s chains old change
+      → slice_get new.sessions s ≡ slice_get old.sessions s → Agrees chains new → IsChangingRowAlone s chains new change
+  change_left s chains (Record change key after) p session agrees = (
+    record_left s chains change p.0 session agrees,
+    rows_alone chains change.table change.key new (has_rows_left chains (alone_rows s chains old change key after p)),
+    p.2,
+    p.3,
+  )
+  change_left s chains (Keys change) p session agrees = keys_left chains (what_is_there chains) change p

@@ -2,13 +2,8 @@ pub mod Logs
 pub mod Leaving
 pub mod Lags
 pub mod Beginning
-pub mod Without
-pub mod GoingOn
 pub mod TakenBack
 pub mod Cutting
 pub mod Logging
-pub mod Crossing
 pub mod Listed
 pub mod Entering
-pub mod ReadersLeft
-pub mod Readable

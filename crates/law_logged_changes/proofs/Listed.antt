@@ -1,5 +1,5 @@
 -- An open transaction is listed where the world agrees with its past, so a change of a row may begin.
-use Rattle.std.proofs.Common.{◌≡◌, ℕ, ◌+◌, ◌^◌, ◌<◌, List, Option, refl, ap, arith}
+use Rattle.std.proofs.Common.{◌≡◌, ℕ, ◌+◌, ◌^◌, ◌<◌, List, refl, ap, arith}
 use Rattle.std.specs.Prelude.{is_some}
 use Rattle.inno_types.specs.declared.value.Schema.{Schema}
 use Rattle.txn_table.specs.Txns.{Txns}

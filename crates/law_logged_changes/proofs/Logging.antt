@@ -1,34 +1,39 @@
 -- The step that puts a version logs it.
-use Rattle.row_changes.proofs.{Ids.one_work, Sessions.one_session, Sessions.one_found, Changing.key_short, Changing.value_short}
+use Rattle.row_changes.specs.declared.record_change.RecordReached.TheVariants as records
 use Rattle.row_changes.proofs.Pushed.{kept_over, kept_more, key_at, code_of_edit, plain, none_of, written_pointer, small_id}
-use Rattle.row_changes.proofs.{Telling.pairs_told, Telling.puts_pairs, Telling.tells, Alone.alone_rows}
-use Rattle.law_logged_changes.proofs.{Leaving.stay_kept, Leaving.log_over, Leaving.same_schemas_grow, Logs.all_mapped, Logs.one_more, GoingOn.none_yet}
-use Rattle.law_logged_changes.proofs.{Entering.place_there, Without.taken_here, Without.taken_elsewhere, Without.here_or_not, Without.put_elsewhere}
-use Rattle.std.proofs.Common.{◌≡◌, ◌≢◌, inl, inr, ⊎_elim, ℕ, ◌^◌, ◌<◌, true, false, List, [], ◌∷◌, Option, Some, None, refl, sym, ap, subst, ◌∙◌, arith}
+use Rattle.row_changes.proofs.Telling.{pairs_told, puts_pairs, tells}
+use Rattle.law_logged_changes.proofs.Leaving.{stay_kept, log_over, same_schemas_grow, none_yet, all_left, aside_left, logs_beside}
+use Rattle.law_logged_changes.proofs.Logs.{taken_here, taken_elsewhere, here_or_not, put_elsewhere}
+use Rattle.std.proofs.Common.{◌==◌, ◌≡◌, ◌≢◌, inl, inr, ⊎_elim, ℕ, ◌^◌, ◌<◌, true, false, List, [], ◌∷◌, Option, Some, None, refl, sym, ap, subst, ◌∙◌, arith}
 use Rattle.std.proofs.Common.{slice_get}
-use Rattle.std.specs.Prelude.{◌==◌, is_some}
-use Rattle.std.specs.List.{AllByRecursion}
 use Rattle.std.proofs.lemmas.Bool.{cases_eq, cond-true, cond-false, eq-eqb, ne_eqb}
+use Rattle.world.specs.State.{WorldState, Session, Work, Logged, HasWork}
+use Rattle.row_changes.specs.Rows.{primary_of, IsChangingRowAlone, ChangesRowAlone}
+use Rattle.row_changes.specs.Records.{IsTable, Records, PutsOver, id_for, IsChangingRecord, RecordsEdit, PutsFirst, PutsVersion, ChangesRecord, undo_of_new}
+use Rattle.row_changes.specs.Records.{undo_of_former}
+use Rattle.row_changes.specs.Edits.{change_of, rows_put, version_by}
+use Rattle.undo_apply.specs.Standing.{TellsOf, LeadsBack, was_before}
+use Rattle.law_logged_changes.specs.Logs.{RecordsAt, records_of, taken_back, Stands, LogStands, IsLogOf, LogsAgree, IsAlone}
+use Rattle.row_changes.specs.declared.reached.Reached.TheVariants.{Went, Done, Hindered}
+use Rattle.row_changes.proofs.{Ids.one_work, Sessions.one_session, Sessions.one_found, Changing.key_short, Changing.value_short, Alone.alone_rows}
+use Rattle.row_changes.proofs.{Keying.beside_stay}
+use Rattle.law_logged_changes.proofs.{Logs.all_mapped, Logs.one_more, Entering.place_there}
+use Rattle.std.specs.{Prelude.is_some, List.AllByRecursion}
 use Rattle.inno_types.specs.{declared.value.Value.Value, declared.value.Schema.Schema}
 use Rattle.inno_db.specs.{declared.change.Change.Change, declared.change.Change.TheVariants.Create}
 use Rattle.inno_model.specs.{Past.own, declared.event.Event.TheVariants.Changed}
-use Rattle.store_api.specs.{declared.answers.Undo.Undo}
-use Rattle.store_api.specs.declared.answers.Version.{Version as Coded}
-use Rattle.entries.specs.Pairs.{value_of}
+use Rattle.store_api.specs.{declared.answers.Undo.Undo, declared.answers.Version.Version as Coded}
+use Rattle.entries.specs.{Pairs.value_of}
 use Rattle.row_versions.specs.{declared.kept.Kept.Kept, Versions.Stays, declared.place.Place.Place, Chains.Chains}
-use Rattle.row_codec.specs.Rows.{version_code}
+use Rattle.row_codec.specs.{Rows.version_code}
 use Rattle.law_stored_rows.specs.{Edits.clustered_index, Edits.Puts, Records.IsCodeOf, Records.KeepsMore, Tables.AreClustered}
-use Rattle.law_stored_rows.proofs.Pairs.{at_index, value_now}
-use Rattle.world.specs.{Indexes.IsUndo, Told.IsTold, Told.pairs_of, State.WorldState, State.Session, State.Work, State.Logged, State.HasWork}
-use Rattle.row_changes.specs.{Rows.primary_of, Rows.IsChangingRowAlone, Told.HasRows, Records.IsTable, Records.Records, Records.PutsOver, Records.id_for}
-use Rattle.row_changes.specs.{declared.record_change.RecordChange.RecordChange, declared.row_change.RowChange.TheVariants.Record, Records.IsChangingRecord}
-use Rattle.row_changes.specs.{Records.RecordsEdit, Records.PutsFirst, Records.PutsVersion, Records.ChangesRecord, Records.undo_of_new, Records.undo_of_former}
-use Rattle.row_changes.specs.Edits.{change_of, rows_put, version_by}
-use Rattle.undo_apply.specs.Standing.{TellsOf, LeadsBack, was_before}
-use Rattle.undo_apply.proofs.Columns.{before_new, before_kept}
-use Rattle.law_logged_changes.specs.Steps.{HasLogged}
-use Rattle.law_logged_changes.specs.Logs.{RecordsAt, records_of, taken_back, Stands, LogStands, IsLogOf, LogsAgree, IsAlone}
-use Rattle.row_changes.specs.declared.record_change.RecordReached.TheVariants as records
+use Rattle.law_stored_rows.proofs.{Pairs.at_index, Pairs.value_now}
+use Rattle.world.specs.{Indexes.IsUndo, Told.IsTold, Told.pairs_of}
+use Rattle.row_changes.specs.{Told.HasRows, declared.record_change.RecordChange.RecordChange, declared.row_change.RowChange.TheVariants.Record}
+use Rattle.row_changes.specs.{declared.row_change.RowChange.TheVariants.Keys, declared.reached.Reached.Reached, declared.row_change.RowChange.RowChange}
+use Rattle.row_changes.specs.{Keys.StaysBesideKeys}
+use Rattle.undo_apply.proofs.{Columns.before_new, Columns.before_kept}
+use Rattle.law_logged_changes.specs.{Steps.HasLogged, Steps.LeavesRecords}
 
 -- ---- what older records keep is kept
 
@@ -300,3 +305,28 @@ change_all s chains old new change key before after p h alone agree =
     logging s old new change p.0 (LogsAgree new)
     (λ kind value bytes coded is. all_logged s chains old new change p.0 (alone_rows s chains old change key after p) kind value bytes coded is
     alone agree) before h
+
+-- ---- Each step of a change keeps the logs: entries of keys alone change, or the version comes with its undo record.
+
+-- ---- keys
+
+pub beside_leaves : (old new : WorldState) → StaysBesideKeys old new → LeavesRecords old new
+beside_leaves old new stays =
+    record { schemas = ap (λ (state : WorldState). state.schemas) stays.rest; told = stays.told; pairs = stays.records; versions = stays.versions }
+
+beside_all : (old new : WorldState) → StaysBesideKeys old new → LogsAgree old → LogsAgree new
+beside_all old new stays agree = all_left old new (beside_leaves old new stays) (logs_beside old new stays.rest) agree
+
+-- ---- the whole change
+
+pub row_all : (s : ℕ) (chains : Chains) (old new : WorldState) (change : RowChange) (reached : Reached RowChange) → IsChangingRowAlone s chains old change
+    → ChangesRowAlone s chains old new change reached → IsAlone s old → LogsAgree old → LogsAgree new
+row_all s chains old new (Record change key after) (Went (Record next key' after')) p c alone agree = aside_left s old new c.0.0.aside agree
+row_all s chains old new (Record change key after) (Went (Keys next)) p c alone agree =
+    change_all s chains old new change key next.before after p c.0.0 alone agree
+row_all s chains old new (Record change key after) Done p c alone agree = absurd c
+row_all s chains old new (Record change key after) (Hindered same why) p c alone agree = aside_left s old new c.2.0 agree
+row_all s chains old new (Keys change) (Went (Record next key after)) p c alone agree = absurd c.0
+row_all s chains old new (Keys change) (Went (Keys next)) p c alone agree = beside_all old new c.0.stays agree
+row_all s chains old new (Keys change) Done p c alone agree = beside_all old new (beside_stay old new c.0) agree
+row_all s chains old new (Keys change) (Hindered same why) p c alone agree = beside_all old new (beside_stay old new c.2.0) agree

@@ -1,8 +1,8 @@
 -- A change that is taken back leaves the log of the older changes.
 use Rattle.law_logged_changes.proofs.{Leaving.log_over, Leaving.same_schemas_grow, Logs.newest_stands, Lags.at_stage, Lags.clustered_while}
 use Rattle.law_logged_changes.proofs.Beginning.{top, tells_of_it, way_settled}
-use Rattle.law_logged_changes.proofs.Without.{taken_here, taken_elsewhere, here_or_not, put_elsewhere}
-use Rattle.law_logged_changes.proofs.GoingOn.{work_beside, work_again, own_beside, none_yet, done_beside}
+use Rattle.law_logged_changes.proofs.Logs.{taken_here, taken_elsewhere, here_or_not, put_elsewhere}
+use Rattle.law_logged_changes.proofs.Leaving.{work_beside, work_again, own_beside, none_yet, done_beside}
 use Rattle.std.proofs.Common.{◌≡◌, ◌≢◌, ◌⊎◌, inl, inr, ⊎_elim, ℕ, List, ◌∷◌, Option, Some, sym, ap, subst, ◌∙◌, arith, slice_get}
 use Rattle.inno_types.specs.declared.value.Schema.{Schema}
 use Rattle.inno_db.specs.declared.change.Change.{Change}

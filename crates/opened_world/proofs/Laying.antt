@@ -23,7 +23,7 @@ use Rattle.row_changes.specs.declared.row_edit.RowEdit.TheVariants as edits
 use Rattle.row_changes.specs.{Edits.IsKeyAt, Keys.IsChangingKeys, Awaited.IsOfTable}
 use Rattle.row_changes.proofs.Pushed.{key_at, first_rows}
 use Rattle.row_changes.proofs.Telling.{HasPut, pairs_told, puts_pairs, tells, coded_again}
-use Rattle.law_logged_changes.proofs.{Entering.with_version, ReadersLeft.has_rows_left}
+use Rattle.law_logged_changes.proofs.{Entering.with_version, Leaving.has_rows_left}
 use Rattle.law_held_steps.proofs.Tables.{its_columns}
 use Rattle.shared_lists.specs.Fitting.{FitsWell}
 use Rattle.opened_world.specs.Laid.{no_db, version_of, IsLaid, PutsNewRecord, HasRecordThere, TakesKeysOver, AwaitsNobody}

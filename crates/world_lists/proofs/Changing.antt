@@ -8,7 +8,7 @@ use Rattle.row_versions.specs.Chains.{Chains}
 use Rattle.law_past_agreement.specs.Order.{created}
 use Rattle.key_codec.specs.Keys.{IsOfKind}
 use Rattle.row_changes.proofs.Changing.{lacks_memory}
-use Rattle.law_logged_changes.proofs.ReadersLeft.{left_told}
+use Rattle.law_logged_changes.proofs.Leaving.{left_told}
 use Rattle.undo_apply.specs.declared.work_room.WorkRoom.{WorkRoom}
 use Rattle.shared_lists.specs.Tasks.{Task, Idle, asked, left_by, is_changing, steps_left}
 use Rattle.desks.specs.declared.desk.Doing.TheVariants.{Nothing, Searching, Changing, Lagging, Undoing}
