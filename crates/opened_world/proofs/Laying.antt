@@ -24,12 +24,12 @@ use Rattle.row_changes.specs.{Edits.IsKeyAt, Keys.IsChangingKeys, Awaited.IsOfTa
 use Rattle.row_changes.proofs.Pushed.{key_at, first_rows}
 use Rattle.row_changes.proofs.Telling.{HasPut, pairs_told, puts_pairs, tells, coded_again}
 use Rattle.law_logged_changes.proofs.{Entering.with_version, Leaving.has_rows_left}
-use Rattle.law_held_steps.proofs.Tables.{its_columns}
+use Rattle.law_held_steps.proofs.Items.{its_columns}
 use Rattle.shared_lists.specs.Fitting.{FitsWell}
 use Rattle.opened_world.specs.Laid.{no_db, version_of, IsLaid, PutsNewRecord, HasRecordThere, TakesKeysOver, AwaitsNobody}
 use Rattle.std.proofs.lemmas.Bool.{cases_eq}
 use Rattle.world.specs.Told.{LeavesRows}
-use Rattle.law_held_steps.specs.Leaving.{LeavesIndexes, LeavesTable}
+use Rattle.law_held_steps.specs.Leaving.{MovesPlaces, LeavesTable}
 
 -- ---- a database without tables
 
@@ -153,7 +153,8 @@ module _ (db : Database) (table : ℕ) (row : List Value) (schema : Schema) (old
       old.versions.kept_at tt nothing
       (puts_pairs (clustered_index table) key (Some value) old mid put told) (laid.coded told_old))
 
-  pub keys_changing : IsChangingKeys chains mid (record { table = table; key = key; before = None; after = Some row; which = 0; put = None })
+  pub keys_changing : IsChangingKeys chains (what_is_there chains) mid
+      (record { table = table; key = key; before = None; after = Some row; which = 0; put = None })
   keys_changing =
       record {
         schema = schema;
@@ -212,7 +213,7 @@ module _ (db : Database) (table : ℕ) (row : List Value) (schema : Schema) (old
       (cases_eq index (clustered_index table))
 
   -- nor once the keys have taken the row over and the indexes are left
-  nobody_left : (over left : WorldState) → TakesKeysOver table key row mid over → LeavesIndexes 0 over left → LeavesTable 0 table over left → AwaitsNobody left
+  nobody_left : (over left : WorldState) → TakesKeysOver table key row mid over → MovesPlaces 0 over left → LeavesTable 0 table over left → AwaitsNobody left
   nobody_left over left takes leaves gone index by is =
       ⊎_elim (λ was. nobody_mid index by was)
       (λ mine. gone.gone index by
@@ -220,7 +221,7 @@ module _ (db : Database) (table : ℕ) (row : List Value) (schema : Schema) (old
       is mine.0)
       (takes.awaits.each index by (leaves.fewer index by is))
 
-  pub laid_row : (over new : WorldState) → TakesKeysOver table key row mid over → LeavesIndexes 0 over new → LeavesTable 0 table over new
+  pub laid_row : (over new : WorldState) → TakesKeysOver table key row mid over → MovesPlaces 0 over new → LeavesTable 0 table over new
       → FitsWell db.schemas (Put table row) → IsLaid (apply_one db (Put table row)) new
   laid_row between new over leaves gone fits =
       let leaves_rows : LeavesRows between new = record {

@@ -22,7 +22,9 @@ use Rattle.row_changes.specs.declared.keys_change.KeysChange.{KeysChange}
 use Rattle.row_changes.specs.declared.reached.Reached.TheVariants.{Went, Done}
 use Rattle.row_changes.specs.Edits.{IsRowFor}
 use Rattle.row_changes.specs.Told.{HasRows}
-use Rattle.row_changes.specs.Keys.{IsChangingKeys, ChangesKeys}
+use Rattle.row_changes.proofs.Alone.{alone_over}
+use Rattle.law_stored_rows.specs.Tables.{what_is_there}
+use Rattle.row_changes.specs.{Keys.IsChangingKeys, Keys.ChangesKeys, declared.reached.Reached.Reached}
 use Rattle.opened_world.specs.Laid.{PutsNewRecord}
 use Rattle.row_changes.specs.Awaited.{AwaitsIn, IsOfTable}
 
@@ -61,8 +63,8 @@ new_record table schema row old new key value index row_is value_is index_is ins
 -- since this change began the keys have come so far
 pub record IsTaking (start : KeysChange) (old now : WorldState) (change : KeysChange) : Type 0 where
   pub chains : Chains
-  pub holds : IsChangingKeys chains now change
-  pub follows : (those : Chains) → IsChangingKeys those old start → IsChangingKeys those now change
+  pub holds : IsChangingKeys chains (what_is_there chains) now change
+  pub follows : (those : Chains) → IsChangingKeys those (what_is_there those) old start → IsChangingKeys those (what_is_there those) now change
   pub table_is : change.table ≡ start.table
   pub awaits : AwaitsIn 0 change.table old now
   pub rest : now ≡ record old { indexes = now.indexes; versions = now.versions; paged = now.paged }
@@ -83,13 +85,19 @@ awaits_twice table old mid new same first next = record {
 }
 
 module _ (start : KeysChange) (old mid new : WorldState) (change : KeysChange) (taking : IsTaking start old mid change) where
+  -- what its step leaves, where nobody else changes a row
+  abbrev Steps : Reached KeysChange → Type 0
+  Steps reached =
+      (chains : Chains) → IsChangingKeys chains (what_is_there chains) mid change
+      → ChangesKeys 0 chains (what_is_there chains) mid new change reached
+
   same_tables : mid.schemas ≡ old.schemas
   same_tables = ap (λ (s : WorldState). s.schemas) taking.rest
 
   taken_awaits : AwaitsIn 0 change.table mid new → AwaitsIn 0 change.table old new
   taken_awaits awaits = awaits_twice change.table old mid new same_tables taking.awaits awaits
 
-  pub taking_next : (next : KeysChange) → ((chains : Chains) → IsChangingKeys chains mid change → ChangesKeys 0 chains mid new change (Went next))
+  pub taking_next : (next : KeysChange) → Steps (Went next)
       → AwaitsIn 0 change.table mid new → IsTaking start old new next
   taking_next next step awaits =
       let mine = step taking.chains taking.holds in
@@ -106,13 +114,13 @@ module _ (start : KeysChange) (old mid new : WorldState) (change : KeysChange) (
   pub same_table : AwaitsIn 0 change.table mid new → AwaitsIn 0 start.table old new
   same_table awaits = subst (λ (table : ℕ). AwaitsIn 0 table old new) taking.table_is (taken_awaits awaits)
 
-  pub taken_rows : ((chains : Chains) → IsChangingKeys chains mid change → ChangesKeys 0 chains mid new change Done) → (chains : Chains)
-      → IsChangingKeys chains old start → HasRows chains new
-  taken_rows step chains is = (step chains (taking.follows chains is)).1
+  pub taken_rows : Steps Done → (chains : Chains)
+      → IsChangingKeys chains (what_is_there chains) old start → HasRows chains new
+  taken_rows step chains is = let now = taking.follows chains is in alone_over 0 chains mid new change now (step chains now)
 
-  pub taken_rest : ((chains : Chains) → IsChangingKeys chains mid change → ChangesKeys 0 chains mid new change Done)
+  pub taken_rest : Steps Done
       → new ≡ record old { indexes = new.indexes; versions = new.versions; paged = new.paged }
   taken_rest step = rests old mid new taking.rest (step taking.chains taking.holds).0.rest
 
-  pub taken_later : ((chains : Chains) → IsChangingKeys chains mid change → ChangesKeys 0 chains mid new change Done) → StoreGoes old.paged new.paged
+  pub taken_later : Steps Done → StoreGoes old.paged new.paged
   taken_later step = store_goes_on old.paged mid.paged new.paged taking.later (step taking.chains taking.holds).0.later

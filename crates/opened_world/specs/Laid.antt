@@ -20,6 +20,7 @@ use Rattle.world.specs.Indexes.{Changes}
 use Rattle.row_changes.specs.Told.{HasRows}
 use Rattle.row_changes.specs.Edits.{IsRowFor}
 use Rattle.row_changes.specs.Keys.{IsChangingKeys}
+use Rattle.law_stored_rows.specs.Tables.{what_is_there}
 use Rattle.row_changes.specs.Awaited.{AwaitsIn}
 use Rattle.shared_lists.specs.Fitting.{CanBeCoded}
 use Rattle.desks.specs.Holding.{IsFresh}
@@ -78,7 +79,8 @@ pub record HasRecordThere (table : ℕ) (schema : Schema) (row : List Value) (st
 
 -- The keys of the table have taken the row over, and nothing else has changed but who is awaited there.
 pub record TakesKeysOver (table : ℕ) (key : List ℕ) (row : List Value) (old new : WorldState) : Type 0 where
-  pub rows : (chains : Chains) → IsChangingKeys chains old (record { table = table; key = key; before = None; after = Some row; which = 0; put = None })
+  pub rows : (chains : Chains) → IsChangingKeys chains (what_is_there chains) old
+      (record { table = table; key = key; before = None; after = Some row; which = 0; put = None })
       → HasRows chains new
   pub awaits : AwaitsIn 0 table old new
   pub rest : new ≡ record old { indexes = new.indexes; versions = new.versions; paged = new.paged }

@@ -10,9 +10,10 @@ ghost use Rattle.law_stored_rows.specs.Storable.{IsStorable};
 ghost use Rattle.law_stored_rows.specs.Fitting.{FitsTable};
 ghost use Rattle.list_world.specs.Parts.{world_of};
 ghost use Rattle.row_changes.specs.Edits.{IsRowFor};
+ghost use Rattle.law_stored_rows.specs.Tables.{what_is_there};
 ghost use Rattle.row_changes.specs.Keys.{IsChangingKeys};
 ghost use Rattle.inno_types.specs.declared.value.Schema.{Schema as ASchema};
-ghost use Rattle.law_held_steps.specs.Leaving.{LeavesIndexes, LeavesTable};
+ghost use Rattle.law_held_steps.specs.Leaving.{MovesPlaces, LeavesTable};
 ghost use Rattle.opened_world.specs.Laid.{PutsNewRecord, HasRecordThere, TakesKeysOver};
 
 use crate::opening::PutBad;
@@ -104,7 +105,7 @@ pub fn put_record(
 /// Leaves all indexes of a table, so that no keys are awaited there.
 pub fn leave_table(world: &mut ListWorld, table: u8, keys: u8)
     requires { (schema : ASchema) × (slice_get (world_of world.old).schemas table ≡ Some schema) × (keys ≡ length schema.keys) × (keys < 5) }
-    ensures leaves { LeavesIndexes 0 (world_of world.old) (world_of world.new) }
+    ensures leaves { MovesPlaces 0 (world_of world.old) (world_of world.new) }
     ensures gone { LeavesTable 0 table (world_of world.old) (world_of world.new) }
 {
     for which in 0..keys + 1 {
@@ -121,7 +122,7 @@ pub fn enter_keys(
     key: Bytes,
     row: &Row,
 ) -> Result<(), NoMemory>
-    requires { (chains : Chains) × IsChangingKeys chains (world_of world.old) (record { table = table; key = key; before = None; after = Some row.now; which = 0; put = None }) }
+    requires { (chains : Chains) × IsChangingKeys chains (what_is_there chains) (world_of world.old) (record { table = table; key = key; before = None; after = Some row.now; which = 0; put = None }) }
     ensures { OnOk result (TakesKeysOver table key row.now (world_of world.old) (world_of world.new)) }
 {
     let mut change = KeysChange {

@@ -1,17 +1,23 @@
+use Rattle.law_stored_rows.specs.Tables.{what_is_there}
 use Rattle.list_world.specs.Parts.{world_of}
 use Rattle.opened_world.proofs.Taking.{taking_next, taken_rows, same_table, taken_rest, taken_later}
 use Rattle.opened_world.proofs.keys.enter_keys.Goals as goal
 
+pub advance-requires : goal.advance-requires
+advance-requires c = (c.loop.invariant.chains, what_is_there c.loop.invariant.chains, c.loop.invariant.holds)
+
 pub returns-in-Done : goal.returns-in-Done
 returns-in-Done c = record {
-  rows = taken_rows _ (world_of c.args.world.now) (world_of c.loop.world) (world_of c.advance.new.world) c.loop.change c.loop.invariant c.in-Done.ensures.changes;
+  rows = taken_rows _ (world_of c.args.world.now) (world_of c.loop.world) (world_of c.advance.new.world) c.loop.change c.loop.invariant
+      (λ chains. c.in-Done.ensures.changes chains (what_is_there chains));
   awaits = same_table _ (world_of c.args.world.now) (world_of c.loop.world) (world_of c.advance.new.world) c.loop.change c.loop.invariant c.in-Done.ensures.awaits;
-  rest = taken_rest _ (world_of c.args.world.now) (world_of c.loop.world) (world_of c.advance.new.world) c.loop.change c.loop.invariant c.in-Done.ensures.changes;
+  rest = taken_rest _ (world_of c.args.world.now) (world_of c.loop.world) (world_of c.advance.new.world) c.loop.change c.loop.invariant
+      (λ chains. c.in-Done.ensures.changes chains (what_is_there chains));
   later = taken_later _ (world_of c.args.world.now) (world_of c.loop.world) (world_of c.advance.new.world) c.loop.change c.loop.invariant
-      c.in-Done.ensures.changes;
+      (λ chains. c.in-Done.ensures.changes chains (what_is_there chains));
 }
 
 pub loop-preserved : goal.loop-preserved
 loop-preserved c =
     taking_next _ (world_of c.args.world.now) (world_of c.loop.world) (world_of c.advance.new.world) c.loop.change c.loop.invariant c.advance.new.self
-    c.in-Went.ensures.changes c.in-Went.ensures.awaits
+    (λ chains. c.in-Went.ensures.changes chains (what_is_there chains)) c.in-Went.ensures.awaits

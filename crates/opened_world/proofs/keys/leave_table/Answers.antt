@@ -1,6 +1,6 @@
 use Rattle.std.proofs.Common.{◌+◌, ◌≤◌, length, arith}
 use Rattle.list_world.specs.Parts.{world_of}
-use Rattle.law_held_steps.proofs.Left.{one_more_below, all_gone}
+use Rattle.law_held_steps.proofs.Places.{one_more_below, all_gone}
 use Rattle.opened_world.proofs.keys.leave_table.Goals as goal
 
 pub loop-which-preserved : goal.loop-which-preserved

@@ -1,5 +1,5 @@
 use Rattle.list_world.specs.Parts.{world_of}
-use Rattle.law_held_steps.proofs.Left.{LeftBelow}
+use Rattle.law_held_steps.proofs.Places.{LeftBelow}
 use Rattle.opened_world.proofs.keys.leave_table.Given as goal
 
 -- those before this one are left
