@@ -22,7 +22,6 @@ use Rattle.law_held_steps.proofs.AnyStep.{some_same, last_log, quiet_rows_at}
 use Rattle.law_found_rows.proofs.Showing.{shows_coded, shows_lagging}
 use Rattle.store_api.specs.declared.answers.Undo.{Undo}
 use Rattle.read_view.specs.Sight.{Sight as ReadSight}
-use Rattle.law_logged_changes.specs.EntriesLag.{LagsAt as EntriesLagAt}
 use Rattle.inno_db.specs.declared.change.Change.TheVariants as changes
 use Rattle.row_versions.specs.{declared.place.Place.Place, declared.version.Version.Version, Chains.Chains, Chains.versions_at, Chains.sees}
 use Rattle.row_versions.specs.{Chains.is_same_place}
@@ -35,7 +34,7 @@ use Rattle.row_changes.specs.{declared.keys_change.KeysChange.KeysChange, Keys.I
 use Rattle.row_changes.specs.{declared.row_change.RowChange.TheVariants.Keys, Told.AreRowsAs}
 use Rattle.law_logged_changes.proofs.{Lags.lags, Lags.lags_while, Logs.newest_stands}
 use Rattle.undo_apply.specs.{Standing.TellsOf, declared.work_room.WorkRoom.WorkRoom}
-use Rattle.law_logged_changes.specs.{Logs.records_of, Logs.Stands, Logs.LogsAgree, Lagging.LagsAt}
+use Rattle.law_logged_changes.specs.{Logs.records_of, Logs.Stands, Logs.LogsAgree, Lagging.LagsAt, Lagging.LagsSomewhere}
 use Rattle.row_search.specs.{declared.scan.Scan.Scan, Sights.sees_by, Tables.ShowsRows, declared.sight.Sight.Sight, declared.sight.Sight.TheVariants.View}
 use Rattle.row_search.specs.{declared.sight.Sight.TheVariants.Newest}
 
@@ -149,7 +148,7 @@ module _ {schema : Schema} (scan : Scan) {state : WorldState} {chains : Chains} 
       go true same = here table which value (ap (is_same_place place) (sym (same_place other (record { table = table; key = value }) same)) ∙ apart)
 
   shows_at : (place : Place) {version : Version} {others : List Version} → LagAt place chains said → versions_at place chains ≡ version ∷ others → sees_by
-      scan.sight version.writer ≡ false → EntriesLagAt chains said → ShowsRows schema scan state (in_table scan.table chains)
+      scan.sight version.writer ≡ false → LagsSomewhere chains said → ShowsRows schema scan state (in_table scan.table chains)
   shows_at place {version} {others} lag versions unseen known = go (is_same_place place known.place) refl where
     go : (b : Bool) → is_same_place place known.place ≡ b → ShowsRows schema scan state (in_table scan.table chains)
     go true same =

@@ -17,10 +17,8 @@ use Rattle.world.specs.{State.WorldState, Told.IsTold, Told.pairs_of}
 use Rattle.undo_apply.specs.{declared.work_room.WorkRoom.WorkRoom, declared.work_room.Stage.Stage, Told.Rows, Told.rows_of, Stages.StageHolds}
 use Rattle.undo_apply.specs.{Stages.IsPuttingBack}
 use Rattle.undo_apply.proofs.{Columns.lagging_any}
-use Rattle.law_logged_changes.specs.{Lagging.LagsAt, EntriesLag.LagsAt as EntriesLagAt, EntriesLag.IsReadable}
-use Rattle.row_changes.specs.{declared.entry_put.EntryPut.EntryPut, declared.row_change.RowChange.RowChange, declared.row_change.RowChange.TheVariants.Record}
-use Rattle.row_changes.specs.{declared.row_change.RowChange.TheVariants.Keys, Rows.IsChangingRowAlone}
-use Rattle.row_changes.proofs.{Alone.alone_rows}
+use Rattle.law_logged_changes.specs.{Lagging.LagsAt, Lagging.LagsSomewhere}
+use Rattle.row_changes.specs.{declared.entry_put.EntryPut.EntryPut, declared.row_change.RowChange.TheVariants.Record}
 
 -- ---- at whatever stage
 
@@ -125,28 +123,11 @@ module _ (chains : Chains) (place : Place) (done : ℕ) (put : Option EntryPut) 
         (λ above. ap (some_has column value) (so.later which (let a = apart.1 in let b = above.1 in omega arith)) ∙ has) (leb_tells (suc which) done))
         (eqb_tells which done)
 
-    pub lags : EntriesLagAt chains said
+    pub lags : LagsSomewhere chains said
     lags = record {
       place = place;
       lag = so.lag;
       version = version;
       versions = versions ∙ ap (λ o. version ∷ o) (sym (ap older versions));
       tells = λ which column value has. tells_others which column value (ap (some_has column value) (sym (ap older versions)) ∙ has);
-    }
-
-pub readable : (s : ℕ) (chains : Chains) (state : WorldState) (change : RowChange) → IsChangingRowAlone s chains state change → IsTold state
-    → IsReadable chains state
-readable s chains state (Record change key after) p told = record {
-  said = what_is_there chains;
-  coded = alone_rows s chains state change key after p told;
-  lags = inl refl;
-}
-readable s chains state (Keys change) p told =
-    let rows = p.rows told in
-    record {
-      said = rows.0;
-      coded = rows.1;
-      lags =
-          inr (lags chains (record { table = change.table; key = p.value }) change.which change.put change.before p.older rows.0 p.pushed.version
-          p.pushed.versions rows.2);
     }

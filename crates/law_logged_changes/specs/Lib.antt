@@ -2,4 +2,3 @@ pub mod Logs
 pub mod Steps
 pub mod Lagging
 pub mod GoingOn
-pub mod EntriesLag
