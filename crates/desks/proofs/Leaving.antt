@@ -1,5 +1,5 @@
 -- Steps of others keep what a search has found.
-use Rattle.std.proofs.Common.{◌≡◌, ◌≢◌, ℕ, ◌+◌, ◌≤◌, ◌==◌, Bool, true, false, Option, Some, refl, sym, ap, subst, ◌∙◌, inl, inr, arith}
+use Rattle.std.proofs.Common.{◌≡◌, ◌≢◌, ℕ, ◌+◌, ◌≤◌, ◌==◌, Bool, true, false, Some, refl, sym, ap, subst, ◌∙◌, inl, inr, arith}
 use Rattle.std.proofs.lemmas.Bool.Decides.{nat_tests}
 use Rattle.inno_types.specs.declared.value.Value.{Value}
 use Rattle.row_versions.specs.Chains.{Chains}
@@ -10,7 +10,7 @@ use Rattle.desks.specs.Holding.{IsOwnView, SightHolds, FindsSince, IsSearchHeld,
 use Rattle.law_stored_rows.specs.{Tables.in_table, Records.KeepsMore}
 use Rattle.row_search.specs.{Sights.rows_seen, declared.sight.Sight.Sight, declared.sight.Sight.TheVariants.View, declared.sight.Sight.TheVariants.Newest}
 use Rattle.law_found_rows.proofs.{Finding.keeps_finding, Finding.may_come_anew, Finding.finds_anew, Seen.same_rows}
-use Rattle.desks.specs.{declared.desk.Doing.Doing, declared.desk.TableSearch.TableSearch, Store.Store, Leaves.Does, Leaves.KeepsOrCuts}
+use Rattle.desks.specs.{declared.desk.Doing.Doing, declared.desk.TableSearch.TableSearch, Desks.Store, Leaves.Does, Leaves.KeepsOrCuts}
 
 some_same : (a b : ℕ) → Some a ≡ Some b → a ≡ b
 some_same a b same = cc

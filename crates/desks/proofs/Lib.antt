@@ -1,4 +1,3 @@
 pub mod Leaving
 pub mod Showing
 pub mod Counting
-pub mod At

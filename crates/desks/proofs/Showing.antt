@@ -1,17 +1,20 @@
 -- What a session's desk shows of it.
-use Rattle.std.proofs.Common.{◌≡◌, ◌≢◌, inl, inr, ℕ, zero, suc, ◌+◌, List, [], ◌∷◌, length, Option, None, Some, refl, sym, ap, ◌∙◌, arith}
-use Rattle.std.specs.Prelude.{◌-◌, IsSome, slice_index_or, map}
-use Rattle.std.proofs.lemmas.Bool.Decides.{eqb_tells}
-use Rattle.inno_types.specs.declared.value.Schema.{Schema}
 use Rattle.shared_lists.specs.Tasks as tasks
-use Rattle.shared_lists.specs.{Tasks.Task, State.Places, State.Lists, State.no_places, State.task_of, State.places_before}
+use Rattle.std.proofs.Common.{◌≡◌, ◌≢◌, inl, inr, ℕ, zero, suc, ◌+◌, List, [], ◌∷◌, length, Option, None, Some, refl, sym, ap, ◌∙◌, arith, ◌<◌, get_or}
+use Rattle.std.specs.Prelude.{◌-◌, IsSome, slice_index_or, map, slice_set}
+use Rattle.shared_lists.specs.State.{Places, Lists, no_places, task_of, places_before}
 use Rattle.desks.specs.declared.desk.Doing.TheVariants.{Nothing, Searching, Changing, Lagging, Undoing}
+use Rattle.world.specs.Told.{IsTold, pairs_in, pairs_of}
+use Rattle.desks.specs.Desks.{Store, desk_at, doing_at, with_desk, with_doing}
+use Rattle.desks.specs.Searching.{keys_left, visit_left, places_of, places_from}
+use Rattle.desks.specs.Shown.{shown, task_at, task_shown, lists_of}
+use Rattle.std.proofs.{lemmas.Bool.Decides.eqb_tells, lemmas.Option.slice_get-get_or}
+use Rattle.inno_types.specs.{declared.value.Schema.Schema}
+use Rattle.shared_lists.specs.{Tasks.Task}
 use Rattle.entries.specs.{Pairs.Pair, Index.AreKept}
 use Rattle.row_versions.specs.{Versions.Stays}
-use Rattle.world.specs.{State.WorldState, State.index_of, Told.IsTold, Told.pairs_in, Told.pairs_of}
-use Rattle.desks.specs.{declared.desk.Desk.Desk, declared.desk.Doing.Doing, Store.Store, Desks.desk_at, Desks.doing_at, declared.desk.TableSearch.TableSearch}
-use Rattle.desks.specs.{Searching.keys_left, Searching.visit_left, Searching.places_of, Searching.places_from, Desks.doing_in}
-use Rattle.desks.specs.Shown.{shown, task_at, task_shown, lists_of}
+use Rattle.world.specs.{State.WorldState, State.index_of}
+use Rattle.desks.specs.{declared.desk.Desk.Desk, declared.desk.Doing.Doing, declared.desk.TableSearch.TableSearch}
 
 task_there : (s : ℕ) (state : WorldState) (desks : List Desk) → slice_index_or (map (task_shown state) desks) s tasks.Idle ≡ task_at state (desk_at s desks)
 task_there s state [] = refl
@@ -117,3 +120,25 @@ lists_stay s store new rest pairs places versions told not =
     = tasks_stay old new store.desks (ap (λ (state : WorldState). state.schemas) rest) kept in
     ap (λ (state : WorldState). seen_with (map (task_shown new) store.desks) (places_from 0 new store.desks) (lists_of (record store { world = state }))) rest
     ∙ (λ i. seen_with (tasks_same i) (places_same i) (lists_of store))
+
+-- ---- A session's desk as it is read and put in its place.
+
+some_desk : (a b : Desk) → Some a ≡ Some b → a ≡ b
+some_desk a b same = cc
+
+pub desk_read : (desks : List Desk) (s : ℕ) {read : Desk} → s < length desks → read ≡ get_or desks s read → desk_at s desks ≡ Some read
+desk_read desks s {read} within is = slice_get-get_or desks s read within ∙ ap (λ (desk : Desk). Some desk) (sym is)
+
+-- a desk that is put in the place of the one that was read
+pub set_at : (s : ℕ) (change : Desk → Desk) {desk : Desk} (desks : List Desk) → desk_at s desks ≡ Some desk
+    → slice_set desks s (change desk) ≡ with_desk s change desks
+set_at s change [] at = absurd (let none : None ≡ Some _ = at in cc)
+set_at zero change {desk} (first ∷ desks) at = ap (λ (d : Desk). change d ∷ desks) (sym (some_desk first desk at))
+set_at (suc s) change (first ∷ desks) at = ap (λ (ds : List Desk). first ∷ ds) (set_at s change desks at)
+
+-- one that was read has something else to do
+pub given_at : (s : ℕ) (doing : Doing) (desks : List Desk) {read : Desk} {put : Doing} → s < length desks → read ≡ get_or desks s read → put ≡ doing
+    → slice_set desks s (record read { doing = put }) ≡ with_doing s doing desks
+given_at s doing desks {read} within is given =
+    ap (λ (d : Doing). slice_set desks s (record read { doing = d })) given
+    ∙ set_at s (λ (desk : Desk). record desk { doing = doing }) desks (desk_read desks s within is)

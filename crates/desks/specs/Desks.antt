@@ -1,8 +1,8 @@
 -- What each session has under way, by number.
 use Rattle.std.specs.Prelude.{◌≡◌, ℕ, zero, suc, ◌+◌, Bool, true, false, Option, Some, None, List, [], ◌∷◌, slice_get}
-use Rattle.world.specs.{declared.undo_room.UndoRoom.UndoRoom, Undoing.HoldsRecord}
-use Rattle.undo_apply.specs.{declared.work_room.WorkRoom.WorkRoom, declared.work_room.Stage.TheVariants.Find, Rooms.IsWhole}
 use Rattle.desks.specs.declared.desk.Doing.TheVariants.{Nothing, Searching, Undoing}
+use Rattle.world.specs.{declared.undo_room.UndoRoom.UndoRoom, Undoing.HoldsRecord, State.WorldState}
+use Rattle.undo_apply.specs.{declared.work_room.WorkRoom.WorkRoom, declared.work_room.Stage.TheVariants.Find, Rooms.IsWhole}
 use Rattle.desks.specs.{declared.desk.Desk.Desk, declared.desk.Doing.Doing}
 
 -- the session's desk, where it has joined
@@ -72,3 +72,14 @@ pub record IsNewDesk (desk : Desk) : Type 0 where
   pub started_is : desk.started ≡ 0
   pub doing_is : desk.doing ≡ Nothing
   pub rooms : HasRooms desk
+
+-- ---- What the sessions of one engine share, with what each of them has under way.
+
+pub record Store : Type 0 where
+  pub world : WorldState
+  -- the session that may write
+  pub writer : Option ℕ
+  -- by the numbers of the sessions
+  pub desks : List Desk
+  -- how many older versions were dropped by changes that were taken back
+  pub cuts : ℕ

@@ -21,7 +21,7 @@ use Rattle.row_changes.specs.{declared.row_change.RowChange.TheVariants.Record, 
 use Rattle.row_search.specs.{declared.sight.Sight.Sight, declared.sight.Sight.TheVariants.View, declared.sight.Sight.TheVariants.Newest}
 use Rattle.undo_apply.specs.{declared.work_room.WorkRoom.WorkRoom, Stages.IsPuttingBack}
 use Rattle.law_logged_changes.specs.Logs.{LogsAgree}
-use Rattle.desks.specs.{declared.desk.Desk.Desk, declared.desk.Doing.Doing, declared.desk.TableSearch.TableSearch, Store.Store, Desks.desk_at, Desks.doing_at}
+use Rattle.desks.specs.{declared.desk.Desk.Desk, declared.desk.Doing.Doing, declared.desk.TableSearch.TableSearch, Desks.Store, Desks.desk_at, Desks.doing_at}
 use Rattle.desks.specs.Desks.{started_at, is_quiet_doing, HasRooms}
 
 -- each place has few versions: those of this history, and not too many older ones

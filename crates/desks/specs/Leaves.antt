@@ -6,7 +6,7 @@ use Rattle.law_stored_rows.specs.Records.{KeepsMore}
 use Rattle.law_world_agreement.specs.Agreement.{Agrees}
 use Rattle.law_found_rows.specs.Pasts.{AddsAtMostOne}
 use Rattle.world.specs.{State.WorldState, Told.IsTold}
-use Rattle.desks.specs.{Store.Store, Desks.desk_at}
+use Rattle.desks.specs.{Desks.Store, Desks.desk_at}
 
 -- whatever was kept is kept still, or one older version more was dropped
 abbrev pub KeepsOrCuts : ℕ → ℕ → WorldState → WorldState → Type 0

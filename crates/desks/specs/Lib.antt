@@ -1,5 +1,4 @@
 pub mod Desks
-pub mod Store
 pub mod Undoing
 pub mod Searching
 pub mod Shown

@@ -12,7 +12,7 @@ use Rattle.row_changes.specs.{declared.row_change.RowChange.RowChange, declared.
 use Rattle.row_changes.specs.{declared.row_change.RowChange.TheVariants.Keys, Edits.change_of, Rows.row_steps, Rows.table_of}
 use Rattle.shared_lists.specs.{declared.answers.Reading.Reading, declared.answers.Reading.TheVariants.View, declared.answers.Reading.TheVariants.Newest}
 use Rattle.shared_lists.specs.{Tasks.Task}
-use Rattle.desks.specs.{declared.desk.Desk.Desk, declared.desk.Doing.Doing, Store.Store, Desks.doing_in, Undoing.keys_if}
+use Rattle.desks.specs.{declared.desk.Desk.Desk, declared.desk.Doing.Doing, Desks.Store, Desks.doing_in, Undoing.keys_if}
 use Rattle.desks.specs.{Undoing.left_in, Searching.places_from}
 
 abbrev pub reading_of : Sight → Reading

@@ -27,7 +27,7 @@ use Rattle.row_changes.specs.{declared.row_change.RowChange.TheVariants.Keys}
 use Rattle.undo_apply.specs.declared.work_room.WorkRoom.{WorkRoom}
 use Rattle.law_logged_changes.specs.{Logs.IsLogOf, Logs.LogsAgree, Steps.ChangesPairsAlone}
 use Rattle.law_logged_changes.proofs.{Leaving.work_beside, Leaving.agrees_beside, Leaving.has_rows_left, Leaving.change_left}
-use Rattle.desks.specs.{declared.desk.Desk.Desk, declared.desk.Doing.Doing, Store.Store, Leaves.Does}
+use Rattle.desks.specs.{declared.desk.Desk.Desk, declared.desk.Doing.Doing, Desks.Store, Leaves.Does}
 use Rattle.desks.specs.Desks.{desk_at, doing_in, doing_at, started_in, started_at, is_quiet_doing, HasRooms}
 
 pub some_same : {X : Type 0} (a b : X) → Some a ≡ Some b → a ≡ b

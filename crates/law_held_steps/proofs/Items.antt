@@ -34,7 +34,7 @@ use Rattle.law_past_agreement.proofs.{Ids.ids_of}
 use Rattle.txn_table.specs.{Txns.ids_of as listed_ids}
 use Rattle.law_past_agreement.specs.{Slots.writer_without, Order.MayCome}
 use Rattle.world.specs.{Endings.IsCommitted, Endings.IsRolledBack}
-use Rattle.desks.specs.{declared.desk.Desk.Desk, declared.desk.Doing.TheVariants.Nothing, Store.Store, Leaves.Does}
+use Rattle.desks.specs.{declared.desk.Desk.Desk, declared.desk.Doing.TheVariants.Nothing, Desks.Store, Leaves.Does}
 use Rattle.row_changes.proofs.{Sessions.same_pairs, Sessions.same_versions}
 use Rattle.law_world_agreement.specs.{Agreement.Agrees}
 use Rattle.inno_types.specs.{declared.reply.Item.Item, declared.reply.Reply.Reply, declared.lock.Level.Level, declared.value.Schema.Schema}

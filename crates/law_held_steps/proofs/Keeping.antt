@@ -21,7 +21,7 @@ use Rattle.law_world_agreement.proofs.{Settled.slot_if, Settled.slot_at, Opening
 use Rattle.world.specs.{Told.IsTold, Undoing.read_into}
 use Rattle.row_changes.proofs.{Sessions.one_session, Ids.one_work}
 use Rattle.law_logged_changes.specs.{GoingOn.StaysOpen, GoingOn.KeepsBeside, Logs.LogsAgree}
-use Rattle.desks.specs.{declared.desk.Desk.Desk, declared.desk.Doing.Doing, Store.Store, Leaves.Does}
+use Rattle.desks.specs.{declared.desk.Desk.Desk, declared.desk.Doing.Doing, Desks.Store, Leaves.Does}
 use Rattle.desks.specs.Desks.{desk_at, doing_in, doing_at, with_doing, is_undoing}
 use Rattle.law_held_steps.specs.{Making.LeavesLists, Leaving.is_searching}
 use Rattle.law_held_steps.proofs.{AnyStep.each, AnyStep.waits_not, AnyStep.past_grows, AnyStep.held_after, AnyStep.rows_by_writer}

@@ -25,7 +25,7 @@ use Rattle.law_held_steps.specs.{Beginning.IsEditable, Beginning.IsKeyOfEdit, Be
 use Rattle.law_held_steps.specs.{Making.MakesChange}
 use Rattle.inno_model.specs.{Past.IsOpen, Past.own, Past.started, declared.event.Event.TheVariants.Changed}
 use Rattle.desks.specs.{declared.desk.Desk.Desk, declared.desk.Doing.Doing, declared.desk.Doing.TheVariants.Nothing, declared.desk.Doing.TheVariants.Changing}
-use Rattle.desks.specs.{Store.Store, Desks.desk_at, Desks.doing_in, Desks.doing_at, Desks.started_in, Desks.started_at, Desks.with_doing}
+use Rattle.desks.specs.{Desks.Store, Desks.desk_at, Desks.doing_in, Desks.doing_at, Desks.started_in, Desks.started_at, Desks.with_doing}
 use Rattle.desks.specs.{Desks.is_quiet_doing, Desks.is_undoing, Desks.HasRooms, Undoing.keys_if}
 use Rattle.law_held_steps.proofs.{Desks.given, Desks.there, Desks.started_still, Desks.rooms_then, Desks.changes_at_a_desk, AnyStep.each, AnyStep.quiet_rows_at}
 use Rattle.law_held_steps.proofs.{AnyStep.rows_by_writer, Places.search_as, Putting.rows_mine, Putting.changing_rows, Putting.alone_if}

@@ -16,7 +16,7 @@ use Rattle.entries.specs.{Pairs.Pair, Index.AreKept, Calls.Leaves, Calls.release
 use Rattle.world.specs.{State.WorldState, State.index_of, Told.IsTold, Told.LeavesRows, Indexes.Calls, Undoing.IsUnchanged}
 use Rattle.law_logged_changes.proofs.{Leaving.left_told, Leaving.has_rows_left, Leaving.rows_leave, Leaving.all_left}
 use Rattle.desks.specs.{declared.desk.Desk.Desk, declared.desk.Doing.Doing, declared.desk.Doing.TheVariants.Nothing}
-use Rattle.desks.specs.{declared.desk.Doing.TheVariants.Searching, Store.Store}
+use Rattle.desks.specs.{declared.desk.Doing.TheVariants.Searching, Desks.Store}
 use Rattle.inno_types.specs.{declared.value.Schema.Schema}
 use Rattle.row_changes.specs.{Awaited.IsOfTable}
 

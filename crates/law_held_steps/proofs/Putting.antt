@@ -38,7 +38,7 @@ use Rattle.store_api.specs.{declared.answers.Undo.Undo, declared.moves.Move.Move
 use Rattle.undo_apply.specs.{declared.work_room.Stage.Stage, Rooms.IsWhole, Rooms.steps_left, declared.work_room.WorkRoom.WorkRoom}
 use Rattle.undo_apply.specs.{declared.work_room.Stage.TheVariants.Walk, declared.work_room.Stage.TheVariants.Find, Told.rows_of, Standing.versions_before}
 use Rattle.undo_apply.specs.{Standing.HasWalked}
-use Rattle.desks.specs.{declared.desk.Desk.Desk, declared.desk.Doing.Doing, Store.Store, Leaves.Does}
+use Rattle.desks.specs.{declared.desk.Desk.Desk, declared.desk.Doing.Doing, Desks.Store, Leaves.Does}
 use Rattle.law_held_steps.proofs.{Keeping.open_work, Showing.settings_same, Showing.shows_now}
 use Rattle.inno_db.specs.{declared.change.Change.Change, declared.change.Change.TheVariants.Create}
 use Rattle.undo_apply.proofs.{Hindrances.never_hindered, Telling.leaves_told, Columns.few_keys}

@@ -27,7 +27,7 @@ use Rattle.shared_lists.specs.{State.task_of, State.IsNow, State.Turns, State.Li
 use Rattle.shared_lists.specs.{Steps.rows_entered}
 use Rattle.desks.specs.declared.desk.Doing.TheVariants.{Nothing, Searching, Changing, Lagging, Undoing}
 use Rattle.desks.specs.Desks.{desk_at, doing_in, doing_at, with_doing, is_quiet_doing, is_undoing}
-use Rattle.desks.specs.{declared.desk.Desk.Desk, Store.Store, Undoing.left_in}
+use Rattle.desks.specs.{declared.desk.Desk.Desk, Desks.Store, Undoing.left_in}
 use Rattle.desks.specs.{Undoing.keys_if, declared.desk.Doing.Doing, declared.desk.TableSearch.TableSearch, Holding.IsHeld}
 use Rattle.row_search.specs.{declared.sight.Sight.Sight, declared.search.RowSearch.RowSearch, Steps.IsSameScan}
 use Rattle.row_changes.specs.{declared.row_edit.RowEdit.RowEdit, declared.row_change.RowChange.RowChange, declared.row_change.RowChange.TheVariants.Record}

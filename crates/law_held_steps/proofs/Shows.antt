@@ -28,7 +28,7 @@ use Rattle.row_versions.specs.{Chains.is_same_place}
 use Rattle.law_past_agreement.specs.{Ids.id_of, Rows.is_at, Rows.is_place, Rows.row_of, Rows.row_opened, Agreement.AreVersionsBy, Agreement.ViewAgrees}
 use Rattle.law_past_agreement.specs.{Agreement.versions_of}
 use Rattle.world.specs.{State.WorldState, State.Logged, Told.IsTold, Told.pairs_of, Undoing.read_into}
-use Rattle.desks.specs.{declared.desk.Desk.Desk, declared.desk.Doing.Doing, Store.Store, Desks.desk_at, Desks.doing_at, Desks.is_quiet_doing, Desks.is_quiet}
+use Rattle.desks.specs.{declared.desk.Desk.Desk, declared.desk.Doing.Doing, Desks.Store, Desks.desk_at, Desks.doing_at, Desks.is_quiet_doing, Desks.is_quiet}
 use Rattle.inno_types.specs.{declared.value.Value.Value, declared.value.Column.Column, declared.value.Schema.Schema}
 use Rattle.row_changes.specs.{declared.keys_change.KeysChange.KeysChange, Keys.IsChangingKeys, declared.row_change.RowChange.TheVariants.Record}
 use Rattle.row_changes.specs.{declared.row_change.RowChange.TheVariants.Keys, Told.AreRowsAs}

@@ -36,7 +36,7 @@ use Rattle.row_search.specs.{declared.sight.Sight.TheVariants.View, declared.sig
 use Rattle.row_search.specs.{Ranges.lies_in, Sights.rows_seen, Tables.most_versions, Tables.ShowsRows}
 use Rattle.law_found_rows.proofs.{Databases.found_by_view, Databases.found_newest}
 use Rattle.desks.specs.{declared.desk.Desk.Desk, declared.desk.Doing.Doing, declared.desk.Doing.TheVariants.Nothing}
-use Rattle.desks.specs.{declared.desk.Doing.TheVariants.Searching, Store.Store, declared.desk.TableSearch.TableSearch, Searching.keys_left}
+use Rattle.desks.specs.{declared.desk.Doing.TheVariants.Searching, Desks.Store, declared.desk.TableSearch.TableSearch, Searching.keys_left}
 use Rattle.desks.specs.{Searching.places_in, Shown.reading_of}
 use Rattle.law_held_steps.specs.{Leaving.MovesPlaces}
 use Rattle.law_held_steps.proofs.{Keeping.open_work, AnyStep.some_same, Putting.alone_if}

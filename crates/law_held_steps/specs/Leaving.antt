@@ -4,7 +4,7 @@ use Rattle.entries.specs.Index.{AreKept}
 use Rattle.row_versions.specs.Versions.{Stays}
 use Rattle.world.specs.{State.WorldState, Stores.StoreGoes}
 use Rattle.row_changes.specs.Awaited.{IsOfTable}
-use Rattle.desks.specs.{declared.desk.Desk.Desk, declared.desk.Doing.Doing, declared.desk.Doing.TheVariants.Searching, Store.Store}
+use Rattle.desks.specs.{declared.desk.Desk.Desk, declared.desk.Doing.Doing, declared.desk.Doing.TheVariants.Searching, Desks.Store}
 use Rattle.desks.specs.Desks.{desk_at, doing_at, HasRooms}
 
 -- ---- its places in indexes

@@ -7,7 +7,7 @@ use Rattle.row_changes.specs.{declared.row_change.RowChange.RowChange, declared.
 use Rattle.row_changes.specs.{declared.row_change.RowChange.TheVariants.Keys, declared.reached.Reached.Reached, declared.reached.Reached.TheVariants.Went}
 use Rattle.row_changes.specs.{declared.reached.Reached.TheVariants.Done, declared.reached.Reached.TheVariants.Hindered, Rows.row_steps, Rows.table_of}
 use Rattle.shared_lists.specs.Steps.{rows_of_change}
-use Rattle.desks.specs.{Store.Store, declared.desk.Doing.Doing, declared.desk.Doing.TheVariants.Nothing, declared.desk.Doing.TheVariants.Changing}
+use Rattle.desks.specs.{Desks.Store, declared.desk.Doing.Doing, declared.desk.Doing.TheVariants.Nothing, declared.desk.Doing.TheVariants.Changing}
 use Rattle.desks.specs.{declared.desk.Doing.TheVariants.Lagging, Desks.with_doing, Shown.change_in, Undoing.keys_if, Holding.IsHeld}
 
 -- what is left of a change that is given up: one that the history tells is to be taken back; one that it doesn't tell was

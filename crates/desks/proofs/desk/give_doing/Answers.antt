@@ -1,4 +1,4 @@
-use Rattle.desks.proofs.At.{given_at}
+use Rattle.desks.proofs.Showing.{given_at}
 use Rattle.desks.proofs.desk.give_doing.Goals as goal
 
 pub returns : goal.returns

@@ -1,5 +1,5 @@
 use Rattle.desks.specs.declared.desk.Doing.TheVariants.{Nothing}
-use Rattle.desks.proofs.At.{given_at}
+use Rattle.desks.proofs.Showing.{given_at}
 use Rattle.desks.proofs.desk.take_doing.Goals as goal
 
 pub returns-clause-is : goal.returns-clause-is
