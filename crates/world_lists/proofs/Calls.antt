@@ -1,17 +1,12 @@
 -- What a call finds of the lists: its session with its transaction, as the past says, what it has under way, and its desk.
-use Rattle.std.proofs.Common.{◌≡◌, ℕ, ◌+◌, ◌<◌, Bool, true, Option, Some, None, List, length, sym, ap, subst, ◌∙◌, arith, get_or, inl, inr, zero, suc, ◌∷◌}
+use Rattle.std.proofs.Common.{◌≡◌, ℕ, ◌+◌, ◌<◌, Bool, true, Option, Some, None, List, length, sym, ap, subst, ◌∙◌, arith, get_or, zero, suc, ◌∷◌, ◌++◌}
 use Rattle.std.proofs.Common.{map, refl, []}
-use Rattle.std.proofs.lemmas.Bool.Decides.{eqb_tells}
-use Rattle.std.proofs.lemmas.List.{get_or-set_other}
-use Rattle.std.proofs.lemmas.Option.{slice_get-get_or}
 use Rattle.std.specs.Prelude.{slice_set, slice_index_or, is_some, slice_get, option_map}
 use Rattle.inno_types.specs.declared.reply.Item.{Item}
 use Rattle.inno_model.specs.Past.{own, level, txn, view_of, started, under_way, of_item, IsOpen, awaits_ack}
 use Rattle.sql_history.specs.Settings.{Setting, at_first}
 use Rattle.store_api.specs.declared.answers.Standing.{Standing}
 use Rattle.world.specs.State.{WorldState, Session, Work, IsSession, HasWork, standing_of, txn_of, Seen, own_of, level_of}
-use Rattle.world.specs.declared.undo_room.UndoRoom.{UndoRoom}
-use Rattle.undo_apply.specs.declared.work_room.WorkRoom.{WorkRoom}
 use Rattle.row_changes.specs.Records.{IsListed}
 use Rattle.law_logged_changes.proofs.Listed.{listed_of}
 use Rattle.world_lists.specs.Between.{IsKept}
@@ -19,15 +14,39 @@ use Rattle.law_world_agreement.specs.Agreement.{sight_of, work_at}
 use Rattle.inno_model.specs.{declared.event.Event.Event, declared.event.Event.TheVariants.Acked}
 use Rattle.law_past_agreement.specs.{Order.MayCome, Rows.place_in, Agreement.IsIdle, Agreement.IsWorkOf, Agreement.ViewAgrees}
 use Rattle.shared_lists.specs.{Tasks.Idle, State.Lists, State.task_of}
-use Rattle.desks.specs.{declared.desk.Desk.Desk, declared.desk.Doing.TheVariants.Nothing, Desks.fresh_desk, Desks.desk_at, Desks.doing_at, Desks.with_start}
-use Rattle.desks.specs.{Shown.seen_of, Holding.IsHeld}
-use Rattle.law_held_steps.proofs.{Showing.rests_of, Showing.setting_at, Items.start_here, Keeping.open_work}
+use Rattle.desks.specs.{declared.desk.Desk.Desk, declared.desk.Doing.TheVariants.Nothing, Store.Store, Shown.lists_of, Holding.IsHeld}
+use Rattle.desks.specs.declared.desk.Doing.{Doing}
+use Rattle.desks.specs.Desks.{desk_at, doing_at, started_in, with_desk, with_doing, with_start}
+use Rattle.law_held_steps.proofs.{Showing.rests_of, Showing.setting_at, Keeping.open_work}
 use Rattle.law_world_agreement.proofs.{Opening.idle_of, Ending.work_of}
-use Rattle.law_held_steps.proofs.AnyStep.{some_same}
+use Rattle.law_held_steps.proofs.{AnyStep.some_same, Desks.as_many}
+use Rattle.desks.proofs.At.{desk_read, set_at}
 
-desk_read : (desks : List Desk) (s : ℕ) (read : Desk) → s < length desks → read ≡ get_or desks s read → read ≡ desk_at s desks
-desk_read desks s read within is =
-    is ∙ some_same (get_or desks s read) (desk_at s desks) (sym (slice_get-get_or desks s read within) ∙ slice_get-get_or desks s fresh_desk within)
+-- ---- desks
+
+-- a desk that becomes another twice
+pub with_both : (s : ℕ) (first second : Desk → Desk) (desks : List Desk)
+    → with_desk s second (with_desk s first desks) ≡ with_desk s (λ desk. second (first desk)) desks
+with_both s first second [] = refl
+with_both zero first second (desk ∷ desks) = refl
+with_both (suc s) first second (desk ∷ desks) = ap (λ (ds : List Desk). desk ∷ ds) (with_both s first second desks)
+
+-- what is read of desks, but how many items were started, is as it was once one is
+pub start_leaves : {X : Type 0} (read : Option Desk → X) → ((desk : Desk) → read (Some (record desk { started = desk.started + 1 })) ≡ read (Some desk))
+    → (s u : ℕ) (desks : List Desk) → read (desk_at u (with_start s desks)) ≡ read (desk_at u desks)
+start_leaves read same s u [] = refl
+start_leaves read same zero zero (desk ∷ desks) = same desk
+start_leaves read same zero (suc u) (desk ∷ desks) = refl
+start_leaves read same (suc s) zero (desk ∷ desks) = refl
+start_leaves read same (suc s) (suc u) (desk ∷ desks) = start_leaves read same s u desks
+
+-- and so is what a new desk shows no more of than none
+pub new_leaves : {X : Type 0} (read : Option Desk → X) (desk : Desk) → read (Some desk) ≡ read None → (u : ℕ) (desks : List Desk)
+    → read (desk_at u (desks ++ desk ∷ [])) ≡ read (desk_at u desks)
+new_leaves read desk same zero [] = same
+new_leaves read desk same (suc u) [] = refl
+new_leaves read desk same zero (first ∷ desks) = refl
+new_leaves read desk same (suc u) (first ∷ desks) = new_leaves read desk same u desks
 
 -- ---- what is read of a session is what the past says
 
@@ -39,8 +58,10 @@ there_at (first ∷ sessions) (suc s) within = there_at sessions s (omega (arith
 nsome_same : {X : Type 0} (x : X) → None ≡ Some x → ⊥
 nsome_same x same = cc
 
-module _ {state : WorldState} {writer : Option ℕ} {desks : List Desk} {cuts : ℕ} {undo : UndoRoom} {room : WorkRoom}
-    (held : IsHeld state writer desks cuts undo room) where
+module _ {store : Store} (held : IsHeld store) where
+  abbrev state : WorldState
+  state = store.world
+
   there : (s : ℕ) → s < length state.names → (session : Session) × IsSession s session state
   there s joined = there_at state.sessions s (omega (arith, joined, held.agrees.count))
 
@@ -88,46 +109,48 @@ module _ {state : WorldState} {writer : Option ℕ} {desks : List Desk} {cuts : 
     pub closed_none : level s state.past ≡ None → session.work ≡ None
     closed_none closed = by_work (λ none. none) (λ work was. absurd (nsome_same work.level (sym closed ∙ (work_says work was).level_is)))
 
-module _ (s : ℕ) {state : WorldState} {writer : Option ℕ} {desks : List Desk} {cuts : ℕ} {undo : UndoRoom} {room : WorkRoom} {lists : Lists}
-    (kept : IsKept state writer desks cuts undo room) (view : seen_of undo.table room.stage state writer desks ≡ lists) where
-  pub past_here : (P : List Event → Type 0) → P lists.state.past → P state.past
+module _ (s : ℕ) {store : Store} {lists : Lists} (kept : IsKept store) (view : lists_of store ≡ lists) where
+  abbrev world : WorldState
+  world = store.world
+
+  pub past_here : (P : List Event → Type 0) → P lists.state.past → P world.past
   past_here P given = subst (λ (l : Lists). P l.state.past) (sym view) given
 
-  pub joined_here : s < length lists.state.names → s < length state.names
+  pub joined_here : s < length lists.state.names → s < length world.names
   joined_here joined = subst (λ (l : Lists). s < length l.state.names) (sym view) joined
 
-  pub at_desk : s < length lists.state.names → s < length desks
+  pub at_desk : s < length lists.state.names → s < length store.desks
   at_desk joined = omega (arith, joined_here joined, kept.held.count)
 
-  pub its_session : s < length lists.state.names → (session : Session) × IsSession s session state
+  pub its_session : s < length lists.state.names → (session : Session) × IsSession s session world
   its_session joined = there kept.held s (joined_here joined)
 
-  pub its_work : s < length lists.state.names → IsOpen s lists.state.past → (session : Session) × (work : Work) × HasWork s session work state
+  pub its_work : s < length lists.state.names → IsOpen s lists.state.past → (session : Session) × (work : Work) × HasWork s session work world
   its_work joined is_open = open_work kept.held.agrees s (past_here (IsOpen s) is_open)
 
-  pub at_rest : task_of s lists.state ≡ Idle → doing_at s desks ≡ Nothing
-  at_rest idle = rests_of s undo.table room.stage state writer desks (subst (λ (l : Lists). task_of s l.state ≡ Idle) (sym view) idle)
+  pub at_rest : task_of s lists.state ≡ Idle → doing_at s store.desks ≡ Nothing
+  at_rest idle = rests_of s store (subst (λ (l : Lists). task_of s l.state ≡ Idle) (sym view) idle)
 
-  pub writer_now : lists.state.writer ≡ Some s → writer ≡ Some s
+  pub writer_now : lists.state.writer ≡ Some s → store.writer ≡ Some s
   writer_now mine = ap (λ (l : Lists). l.state.writer) view ∙ mine
 
   -- ---- its transaction
 
   -- it is among the open ones
-  pub its_listed : {session : Session} {work : Work} → HasWork s session work state → IsListed s work state
-  its_listed {session} {work} has = listed_of kept.held.chains writer state s session work kept.held.agrees has
+  pub its_listed : {session : Session} {work : Work} → HasWork s session work world → IsListed s work world
+  its_listed {session} {work} has = listed_of kept.held.chains world s session work kept.held.agrees has
 
-  pub its_txn : {session : Session} {work : Work} → HasWork s session work state → txn s lists.state.past ≡ work.txn
+  pub its_txn : {session : Session} {work : Work} → HasWork s session work world → txn s lists.state.past ≡ work.txn
   its_txn {session} {work} has = sym (ap (λ (l : Lists). txn s l.state.past) view) ∙ txn_is kept.held s has.session_is work.txn (ap txn_of has.work_is)
 
-  pub its_own : {session : Session} → IsSession s session state → (standing_of session).own ≡ length (own s lists.state.past)
+  pub its_own : {session : Session} → IsSession s session world → (standing_of session).own ≡ length (own s lists.state.past)
   its_own is = own_is kept.held s is ∙ ap (λ (l : Lists). length (own s l.state.past)) view
 
   -- ---- what is read of it
 
   module _ (joined : s < length lists.state.names) {read : Standing}
-      (read_is : (session : Session) → IsSession s session state → read ≡ standing_of session) where
-    txn_read : (session : Session) → IsSession s session state → {n : Option ℕ} → read.txn ≡ n → (standing_of session).txn ≡ n
+      (read_is : (session : Session) → IsSession s session world → read ≡ standing_of session) where
+    txn_read : (session : Session) → IsSession s session world → {n : Option ℕ} → read.txn ≡ n → (standing_of session).txn ≡ n
     txn_read session is some = sym (ap (λ (t : Standing). t.txn) (read_is session is)) ∙ some
 
     pub level_read : {n : ℕ} → read.txn ≡ Some n → Some read.level ≡ level s lists.state.past
@@ -155,54 +178,52 @@ module _ (s : ℕ) {state : WorldState} {writer : Option ℕ} {desks : List Desk
         nsome_same work.txn (sym (txn_read session has.session_is none) ∙ ap txn_of has.work_is)
 
   pub view_read : s < length lists.state.names → IsOpen s lists.state.past → {has : Bool}
-      → ((session : Session) (work : Work) → HasWork s session work state → has ≡ is_some work.view) → has ≡ is_some (view_of s lists.state.past)
+      → ((session : Session) (work : Work) → HasWork s session work world → has ≡ is_some work.view) → has ≡ is_some (view_of s lists.state.past)
   view_read joined is_open read =
       let (session, work, has) = its_work joined is_open in
       read session work has ∙ view_is kept.held s has.session_is work has.work_is ∙ ap (λ (l : Lists). is_some (view_of s l.state.past)) view
 
-  pub setting_read : s < length lists.state.names → {setting : Setting} → ((session : Session) → IsSession s session state → setting ≡ session.setting)
+  pub setting_read : s < length lists.state.names → {setting : Setting} → ((session : Session) → IsSession s session world → setting ≡ session.setting)
       → setting ≡ slice_index_or lists.settings s at_first
   setting_read joined read =
       let (session, is) = its_session joined in
-      read session is ∙ sym (setting_at state.sessions s is) ∙ ap (λ (l : Lists). slice_index_or l.settings s at_first) view
+      read session is ∙ sym (setting_at world.sessions s is) ∙ ap (λ (l : Lists). slice_index_or l.settings s at_first) view
 
   -- ---- it has room for its entries
 
   pub may_ack : s < length lists.state.names → (moment : ℕ) → MayCome lists.state.past (Acked s moment)
-      → (session : Session) × IsSession s session state × (session.can_ack ≡ true)
+      → (session : Session) × IsSession s session world × (session.can_ack ≡ true)
   may_ack joined moment may =
       let (session, is) = its_session joined in
       (session, is, kept.held.has_room.acks s session is (past_here (λ h. awaits_ack (of_item s h) ≡ true) may.0))
 
   pub may_reply : s < length lists.state.names → (item : Item) → under_way s lists.state.past ≡ Some item
-      → (session : Session) × IsSession s session state × (session.can_reply ≡ true)
+      → (session : Session) × IsSession s session world × (session.can_reply ≡ true)
   may_reply joined item busy =
       let (session, is) = its_session joined in
       (session, is, kept.held.has_room.replies s session is (ap is_some (past_here (λ h. under_way s h ≡ Some item) busy)))
 
   pub may_end : s < length lists.state.names → IsOpen s lists.state.past
-      → (session : Session) × (work : Work) × HasWork s session work state × (work.can_end ≡ true)
+      → (session : Session) × (work : Work) × HasWork s session work world × (work.can_end ≡ true)
   may_end joined is_open =
       let (session, work, has) = its_work joined is_open in (session, work, has, kept.held.has_room.ends s session work has)
 
   -- ---- what is read of desks
 
-  module _ (joined : s < length lists.state.names) where
-    pub desk_started : {read : Desk} → read ≡ get_or desks s read → read.started ≡ started s lists.state.past
-    desk_started {read} is =
-        ap (λ (desk : Desk). desk.started) (desk_read desks s read (at_desk joined) is)
-        ∙ sym (kept.held.started s) ∙ ap (λ (l : Lists). started s l.state.past) view
+  -- it has a desk still
+  pub still_there : (doing : Doing) {now : List Desk} → now ≡ with_doing s doing store.desks → s < length lists.state.names → s < length now
+  still_there doing gives joined =
+      omega (arith, at_desk joined, ap length gives, as_many s (λ desk. record desk { doing = doing }) store.desks)
 
-    pub desks_started : {read other : Desk} → read ≡ get_or desks s read → other ≡ get_or desks s other
-        → slice_set desks s (record { started = read.started + 1; doing = other.doing }) ≡ with_start s desks
-    desks_started {read} {other} is other_is =
-        ap (λ (desk : Desk). slice_set desks s (record { started = desk.started + 1; doing = other.doing })) (desk_read desks s read (at_desk joined) is)
-        ∙ ap (λ (desk : Desk). slice_set desks s (record { started = (desk_at s desks).started + 1; doing = desk.doing }))
-        (desk_read desks s other (at_desk joined) other_is)
+  module _ (joined : s < length lists.state.names) {read : Desk} (is : read ≡ get_or store.desks s read) where
+    pub its_desk : desk_at s store.desks ≡ Some read
+    its_desk = desk_read store.desks s (at_desk joined) is
 
-    pub doing_started : (u : ℕ) → doing_at u (with_start s desks) ≡ doing_at u desks
-    doing_started u = elim (eqb_tells u s) [
-      | inl same ↦ ap (λ v. doing_at v (with_start s desks)) same.1 ∙ ap (λ (desk : Desk). desk.doing) (start_here desks s (at_desk joined)) ∙ ap
-          (λ v. doing_at v desks) (sym same.1)
-      | inr differ ↦ ap (λ (desk : Desk). desk.doing) (get_or-set_other desks s u _ fresh_desk differ.1)
-    ]
+    pub desk_started : read.started ≡ started s lists.state.past
+    desk_started = sym (ap started_in its_desk) ∙ sym (kept.held.started s) ∙ ap (λ (l : Lists). started s l.state.past) view
+
+    pub desks_started : {count : ℕ} → count ≡ started s lists.state.past
+        → slice_set store.desks s (record read { started = count + 1 }) ≡ with_start s store.desks
+    desks_started {count} count_is =
+        ap (λ n. slice_set store.desks s (record read { started = n + 1 })) (count_is ∙ sym desk_started)
+        ∙ set_at s (λ desk. record desk { started = desk.started + 1 }) store.desks its_desk

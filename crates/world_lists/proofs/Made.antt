@@ -1,5 +1,6 @@
 -- What a call has made of the lists that it found: what holds of them still, and what callers see.
 use Rattle.std.proofs.Common.{◌≡◌, ℕ, ◌+◌, ◌<◌, ◌^◌, true, false, Option, Some, None, List, ◌∷◌, ◌++◌, length, refl, sym, ap, subst, ◌∙◌, arith, [], ◌-◌}
+use Rattle.std.proofs.Common.{inl}
 use Rattle.std.proofs.lemmas.List.{length-map, length-set}
 use Rattle.std.specs.Prelude.{Result, Ok, Err, OnOk, OnErr, is_ok, if◌then◌else◌, slice_set, slice_index_or, slice_get}
 use Rattle.inno_model.specs.declared.event.Event.{Event}
@@ -13,24 +14,26 @@ use Rattle.store_api.specs.declared.answers.Standing.{Standing}
 use Rattle.world.specs.State.{WorldState, Session, Work, IsSession, HasWork, standing_of}
 use Rattle.world.specs.Sessions.{change_txn, with_save, view_added, begun, with_room, fresh_work, begin_added}
 use Rattle.law_world_agreement.specs.Steps.{viewed, opened, session_begun}
-use Rattle.undo_apply.specs.declared.work_room.WorkRoom.{WorkRoom}
 use Rattle.world.specs.EngineCalls.{joined as with_joined, item_started, item_ended, acknowledged, signalled, with_setting}
 use Rattle.shared_lists.specs.Tasks.{Idle}
 use Rattle.shared_lists.specs.State.{Lists, task_of, IsNow, Stays, writer_without}
 use Rattle.law_held_steps.specs.SeenEntries.{settings_of}
 use Rattle.law_held_steps.proofs.Showing.{tasks_same, now_of, settings_by, settings_same, settings_now}
-use Rattle.law_held_steps.proofs.Tables.{joined_held, one_more}
+use Rattle.law_held_steps.proofs.Tables.{joined_held}
 use Rattle.law_held_steps.proofs.Items.{started_held, ended_held, acked_held, signal_held, unentered_held, txn_here, txn_elsewhere, viewed_held, saved_held}
 use Rattle.law_held_steps.proofs.Items.{committed_held, rolled_back_held, opened_held}
-use Rattle.world_lists.specs.Between.{IsKept}
-use Rattle.world_lists.proofs.Awaiting.{kept_on, kept_by, kept_closed, no_more_in}
-use Rattle.world_lists.proofs.Calls.{past_here, joined_here, its_session, its_work, its_listed, its_txn, its_own, at_rest, doing_started, closed_none}
+use Rattle.world_lists.specs.Between.{IsKept, table_at}
+use Rattle.world_lists.proofs.Awaiting.{kept_on, kept_by, kept_closed, kept_locked, writer_free, no_more_in, rests}
+use Rattle.law_held_steps.proofs.{AnyStep.some_same, AnyStep.held_after, AnyStep.quiet_step, Places.moves_leave, Places.none_moves}
+use Rattle.world_lists.proofs.Calls.{past_here, joined_here, its_session, its_work, its_listed, its_txn, its_own, at_rest, start_leaves, new_leaves}
+use Rattle.world_lists.proofs.Calls.{closed_none}
 use Rattle.inno_types.specs.declared.lock.Level.{Level}
 use Rattle.inno_model.proofs.Commits.{begins_few}
 use Rattle.law_world_agreement.proofs.Opening.{set_here, set_other}
 use Rattle.inno_types.specs.{declared.reply.Item.Item, declared.reply.Reply.Reply, declared.stmt.Stmt.Stmt}
-use Rattle.world.specs.{Told.IsTold, Endings.IsCommitted, Endings.IsRolledBack, declared.undo_room.UndoRoom.UndoRoom}
-use Rattle.desks.specs.{declared.desk.Desk.Desk, Desks.fresh_desk, Desks.doing_at, Desks.with_start, Holding.IsHeld, Shown.seen_of}
+use Rattle.world.specs.{Told.IsTold, Endings.IsCommitted, Endings.IsRolledBack}
+use Rattle.desks.specs.{declared.desk.Desk.Desk, Desks.desk_at, Desks.with_start, Desks.IsNewDesk, Store.Store, Holding.IsHeld, Shown.lists_of}
+use Rattle.desks.specs.{Shown.shown, Shown.task_at, Undoing.left_in, Desks.doing_at, Desks.is_quiet_doing, Holding.SearchHeld, Leaves.Does}
 
 -- what follows from the answer either way
 pub by_result : {T E : Type 0} {P Q R : Type 0} (result : Result T E) → OnOk result P → OnErr result Q → (P → R) → (Q → R) → R
@@ -49,10 +52,10 @@ pub of_ok : {T E : Type 0} {P : Type 0} (result : Result T E) (value : T) → re
 of_ok (Ok x) value is holds = holds
 of_ok (Err e) value is holds = absurd (cc)
 
-pub pushed : {T E : Type 0} (result : Result T E) {value : T} {items before desks : List Desk} → result ≡ Ok value
-    → items ≡ (if is_ok result then before ++ fresh_desk ∷ [] else before) → before ≡ desks → items ≡ desks ++ fresh_desk ∷ []
-pushed (Ok x) is items_are same = items_are ∙ ap (λ (xs : List Desk). xs ++ fresh_desk ∷ []) same
-pushed (Err e) is items_are same = absurd (cc)
+pub pushed : {T E : Type 0} (result : Result T E) (desk : Desk) {value : T} {items before desks : List Desk} → result ≡ Ok value
+    → items ≡ (if is_ok result then before ++ desk ∷ [] else before) → before ≡ desks → items ≡ desks ++ desk ∷ []
+pushed (Ok x) desk is items_are same = items_are ∙ ap (λ (xs : List Desk). xs ++ desk ∷ []) same
+pushed (Err e) desk is items_are same = absurd (cc)
 
 -- What callers see of a call of the session: of the past, of who may write, of what sessions have set and of rows it has made these.
 pub record Shows (s : ℕ) (past : List Event → List Event) (later : Option ℕ → Option ℕ) (set : List Setting → List Setting) (count : ℕ → ℕ)
@@ -69,76 +72,89 @@ Enters e s old new = Shows s (λ h. e ∷ h) (λ w. w) (λ x. x) (λ n. n) old n
 abbrev sets : ℕ → (Setting → Setting) → List Setting → List Setting
 sets s f settings = slice_set settings s (f (slice_index_or settings s at_first))
 
-module _ (s : ℕ) {old : WorldState} {writer : Option ℕ} {desks : List Desk} {cuts : ℕ} {undo : UndoRoom} {room : WorkRoom} {lists : Lists}
-    (kept : IsKept old writer desks cuts undo room) (view : seen_of undo.table room.stage old writer desks ≡ lists) where
-  abbrev seen : WorldState → Lists
-  seen new = seen_of undo.table room.stage new writer desks
+module _ (s : ℕ) {store : Store} {lists : Lists} (kept : IsKept store) (view : lists_of store ≡ lists) where
+  abbrev old : WorldState
+  old = store.world
+
+  -- the store with another world
+  abbrev in_world : WorldState → Store
+  in_world new = record store { world = new }
 
   -- ---- what holds still
 
-  pub kept_as : {new target : WorldState} → new ≡ target → target.indexes ≡ old.indexes → target.schemas ≡ old.schemas
-      → IsHeld target writer desks cuts undo room → IsKept new writer desks cuts undo room
+  pub kept_as : {new target : WorldState} → new ≡ target → target.indexes ≡ old.indexes → target.schemas ≡ old.schemas → IsHeld (in_world target)
+      → IsKept (in_world new)
   kept_as {new} {target} is indexes schemas held =
-      kept_on old new writer desks cuts undo room kept (no_more_in old new target is indexes schemas)
-      (subst (λ (w : WorldState). IsHeld w writer desks cuts undo room) (sym is) held)
+      kept_on kept (no_more_in old new target is indexes schemas) (subst (λ (w : WorldState). IsHeld (in_world w)) (sym is) held)
 
   pub few_by : (e : Event) {new target : WorldState} → new ≡ target → target.past ≡ e ∷ old.past → length new.past < 2 ^ 63 → length old.past + 1 < 2 ^ 63
   few_by e is past few = omega (arith, few, ap length (ap (λ (w : WorldState). w.past) is ∙ past))
 
   -- ---- what callers see
 
-  shows_as : (past : List Event → List Event) (later : Option ℕ → Option ℕ) (set : List Setting → List Setting) (count : ℕ → ℕ) (now : List Desk)
-      {new target : WorldState} → new ≡ target → target.names ≡ old.names → target.past ≡ past old.past → target.schemas ≡ old.schemas
-      → target.versions ≡ old.versions → ((u : ℕ) → doing_at u now ≡ doing_at u desks) → settings_of target.sessions ≡ set (settings_of old.sessions)
-      → target.rows ≡ count old.rows → Shows s past later set count lists (seen_of undo.table room.stage new (later writer) now)
-  shows_as past later set count now {new} is names past_is schemas versions doing set_is rows =
-      subst (λ (l : Lists). Shows s past later set count l (seen_of undo.table room.stage new (later writer) now)) view (record {
-        state =
-            now_of s undo.table room.stage old new writer (later writer) desks now (past old.past) (ap (λ (w : WorldState). w.names) is ∙ names)
-            (ap (λ (w : WorldState). w.past) is ∙ past_is) (ap (λ (w : WorldState). w.schemas) is ∙ schemas) (ap (λ (w : WorldState). w.versions) is ∙ versions)
-            doing;
+  shows_as : (past : List Event → List Event) (later : Option ℕ → Option ℕ) (set : List Setting → List Setting) (count : ℕ → ℕ) (now : Store)
+      {target : WorldState} → now.world ≡ target → target.names ≡ old.names → target.past ≡ past old.past → target.schemas ≡ old.schemas
+      → target.versions ≡ old.versions → ((u : ℕ) → task_at old (desk_at u now.desks) ≡ task_at old (desk_at u store.desks))
+      → now.writer ≡ later store.writer → settings_of target.sessions ≡ set (settings_of old.sessions) → target.rows ≡ count old.rows
+      → Shows s past later set count lists (lists_of now)
+  shows_as past later set count now is names past_is schemas versions tasks writes set_is rows =
+      let is_now = now_of s store now (past old.past) (ap (λ (w : WorldState). w.names) is ∙ names) (ap (λ (w : WorldState). w.past) is ∙ past_is)
+      (ap (λ (w : WorldState). w.schemas) is ∙ schemas) (ap (λ (w : WorldState). w.versions) is ∙ versions) tasks in
+      subst (λ (l : Lists). Shows s past later set count l (lists_of now)) view (record {
+        state = record {
+          names_are = is_now.names_are;
+          past_is = is_now.past_is;
+          writer_is = writes;
+          task_is = is_now.task_is;
+          others = is_now.others;
+        };
         settings = ap (λ (w : WorldState). settings_of w.sessions) is ∙ set_is;
         rows = ap (λ (w : WorldState). w.rows) is ∙ rows;
       })
 
   pub enters : (e : Event) {new target : WorldState} → new ≡ target → target.names ≡ old.names → target.past ≡ e ∷ old.past → target.schemas ≡ old.schemas
-      → target.versions ≡ old.versions → settings_of target.sessions ≡ settings_of old.sessions → target.rows ≡ old.rows → Enters e s lists (seen new)
-  enters e is names past schemas versions = shows_as (λ h. e ∷ h) (λ w. w) (λ x. x) (λ n. n) desks is names past schemas versions (λ u. refl)
+      → target.versions ≡ old.versions → settings_of target.sessions ≡ settings_of old.sessions → target.rows ≡ old.rows
+      → Enters e s lists (lists_of (in_world new))
+  enters e {new} is names past schemas versions =
+      shows_as (λ h. e ∷ h) (λ w. w) (λ x. x) (λ n. n) (in_world new) is names past schemas versions (λ u. refl) refl
 
   -- a setting alone
   shows_set : (set : List Setting → List Setting) {new target : WorldState} → new ≡ target → target.names ≡ old.names → target.past ≡ old.past
       → target.schemas ≡ old.schemas → target.versions ≡ old.versions → settings_of target.sessions ≡ set (settings_of old.sessions) → target.rows ≡ old.rows
-      → Shows s (λ h. h) (λ w. w) set (λ n. n) lists (seen new)
-  shows_set set is names past schemas versions = shows_as (λ h. h) (λ w. w) set (λ n. n) desks is names past schemas versions (λ u. refl)
+      → Shows s (λ h. h) (λ w. w) set (λ n. n) lists (lists_of (in_world new))
+  shows_set set {new} is names past schemas versions =
+      shows_as (λ h. h) (λ w. w) set (λ n. n) (in_world new) is names past schemas versions (λ u. refl) refl
 
-  pub stays_same : {new : WorldState} → new ≡ old → Stays s lists.state (seen new).state
+  pub stays_same : {new : WorldState} → new ≡ old → Stays s lists.state (lists_of (in_world new)).state
   stays_same is = (shows_set (λ x. x) is refl refl refl refl refl refl).state
 
   -- its transaction has ended
-  pub closes : (e : Event) {later : Option ℕ} → later ≡ writer_without writer s → {new target : WorldState} → new ≡ target → target.names ≡ old.names
+  pub closes : (e : Event) {later : Option ℕ} → later ≡ writer_without store.writer s → {new target : WorldState} → new ≡ target → target.names ≡ old.names
       → target.past ≡ e ∷ old.past → target.schemas ≡ old.schemas → target.versions ≡ old.versions
       → settings_of target.sessions ≡ sets s at_end (settings_of old.sessions) → target.rows ≡ old.rows
-      → Shows s (λ h. e ∷ h) (λ w. writer_without w s) (sets s at_end) (λ n. n) lists (seen_of undo.table room.stage new later desks)
-  closes e later_is {new} is names past schemas versions set rows =
-      subst (λ (w : Option ℕ). Shows s (λ h. e ∷ h) (λ w. writer_without w s) (sets s at_end) (λ n. n) lists (seen_of undo.table room.stage new w desks))
-      (sym later_is) (shows_as (λ h. e ∷ h) (λ w. writer_without w s) (sets s at_end) (λ n. n) desks is names past schemas versions (λ u. refl) set rows)
+      → Shows s (λ h. e ∷ h) (λ w. writer_without w s) (sets s at_end) (λ n. n) lists (lists_of (record store { world = new; writer = later }))
+  closes e {later} later_is {new} is names past schemas versions =
+      shows_as (λ h. e ∷ h) (λ w. writer_without w s) (sets s at_end) (λ n. n) (record store { world = new; writer = later }) is names past schemas versions
+      (λ u. refl) later_is
 
   -- ---- another session
 
-  module _ (now : List Desk) (now_is : now ≡ desks ++ fresh_desk ∷ []) (name : List ℕ) {new : WorldState} (made : new ≡ with_joined name old) where
-    as_before : (u : ℕ) → doing_at u now ≡ doing_at u desks
-    as_before u = ap (doing_at u) now_is ∙ ap (λ (desk : Desk). desk.doing) (one_more desks u)
-
-    pub joined_kept : IsTold old → length old.names < 68 → IsKept new writer now cuts undo room
+  module _ {desk : Desk} (fresh : IsNewDesk desk) {now : List Desk} (now_is : now ≡ store.desks ++ desk ∷ []) (name : List ℕ) {new : WorldState}
+      (made : new ≡ with_joined name old) where
+    pub joined_kept : IsTold old → length old.names < 68 → IsKept (record store { world = new; desks = now })
     joined_kept told few =
-        kept_by old new writer desks cuts undo room kept (no_more_in old new (with_joined name old) made refl refl) now as_before
-        (subst (λ (w : WorldState). IsHeld w writer now cuts undo room) (sym made) (subst (λ (ds : List Desk). IsHeld (with_joined name old) writer ds cuts undo
-        room) (sym now_is) (joined_held kept.held told name few)))
+        kept_by kept (no_more_in old new (with_joined name old) made refl refl) now
+        (λ u. ap (λ (ds : List Desk). table_at (desk_at u ds)) now_is
+        ∙ new_leaves table_at desk (rests (Some desk) fresh.doing_is (λ undone. refl)) u store.desks)
+        (subst (λ (w : WorldState). IsHeld (record store { world = w; desks = now })) (sym made) (subst (λ (ds : List Desk). IsHeld (record store
+        { world = with_joined name old; desks = ds })) (sym now_is) (joined_held kept.held told name few fresh)))
 
-    pub joined_tasks : (u : ℕ) → task_of u (seen_of undo.table room.stage new writer now).state ≡ task_of u lists.state
+    pub joined_tasks : (u : ℕ) → task_of u (lists_of (record store { world = new; desks = now })).state ≡ task_of u lists.state
     joined_tasks u =
-        tasks_same undo.table room.stage old new writer writer desks now (ap (λ (w : WorldState). w.schemas) made) (ap (λ (w : WorldState). w.versions) made)
-        as_before u ∙ ap (λ (l : Lists). task_of u l.state) view
+        tasks_same store (record store { world = new; desks = now }) (ap (λ (w : WorldState). w.schemas) made) (ap (λ (w : WorldState). w.versions) made)
+        (λ t. ap (λ (ds : List Desk). task_at old (desk_at t ds)) now_is
+        ∙ new_leaves (task_at old) desk (ap (shown old.schemas (left_in old (Some desk))) fresh.doing_is) t store.desks) u
+        ∙ ap (λ (l : Lists). task_of u l.state) view
 
   module _ (joined : s < length lists.state.names) where
     abbrev mine : Session
@@ -151,19 +167,19 @@ module _ (s : ℕ) {old : WorldState} {writer : Option ℕ} {desks : List Desk} 
 
     module _ (moment : ℕ) {new : WorldState} (made : (session : Session) → IsSession s session old → new ≡ acknowledged s moment session old) where
       pub acked_kept : task_of s lists.state ≡ Idle → IsTold old → MayCome lists.state.past (Acked s moment) → length new.past < 2 ^ 63
-          → IsKept new writer desks cuts undo room
+          → IsKept (in_world new)
       acked_kept idle told may few =
           kept_as (made mine its) refl refl (acked_held kept.held s (at_rest s kept view idle) told mine its moment (joined_here s kept view joined)
           (past_here s kept view (λ h. MayCome h (Acked s moment)) may) (few_by (Acked s moment) (made mine its) refl few))
 
-      pub acked_shown : Enters (Acked s moment) s lists (seen new)
+      pub acked_shown : Enters (Acked s moment) s lists (lists_of (in_world new))
       acked_shown =
           enters (Acked s moment) (made mine its) refl refl refl refl (settings_same old.sessions s (record mine { can_ack = false }) its refl) refl
 
     -- ---- a signal
 
     module _ (name : List ℕ) {new : WorldState} (made : new ≡ signalled name old) where
-      pub signal_kept : task_of s lists.state ≡ Idle → IsTold old → length new.past < 2 ^ 63 → IsKept new writer desks cuts undo room
+      pub signal_kept : task_of s lists.state ≡ Idle → IsTold old → length new.past < 2 ^ 63 → IsKept (in_world new)
       signal_kept idle told few =
           kept_as made refl refl (signal_held kept.held s (at_rest s kept view idle) told mine its name (joined_here s kept view joined) (few_by (Signal name)
           made refl few))
@@ -176,16 +192,17 @@ module _ (s : ℕ) {old : WorldState} {writer : Option ℕ} {desks : List Desk} 
       ended_is = made mine its ∙ ap (λ n. item_ended s n reply mine old) count_is
 
       pub ended_kept : task_of s lists.state ≡ Idle → IsTold old → MayCome lists.state.past (Ended s (started s lists.state.past) reply)
-          → length new.past < 2 ^ 63 → IsKept new writer desks cuts undo room
+          → length new.past < 2 ^ 63 → IsKept (in_world new)
       ended_kept idle told may few =
           let count = started s lists.state.past in
           kept_as ended_is refl refl (ended_held kept.held s (at_rest s kept view idle) told mine its count reply (old.rows + rows_of_reply reply)
           (joined_here s kept view joined) (past_here s kept view (λ h. MayCome h (Ended s count reply)) may) (few_by (Ended s count reply) ended_is refl few))
 
-      pub ended_shown : Shows s (λ h. Ended s (started s lists.state.past) reply ∷ h) (λ w. w) (λ x. x) (λ n. n + rows_of_reply reply) lists (seen new)
+      pub ended_shown : Shows s (λ h. Ended s (started s lists.state.past) reply ∷ h) (λ w. w) (λ x. x) (λ n. n + rows_of_reply reply) lists
+          (lists_of (in_world new))
       ended_shown =
-          shows_as (λ h. Ended s (started s lists.state.past) reply ∷ h) (λ w. w) (λ x. x) (λ n. n + rows_of_reply reply) desks ended_is refl refl refl refl
-          (λ u. refl) (settings_same old.sessions s (record mine { can_reply = false }) its refl) refl
+          shows_as (λ h. Ended s (started s lists.state.past) reply ∷ h) (λ w. w) (λ x. x) (λ n. n + rows_of_reply reply) (in_world new) ended_is refl refl
+          refl refl (λ u. refl) refl (settings_same old.sessions s (record mine { can_reply = false }) its refl) refl
 
     -- ---- the start of one
 
@@ -194,24 +211,24 @@ module _ (s : ℕ) {old : WorldState} {writer : Option ℕ} {desks : List Desk} 
       started_is : new ≡ item_started s (started s lists.state.past + 1) item mine old
       started_is = made mine its ∙ ap (λ n. item_started s n item mine old) count_is
 
-      module _ {now : List Desk} (now_is : now ≡ with_start s desks) where
-        same_doing : (u : ℕ) → doing_at u now ≡ doing_at u desks
-        same_doing u = ap (doing_at u) now_is ∙ doing_started s kept view joined u
-
+      module _ {now : List Desk} (now_is : now ≡ with_start s store.desks) where
         pub started_kept : task_of s lists.state ≡ Idle → IsTold old → under_way s lists.state.past ≡ None → length new.past < 2 ^ 63
-            → IsKept new writer now cuts undo room
+            → IsKept (record store { world = new; desks = now })
         started_kept idle told none few =
             let j = started s lists.state.past + 1 in
-            kept_by old new writer desks cuts undo room kept (no_more_in old new (item_started s j item mine old) started_is refl refl) now same_doing
-            (subst (λ (ds : List Desk). IsHeld new writer ds cuts undo room) (sym now_is) (subst (λ (w : WorldState). IsHeld w writer (with_start s desks) cuts
-            undo room) (sym started_is) (started_held kept.held s (at_rest s kept view idle) told mine its j item (joined_here s kept view joined)
-            (past_here s kept view (λ h. under_way s h ≡ None) none) (past_here s kept view (λ h. j ≡ started s h + 1) refl) (few_by (Started s j item)
-            started_is refl few))))
+            kept_by kept (no_more_in old new (item_started s j item mine old) started_is refl refl) now
+            (λ u. ap (λ (ds : List Desk). table_at (desk_at u ds)) now_is ∙ start_leaves table_at (λ desk. refl) s u store.desks)
+            (subst (λ (ds : List Desk). IsHeld (record store { world = new; desks = ds })) (sym now_is) (subst (λ (w : WorldState). IsHeld (record store
+            { world = w; desks = with_start s store.desks })) (sym started_is) (started_held kept.held s (at_rest s kept view idle) told mine its j item
+            (joined_here s kept view joined) (past_here s kept view (λ h. under_way s h ≡ None) none)
+            (past_here s kept view (λ h. j ≡ started s h + 1) refl) (few_by (Started s j item) started_is refl few))))
 
         pub started_shown : Shows s (λ h. Started s (started s lists.state.past + 1) item ∷ h) (λ w. w) (λ x. x) (λ n. n) lists
-            (seen_of undo.table room.stage new writer now)
+            (lists_of (record store { world = new; desks = now }))
         started_shown =
-            shows_as (λ h. Started s (started s lists.state.past + 1) item ∷ h) (λ w. w) (λ x. x) (λ n. n) now started_is refl refl refl refl same_doing
+            shows_as (λ h. Started s (started s lists.state.past + 1) item ∷ h) (λ w. w) (λ x. x) (λ n. n) (record store { world = new; desks = now })
+            started_is refl refl refl refl
+            (λ u. ap (λ (ds : List Desk). task_at old (desk_at u ds)) now_is ∙ start_leaves (task_at old) (λ desk. refl) s u store.desks) refl
             (settings_same old.sessions s (record mine { can_reply = true }) its refl) refl
 
     -- ---- what a session sets
@@ -220,10 +237,10 @@ module _ (s : ℕ) {old : WorldState} {writer : Option ℕ} {desks : List Desk} 
       abbrev after : Session
       after = record mine { setting = set_by stmt 0 false mine.setting }
 
-      pub set_kept : task_of s lists.state ≡ Idle → IsTold old → IsKept new writer desks cuts undo room
+      pub set_kept : task_of s lists.state ≡ Idle → IsTold old → IsKept (in_world new)
       set_kept idle told = kept_as (made mine its) refl refl (unentered_held kept.held s (at_rest s kept view idle) told mine its after refl refl refl)
 
-      pub set_shown : Shows s (λ h. h) (λ w. w) (sets s (set_by stmt 0 false)) (λ n. n) lists (seen new)
+      pub set_shown : Shows s (λ h. h) (λ w. w) (sets s (set_by stmt 0 false)) (λ n. n) lists (lists_of (in_world new))
       set_shown =
           shows_set (sets s (set_by stmt 0 false)) (made mine its) refl refl refl refl (settings_now old.sessions s after (set_by stmt 0 false) its refl) refl
 
@@ -246,12 +263,12 @@ module _ (s : ℕ) {old : WorldState} {writer : Option ℕ} {desks : List Desk} 
             made holder work has ∙ ap (λ (a : List ℕ). view_added s a next holder work old) active_is
             ∙ ap (λ n. view_added s (ids_of old.txns.open_txns) n holder work old) next_is
 
-        pub viewed_kept : task_of s lists.state ≡ Idle → IsTold old → length new.past < 2 ^ 63 → IsKept new writer desks cuts undo room
+        pub viewed_kept : task_of s lists.state ≡ Idle → IsTold old → length new.past < 2 ^ 63 → IsKept (in_world new)
         viewed_kept idle told few =
             kept_as viewed_is refl refl (viewed_held kept.held s (at_rest s kept view idle) told holder has.session_is work has.work_is (few_by (View s)
             viewed_is refl few))
 
-        pub viewed_shown : Enters (View s) s lists (seen new)
+        pub viewed_shown : Enters (View s) s lists (lists_of (in_world new))
         viewed_shown =
             let after : Session = record holder
             { work = Some (record work { view = Some (record { active = ids_of old.txns.open_txns; next = old.txns.next }) }) } in
@@ -273,7 +290,7 @@ module _ (s : ℕ) {old : WorldState} {writer : Option ℕ} {desks : List Desk} 
               done ∙ ap (λ n. with_save n name read.own old) (number_is ∙ its_txn s kept view has)
               ∙ ap (λ n. with_save work.txn name n old) (ap (λ (t : Standing). t.own) (read_is holder has.session_is) ∙ its_own s kept view has.session_is)
 
-          saved_shown : new ≡ with_save number name read.own old → Shows s (λ h. h) (λ w. w) (sets s saves) (λ n. n) lists (seen new)
+          saved_shown : new ≡ with_save number name read.own old → Shows s (λ h. h) (λ w. w) (sets s saves) (λ n. n) lists (lists_of (in_world new))
           saved_shown done =
               let change : Session → Session = λ x. record x { setting = saves x.setting } in
               shows_set (sets s saves) (saved_is done) refl refl refl refl (settings_by old.sessions (change_txn work.txn change old.sessions) s saves
@@ -285,65 +302,112 @@ module _ (s : ℕ) {old : WorldState} {writer : Option ℕ} {desks : List Desk} 
           saved_reset done = (saved_shown done).settings
 
           module _ {T E : Type 0} (result : Result T E) (ok : OnOk result (new ≡ with_save number name read.own old)) (err : OnErr result (new ≡ old)) where
-            pub saved_kept : task_of s lists.state ≡ Idle → IsTold old → IsKept new writer desks cuts undo room
+            pub saved_kept : task_of s lists.state ≡ Idle → IsTold old → IsKept (in_world new)
             saved_kept idle told =
                 by_result result ok err (λ done. kept_as (saved_is done) refl refl (saved_held kept.held s (at_rest s kept view idle) told holder has.session_is
                 work has.work_is name (length (own s lists.state.past)))) (λ failed. kept_as failed refl refl kept.held)
 
-            pub saved_stays : Stays s lists.state (seen new).state
+            pub saved_stays : Stays s lists.state (lists_of (in_world new)).state
             saved_stays = by_result result ok err (λ done. (saved_shown done).state) stays_same
+
+  -- ---- the right to write is taken
+
+  module _ (free : writer_without store.writer s ≡ None) (is_open : IsOpen s lists.state.past) (idle : task_of s lists.state ≡ Idle) (told : IsTold old) where
+    abbrev may_write : Store
+    may_write = record store { writer = Some s }
+
+    locks : Does s kept.held.chains kept.held.chains store may_write
+    locks = record {
+      agreed = kept.held.agrees;
+      agrees = kept.held.agrees;
+      adds = inl refl;
+      told = told;
+      tables = λ n schema there. there;
+      sessions = λ u differs. refl;
+      desks = λ u differs. refl;
+      places = λ u index differs. refl;
+      rights = λ u differs is. absurd (differs (some_same u s (sym is ∙ writer_free s store.writer free u is)));
+      back = λ u differs is. absurd (differs (some_same u s (sym is)));
+      changes = inl refl;
+      kept = inl (refl, λ pointer found is. is);
+    }
+
+    rests_then : is_quiet_doing (doing_at s store.desks) ≡ true
+    rests_then = ap is_quiet_doing (at_rest s kept view idle)
+
+    locked_held : IsHeld may_write
+    locked_held =
+        let held = kept.held in
+        held_after held locks (record {
+          replies = held.has_room.replies s;
+          acks = held.has_room.acks s;
+          ends = held.has_room.ends s;
+          started = held.started s;
+          opened = λ is. past_here s kept view (IsOpen s) is_open;
+          clean = λ other. absurd (other refl);
+          quiet = λ other. absurd (other refl);
+          search = subst (SearchHeld held.chains may_write s) (sym (at_rest s kept view idle)) (record {});
+          rooms = held.rooms s;
+        }) held.fits (quiet_step held locks (moves_leave (none_moves {s = s})) rests_then rests_then) held.logs held.count held.few held.cut held.short
+
+    pub locked_kept : IsKept may_write
+    locked_kept = kept_locked s kept free locked_held
 
   -- ---- the end of a transaction
 
-  module _ (idle : task_of s lists.state ≡ Idle) (told : IsTold old) {later : Option ℕ} (later_is : later ≡ writer_without writer s) {new : WorldState} where
-    closed : {target : WorldState} → new ≡ target → target.indexes ≡ old.indexes → target.schemas ≡ old.schemas
-        → IsHeld new (writer_without writer s) desks cuts undo room → IsKept new later desks cuts undo room
-    closed {target} is indexes schemas held =
-        kept_closed old new writer desks cuts undo room kept (no_more_in old new target is indexes schemas) s later (at_rest s kept view idle) later_is
-        (subst (λ (w : Option ℕ). IsHeld new w desks cuts undo room) (sym later_is) held)
+  module _ {later : Option ℕ} (later_is : later ≡ writer_without store.writer s) {new : WorldState} where
+    module _ (idle : task_of s lists.state ≡ Idle) (told : IsTold old) (few : length new.past < 2 ^ 63) where
+      closed : {target : WorldState} → new ≡ target → target.indexes ≡ old.indexes → target.schemas ≡ old.schemas
+          → IsHeld (record store { world = new; writer = writer_without store.writer s }) → IsKept (record store { world = new; writer = later })
+      closed {target} is indexes schemas =
+          kept_closed kept (no_more_in old new target is indexes schemas) s (at_rest s kept view idle) later_is
 
-    pub committed_kept : length new.past < 2 ^ 63 → IsCommitted s old new → IsKept new later desks cuts undo room
-    committed_kept few ends =
-        closed ends.rest refl refl (committed_held kept.held s (at_rest s kept view idle) told (few_by (Committed s) ends.rest refl few) ends)
+      pub committed_kept : IsCommitted s old new → IsKept (record store { world = new; writer = later })
+      committed_kept ends =
+          closed ends.rest refl refl (committed_held kept.held s (at_rest s kept view idle) told (few_by (Committed s) ends.rest refl few) ends)
 
-    pub rolled_back_kept : own s lists.state.past ≡ [] → length new.past < 2 ^ 63 → IsRolledBack s old new → IsKept new later desks cuts undo room
-    rolled_back_kept none few ends =
-        closed ends.rest refl refl (rolled_back_held kept.held s (at_rest s kept view idle) told (few_by (RolledBack s) ends.rest refl few) (past_here s kept
-        view (λ h. own s h ≡ []) none) ends)
+      pub rolled_back_kept : own s lists.state.past ≡ [] → IsRolledBack s old new → IsKept (record store { world = new; writer = later })
+      rolled_back_kept none ends =
+          closed ends.rest refl refl (rolled_back_held kept.held s (at_rest s kept view idle) told (few_by (RolledBack s) ends.rest refl few)
+          (past_here s kept view (λ h. own s h ≡ []) none) ends)
 
-  -- its session has the settings that come back at the end
-  module _ {later : Option ℕ} (later_is : later ≡ writer_without writer s) {new : WorldState} where
+    -- its session has the settings that come back at the end
     pub committed_shown : IsCommitted s old new
-        → Shows s (λ h. Committed s ∷ h) (λ w. writer_without w s) (sets s at_end) (λ n. n) lists (seen_of undo.table room.stage new later desks)
+        → Shows s (λ h. Committed s ∷ h) (λ w. writer_without w s) (sets s at_end) (λ n. n) lists (lists_of (record store { world = new; writer = later }))
     committed_shown ends =
         let after : Session = record ends.session { setting = at_end ends.session.setting; work = None; can_ack = true } in
         closes (Committed s) later_is ends.rest refl refl refl refl (settings_now old.sessions s after at_end ends.has_work.session_is refl) refl
 
     pub rolled_back_shown : IsRolledBack s old new
-        → Shows s (λ h. RolledBack s ∷ h) (λ w. writer_without w s) (sets s at_end) (λ n. n) lists (seen_of undo.table room.stage new later desks)
+        → Shows s (λ h. RolledBack s ∷ h) (λ w. writer_without w s) (sets s at_end) (λ n. n) lists (lists_of (record store { world = new; writer = later }))
     rolled_back_shown ends =
         let after : Session = record ends.session { setting = at_end ends.session.setting; work = None } in
         closes (RolledBack s) later_is ends.rest refl refl refl refl (settings_now old.sessions s after at_end ends.has_work.session_is refl) refl
 
 -- ---- a transaction opens: room is taken for there_was entries, it begins, and the history tells it
 
-module _ (s : ℕ) {old : WorldState} {writer : Option ℕ} {desks : List Desk} {cuts : ℕ} {undo : UndoRoom} {room : WorkRoom} {lists : Lists}
-    (kept : IsKept old writer desks cuts undo room) (view : seen_of undo.table room.stage old writer desks ≡ lists) (joined : s < length lists.state.names)
-    {mid : WorldState} (made : (session : Session) → IsSession s session old → mid ≡ with_room s session old) where
+module _ (s : ℕ) {store : Store} {lists : Lists} (kept : IsKept store) (view : lists_of store ≡ lists) (joined : s < length lists.state.names)
+    {mid : WorldState} (made : (session : Session) → IsSession s session store.world → mid ≡ with_room s session store.world) where
+  abbrev before : WorldState
+  before = store.world
+
+  abbrev now_in : WorldState → Store
+  now_in new = record store { world = new }
+
   abbrev was : Session
   was = (its_session s kept view joined).0
 
-  there_was : IsSession s was old
+  there_was : IsSession s was before
   there_was = (its_session s kept view joined).1
 
   abbrev roomed : Session
   roomed = record was { can_begin = true; can_change = true }
 
-  mid_is : mid ≡ with_room s was old
+  mid_is : mid ≡ with_room s was before
   mid_is = made was there_was
 
   here : IsSession s roomed mid
-  here = ap (λ (w : WorldState). slice_get w.sessions s) mid_is ∙ set_here old.sessions s was roomed there_was
+  here = ap (λ (w : WorldState). slice_get w.sessions s) mid_is ∙ set_here before.sessions s was roomed there_was
 
   is_none : IsClosed s lists.state.past → roomed.work ≡ None
   is_none closed = closed_none kept.held s there_was (past_here s kept view (IsClosed s) closed)
@@ -354,20 +418,20 @@ module _ (s : ℕ) {old : WorldState} {writer : Option ℕ} {desks : List Desk} 
   pub few_begun : mid.txns.begun < 2 ^ 64 - 1
   few_begun =
       let begun = ap (λ (w : WorldState). w.txns.begun) mid_is in
-      omega (arith, begun, ap (λ (t : Txns). t.begun) kept.held.agrees.lists.txns_are, begins_few old.past, kept.held.agrees.lists.small)
+      omega (arith, begun, ap (λ (t : Txns). t.begun) kept.held.agrees.lists.txns_are, begins_few before.past, kept.held.agrees.lists.small)
 
-  mid_held : task_of s lists.state ≡ Idle → IsTold old → IsHeld (with_room s was old) writer desks cuts undo room
+  mid_held : task_of s lists.state ≡ Idle → IsTold before → IsHeld (now_in (with_room s was before))
   mid_held idle told = unentered_held kept.held s (at_rest s kept view idle) told was there_was roomed refl refl refl
 
   -- ---- it finds no memory to begin
 
   module _ {new : WorldState} (same : new ≡ mid) where
-    pub roomed_kept : task_of s lists.state ≡ Idle → IsTold old → IsKept new writer desks cuts undo room
+    pub roomed_kept : task_of s lists.state ≡ Idle → IsTold before → IsKept (now_in new)
     roomed_kept idle told = kept_as s kept view (same ∙ mid_is) refl refl (mid_held idle told)
 
-    pub roomed_shown : Shows s (λ h. h) (λ w. w) (λ x. x) (λ n. n) lists (seen_of undo.table room.stage new writer desks)
+    pub roomed_shown : Shows s (λ h. h) (λ w. w) (λ x. x) (λ n. n) lists (lists_of (now_in new))
     roomed_shown =
-        shows_set s kept view (λ x. x) (same ∙ mid_is) refl refl refl refl (settings_same old.sessions s roomed there_was refl) refl
+        shows_set s kept view (λ x. x) (same ∙ mid_is) refl refl refl refl (settings_same before.sessions s roomed there_was refl) refl
 
   -- ---- it begins
 
@@ -398,11 +462,11 @@ module _ (s : ℕ) {old : WorldState} {writer : Option ℕ} {desks : List Desk} 
           told_of first fresh has_begun ∙ ap (λ n. begin_added s n level first fresh next) number_is
           ∙ ap (λ (w : WorldState). begin_added s (mid.txns.begun + 1) level first fresh w) (began roomed here)
 
-      pub opened_kept : task_of s lists.state ≡ Idle → IsTold old → IsTold mid → IsClosed s lists.state.past → length new.past < 2 ^ 63
-          → IsKept new writer desks cuts undo room
+      pub opened_kept : task_of s lists.state ≡ Idle → IsTold before → IsTold mid → IsClosed s lists.state.past → length new.past < 2 ^ 63
+          → IsKept (now_in new)
       opened_kept idle told told_mid closed few =
           kept_as s kept view new_is (ap (λ (w : WorldState). w.indexes) mid_is) (ap (λ (w : WorldState). w.schemas) mid_is)
-          (opened_held (subst (λ (w : WorldState). IsHeld w writer desks cuts undo room) (sym mid_is) (mid_held idle told)) s (at_rest s kept view idle)
+          (opened_held (subst (λ (w : WorldState). IsHeld (now_in w)) (sym mid_is) (mid_held idle told)) s (at_rest s kept view idle)
           told_mid roomed here level (is_none closed) (subst (λ h. IsClosed s h) (sym (ap (λ (w : WorldState). w.past) mid_is)) (past_here s kept view
           (IsClosed s) closed)) (omega (arith, few, ap length (ap (λ (w : WorldState). w.past) new_is))))
 
@@ -412,16 +476,16 @@ module _ (s : ℕ) {old : WorldState} {writer : Option ℕ} {desks : List Desk} 
           ∙ ap (λ (l : Lists). begins l.state.past + 1) view
 
       pub opened_shown : Shows s (λ h. Begin s (begins lists.state.past + 1) level ∷ h) (λ w. w) (sets s at_begin) (λ n. n) lists
-          (seen_of undo.table room.stage new writer desks)
+          (lists_of (now_in new))
       opened_shown =
           let target : WorldState = opened s level roomed mid in
           let base : List Session = slice_set mid.sessions s first in
           let last : Session = record first { can_begin = false; work = Some (record fresh { can_end = true }) } in
-          shows_as s kept view (λ h. Begin s (begins lists.state.past + 1) level ∷ h) (λ w. w) (sets s at_begin) (λ n. n) desks new_is
+          shows_as s kept view (λ h. Begin s (begins lists.state.past + 1) level ∷ h) (λ w. w) (sets s at_begin) (λ n. n) (now_in new) new_is
           (ap (λ (w : WorldState). w.names) mid_is)
           (ap (λ n. Begin s n level ∷ mid.past) count_is ∙ ap (λ (w : WorldState). Begin s (begins lists.state.past + 1) level ∷ w.past) mid_is)
-          (ap (λ (w : WorldState). w.schemas) mid_is) (ap (λ (w : WorldState). w.versions) mid_is) (λ u. refl)
-          (settings_by old.sessions target.sessions s at_begin (length-set base s last ∙ length-set mid.sessions s first
-          ∙ ap (λ (w : WorldState). length w.sessions) mid_is ∙ length-set old.sessions s roomed) there_was (set_here base s first last (set_here mid.sessions s
-          roomed first here)) refl (λ u differ. set_other base s u last differ ∙ set_other mid.sessions s u first differ ∙ ap (λ (w : WorldState). slice_get
-          w.sessions u) mid_is ∙ set_other old.sessions s u roomed differ)) (ap (λ (w : WorldState). w.rows) mid_is)
+          (ap (λ (w : WorldState). w.schemas) mid_is) (ap (λ (w : WorldState). w.versions) mid_is) (λ u. refl) refl
+          (settings_by before.sessions target.sessions s at_begin (length-set base s last ∙ length-set mid.sessions s first
+          ∙ ap (λ (w : WorldState). length w.sessions) mid_is ∙ length-set before.sessions s roomed) there_was (set_here base s first last
+          (set_here mid.sessions s roomed first here)) refl (λ u differ. set_other base s u last differ ∙ set_other mid.sessions s u first differ
+          ∙ ap (λ (w : WorldState). slice_get w.sessions u) mid_is ∙ set_other before.sessions s u roomed differ)) (ap (λ (w : WorldState). w.rows) mid_is)

@@ -1,5 +1,5 @@
 -- What making a table leaves of the lists.
-use Rattle.std.proofs.Common.{◌≡◌, ◌≢◌, ℕ, ◌+◌, ◌-◌, ◌<◌, ◌^◌, true, Some, List, ◌∷◌, ◌++◌, length, Option, refl, sym, ap, subst, ◌∙◌, arith, inl, inr, []}
+use Rattle.std.proofs.Common.{◌≡◌, ◌≢◌, ℕ, ◌+◌, ◌-◌, ◌<◌, ◌^◌, true, Some, List, ◌∷◌, ◌++◌, length, refl, sym, ap, subst, ◌∙◌, arith, inl, inr, []}
 use Rattle.std.specs.Prelude.{slice_get}
 use Rattle.std.proofs.lemmas.Bool.Decides.{eqb_tells}
 use Rattle.std.proofs.lemmas.List.{length-set, set-get_or}
@@ -12,20 +12,20 @@ use Rattle.txn_table.specs.Txns.{Txns, is_there, id_at}
 use Rattle.world.specs.State.{WorldState, Session, Work, IsSession, HasWork, standing_of, id_of, index_of}
 use Rattle.law_world_agreement.specs.Steps.{IsChangedBy}
 use Rattle.law_world_agreement.proofs.Opening.{set_here, set_other}
-use Rattle.undo_apply.specs.declared.work_room.WorkRoom.{WorkRoom}
 use Rattle.row_changes.proofs.Ids.{gives_new_id, keeps_id}
 use Rattle.desks.specs.declared.desk.Doing.TheVariants.{Nothing, Searching, Changing, Lagging, Undoing}
+use Rattle.entries.specs.Index.{Index}
 use Rattle.law_held_steps.specs.SeenEntries.{settings_of}
 use Rattle.desks.proofs.Showing.{task_is}
-use Rattle.world_lists.specs.Between.{IsKept, can_await}
-use Rattle.world_lists.proofs.Awaiting.{created_kept}
+use Rattle.world_lists.specs.Between.{IsKept}
+use Rattle.world_lists.proofs.Awaiting.{awaits_of_nobody, awaits_none, rests as rests_at}
 use Rattle.world_lists.proofs.Calls.{past_here, its_listed, its_txn, at_rest, writer_now}
 use Rattle.inno_model.specs.{declared.event.Event.TheVariants.Changed, Past.own, Past.txn}
-use Rattle.world.specs.{Told.IsTold, Sessions.identified, declared.undo_room.UndoRoom.UndoRoom, EngineCalls.MakesTable}
+use Rattle.world.specs.{Told.IsTold, Sessions.identified, EngineCalls.MakesTable}
 use Rattle.row_changes.specs.{Records.IsListed, Records.id_for, Records.txns_with_id, Entering.GivesId}
 use Rattle.shared_lists.specs.{Tasks.Idle, State.Lists, State.task_of, State.Adds}
-use Rattle.desks.specs.{declared.desk.Desk.Desk, declared.desk.Doing.Doing, Desks.doing_at, Desks.is_quiet_doing, Shown.shown, Shown.seen_of}
-use Rattle.desks.specs.{Undoing.undo_left_in, Holding.IsHeld}
+use Rattle.desks.specs.{declared.desk.Doing.Doing, Store.Store, Desks.desk_at, Desks.doing_at, Desks.is_quiet_doing, Shown.shown, Shown.lists_of}
+use Rattle.desks.specs.{Undoing.left_in}
 use Rattle.law_held_steps.proofs.{Showing.settings_by, Tables.created_held}
 use Rattle.law_held_steps.proofs.AnyStep.{some_same}
 
@@ -115,13 +115,6 @@ module _ {s : ℕ} {schema : Schema} {old mid : WorldState} (makes : MakesTable 
         settings_by old.sessions new.sessions s (λ x. x) same_count makes.has_work.session_is gives.now refl same_else
         ∙ set-get_or (settings_of old.sessions) s at_first
 
-    pub created_now : (cuts : ℕ) (undo : UndoRoom) (room : WorkRoom) (desks : List Desk) → IsHeld old (Some s) desks cuts undo room → doing_at s desks ≡ Nothing
-        → IsTold old → IsTold new → IsStorable schema → length new.past < 2 ^ 63 → own s old.past ≡ [] → IsHeld new (Some s) desks cuts undo room
-    created_now cuts undo room desks held rests told told_now storable few none =
-        created_held held rests told told_now changed_by refl refl refl (λ index. ap (λ (w : WorldState). w.indexes index) gives.rest ∙ makes.same index)
-        (ap (λ (w : WorldState). w.versions) gives.rest ∙ ap (λ (w : WorldState). w.versions) makes.rest) (λ which within. ap (λ (w : WorldState). w.indexes
-        (index_of (length old.schemas) which)) gives.rest ∙ makes.empty which within) storable (omega (arith, few, ap length past_is)) none
-
 -- ---- what callers see
 
 quiet_shown : (schemas others : List Schema) (left other : ℕ) (doing : Doing) → is_quiet_doing doing ≡ true
@@ -134,9 +127,11 @@ quiet_shown schemas others left other Undoing quiet = absurd (cc)
 
 -- ---- a call that makes a table
 
-module _ (s : ℕ) {old : WorldState} {writer : Option ℕ} {desks : List Desk} {cuts : ℕ} {undo : UndoRoom} {room : WorkRoom} {lists : Lists}
-    (kept : IsKept old writer desks cuts undo room) (view : seen_of undo.table room.stage old writer desks ≡ lists)
-    {schema : Schema} {mid : WorldState} (makes : MakesTable s schema old mid) {number : ℕ} (number_is : number ≡ txn s lists.state.past) where
+module _ (s : ℕ) {store : Store} {lists : Lists} (kept : IsKept store) (view : lists_of store ≡ lists) {schema : Schema} {mid : WorldState}
+    (makes : MakesTable s schema store.world mid) {number : ℕ} (number_is : number ≡ txn s lists.state.past) where
+  abbrev old : WorldState
+  old = store.world
+
   listed : IsListed s makes.work old
   listed = its_listed s kept view makes.has_work
 
@@ -168,34 +163,42 @@ module _ (s : ℕ) {old : WorldState} {writer : Option ℕ} {desks : List Desk} 
       table_rows = rows_are makes listed gives ∙ ap (λ (l : Lists). l.rows) view
 
       module _ (locked : lists.state.writer ≡ Some s) (idle : task_of s lists.state ≡ Idle) where
-        its : writer ≡ Some s
+        its : store.writer ≡ Some s
         its = writer_now s kept view locked
 
-        rests : doing_at s desks ≡ Nothing
+        rests : doing_at s store.desks ≡ Nothing
         rests = at_rest s kept view idle
 
-        pub table_kept : IsTold old → IsTold new → IsStorable schema → length new.past < 2 ^ 63 → own s lists.state.past ≡ []
-            → IsKept new writer desks cuts undo room
-        table_kept told told_now storable few none =
-            created_kept old new writer desks cuts undo room kept s its (ap can_await rests) (λ index. ap (λ (w : WorldState). w.indexes index) gives.rest
-            ∙ makes.same index) (subst (λ (w : Option ℕ). IsHeld new w desks cuts undo room) (sym its) (created_now makes listed gives cuts undo room desks
-            (subst (λ (w : Option ℕ). IsHeld old w desks cuts undo room) its kept.held) rests told told_now storable few (past_here s kept view
-            (λ h. own s h ≡ []) none)))
+        abbrev made : Store
+        made = record store { world = new }
 
-        all_quiet : (u : ℕ) → is_quiet_doing (doing_at u desks) ≡ true
+        same_index : (index : ℕ) → new.indexes index ≡ old.indexes index
+        same_index index = ap (λ (w : WorldState). w.indexes index) gives.rest ∙ makes.same index
+
+        -- who makes a table is at rest, so nobody is awaited
+        pub table_kept : IsTold old → IsTold new → IsStorable schema → length new.past < 2 ^ 63 → own s lists.state.past ≡ [] → IsKept made
+        table_kept told told_now storable few none = record {
+          held = created_held kept.held its rests told told_now (changed_by makes listed gives) refl refl refl same_index
+              (ap (λ (w : WorldState). w.versions) gives.rest ∙ ap (λ (w : WorldState). w.versions) makes.rest) (λ which within. ap (λ (w : WorldState).
+              w.indexes (index_of (length old.schemas) which)) gives.rest ∙ makes.empty which within) storable
+              (omega (arith, few, ap length (past_is makes listed gives))) (past_here s kept view (λ h. own s h ≡ []) none);
+          awaits = awaits_of_nobody made (λ index by is. awaits_none s kept.awaits its (rests_at (desk_at s store.desks) rests (λ undone. refl)) index by
+              (sym (ap (λ (at : Index). at.awaited) (same_index index)) ∙ is));
+        }
+
+        all_quiet : (u : ℕ) → is_quiet_doing (doing_at u store.desks) ≡ true
         all_quiet u = elim (eqb_tells u s) [
-          | inl same ↦ ap (λ v. is_quiet_doing (doing_at v desks)) same.1 ∙ ap is_quiet_doing rests
+          | inl same ↦ ap (λ v. is_quiet_doing (doing_at v store.desks)) same.1 ∙ ap is_quiet_doing rests
           | inr differ ↦ kept.held.quiet u (λ same. differ.1 (sym (some_same s u (sym its ∙ same))))
         ]
 
-        pub table_adds : Adds (Changed s (Create schema)) s lists.state (seen_of undo.table room.stage new writer desks).state
+        pub table_adds : Adds (Changed s (Create schema)) s lists.state (lists_of made).state
         table_adds =
-            let seen : WorldState → Lists = λ state. seen_of undo.table room.stage state writer desks in
-            let left : WorldState → ℕ = undo_left_in undo.table room.stage in
-            let same : (u : ℕ) → task_of u (seen new).state ≡ task_of u (seen old).state
-            = λ u. task_is u (left new) new writer desks ∙ quiet_shown new.schemas old.schemas (left new) (left old) (doing_at u desks) (all_quiet u)
-            ∙ sym (task_is u (left old) old writer desks) in
-            subst (λ (l : Lists). Adds (Changed s (Create schema)) s l.state (seen new).state) view (record {
+            let left : Store → ℕ → ℕ = λ now u. left_in now.world (desk_at u store.desks) in
+            let same : (u : ℕ) → task_of u (lists_of made).state ≡ task_of u (lists_of store).state
+            = λ u. task_is u made ∙ quiet_shown new.schemas old.schemas (left made u) (left store u) (doing_at u store.desks) (all_quiet u)
+            ∙ sym (task_is u store) in
+            subst (λ (l : Lists). Adds (Changed s (Create schema)) s l.state (lists_of made).state) view (record {
               names_are = names_are makes listed gives;
               past_is = past_is makes listed gives;
               writer_is = refl;

@@ -1,9 +1,8 @@
-use Rattle.std.proofs.Common.{rules, sym, ◌∙◌}
-use Rattle.world_lists.proofs.Awaiting.{kept_locked}
+use Rattle.std.proofs.Common.{sym, ◌∙◌}
+use Rattle.world_lists.proofs.Made.{locked_kept}
 use Rattle.world_lists.proofs.steps.WorldListsSharedLists.lock.Goals as goal
 
 pub invariant_of-self : goal.invariant_of-self
 invariant_of-self g c =
-    let l = c.self.inside in
-    kept_locked c.args.session (g.W.World.state l.world) l.writer l.desks.items l.cuts l.undo l.room c.self.invariant
-    (sym c.without.ensures ∙ c.in-None.is) (search rules)
+    locked_kept c.args.session c.self.invariant c.self.view_is (sym c.without.ensures ∙ c.in-None.is) c.requires.is_open c.requires.idle
+    (g.met.W.EngineWorld.tells c.self.inside.world).told
