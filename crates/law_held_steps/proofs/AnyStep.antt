@@ -2,15 +2,15 @@
 -- desks, searches, rooms and rows.
 use Rattle.std.proofs.Common.{◌≡◌, ◌≢◌, ⊎_elim, inl, inr, ℕ, ◌==◌, Bool, false, cond, eq-eqb, ◌≤◌, true, List, ◌∷◌, length, Option, Some, None, refl, sym, ap}
 use Rattle.std.proofs.Common.{[], subst, ◌∙◌, arith}
-use Rattle.std.specs.Prelude.{slice_get, is_some}
 use Rattle.std.proofs.lemmas.Bool.{cases_eq, false≢true}
+use Rattle.std.specs.Prelude.{slice_get, is_some}
 use Rattle.inno_types.specs.declared.value.Schema.{Schema}
-use Rattle.inno_model.specs.declared.event.Event.{Event}
-use Rattle.inno_model.specs.Past.{own, started, under_way, of_item, awaits_ack, level, IsOpen}
+use Rattle.inno_model.specs.{declared.event.Event.Event, Past.own, Past.started, Past.under_way, Past.of_item, Past.awaits_ack, Past.level, Past.IsOpen}
 use Rattle.inno_model.proofs.Untouched.{IsUntouched, untouched}
 use Rattle.store_api.specs.declared.answers.Undo.{Undo}
 use Rattle.law_past_agreement.specs.Rows.{place_in}
 use Rattle.world.specs.State.{WorldState, Session, Work, Logged, IsSession, HasWork}
+use Rattle.world.specs.{Told.IsTold, Told.LeavesRows, Undoing.read_into}
 use Rattle.law_world_agreement.specs.Agreement.{Agrees}
 use Rattle.undo_apply.proofs.Goes.{others_leave}
 use Rattle.law_stored_rows.specs.Tables.{what_is_there}
@@ -19,16 +19,15 @@ use Rattle.law_found_rows.specs.Pasts.{AddsAtMostOne}
 use Rattle.law_found_rows.proofs.Seen.{other_of}
 use Rattle.desks.specs.declared.desk.Doing.TheVariants.{Nothing, Searching, Changing, Lagging, Undoing}
 use Rattle.desks.specs.Holding.{AreFew, IsLast, IsLastIfTold, RowsHeld, RowsHeldAt, RowsHeldBy, SearchHeld, IsHeld}
+use Rattle.desks.specs.Desks.{Store, desk_at, doing_in, doing_at, started_in, started_at, is_quiet_doing, HasRooms}
+use Rattle.desks.specs.{declared.desk.Desk.Desk, declared.desk.Doing.Doing, Leaves.Does}
 use Rattle.desks.proofs.Leaving.{search_left}
 use Rattle.row_versions.specs.{Versions.Stays, declared.place.Place.Place, Chains.Chains}
-use Rattle.world.specs.{Told.IsTold, Told.LeavesRows, Undoing.read_into}
-use Rattle.row_changes.specs.{Told.HasRows, declared.row_change.RowChange.RowChange, declared.row_change.RowChange.TheVariants.Record}
-use Rattle.row_changes.specs.{declared.row_change.RowChange.TheVariants.Keys}
+use Rattle.row_changes.specs.declared.row_change.RowChange.TheVariants.{Record, Keys}
+use Rattle.row_changes.specs.{Told.HasRows, declared.row_change.RowChange.RowChange}
 use Rattle.undo_apply.specs.declared.work_room.WorkRoom.{WorkRoom}
 use Rattle.law_logged_changes.specs.{Logs.IsLogOf, Logs.LogsAgree, Steps.ChangesPairsAlone}
-use Rattle.law_logged_changes.proofs.{Leaving.work_beside, Leaving.agrees_beside, Leaving.has_rows_left, Leaving.change_left}
-use Rattle.desks.specs.{declared.desk.Desk.Desk, declared.desk.Doing.Doing, Desks.Store, Leaves.Does}
-use Rattle.desks.specs.Desks.{desk_at, doing_in, doing_at, started_in, started_at, is_quiet_doing, HasRooms}
+use Rattle.law_logged_changes.proofs.Leaving.{work_beside, agrees_beside, has_rows_left, change_left}
 
 pub some_same : {X : Type 0} (a b : X) → Some a ≡ Some b → a ≡ b
 some_same a b same = cc

@@ -4,47 +4,42 @@ use Rattle.std.proofs.Common.{◌≡◌, ◌≢◌, ℕ, ◌+◌, ◌<◌, true,
 use Rattle.std.proofs.Common.{inr, eq-eqb, ⊎_elim, Bool, cond, zero, suc, ◌++◌, ◌≤◌}
 use Rattle.std.proofs.lemmas.List.{length-set, set-get_or, length-map, length-append}
 use Rattle.std.proofs.lemmas.Option.{get_or_from_slice_get, slice_get-map, slice_get_within}
+use Rattle.std.proofs.{lemmas.Bool.Decides.nat_tests, lemmas.Bool.Decides.eqb_tells, lemmas.Bool.false≢true}
 use Rattle.std.specs.Prelude.{slice_get, is_some, option_map, ◌≤◌, slice_set}
 use Rattle.inno_model.specs.Past.{own, started, under_way, of_item, awaits_ack, level, IsOpen, IsClosed}
 use Rattle.inno_model.specs.declared.event.Event.TheVariants.{Started, Ended, Acked, Signal, Begin, View, Committed, RolledBack, Changed}
+use Rattle.inno_model.specs.declared.event.Event.{Event}
 use Rattle.world.specs.State.{WorldState, Session, Work, IsSession, HasWork, index_of}
-use Rattle.law_logged_changes.specs.Steps.{LeavesLog, HasNoLog, LeavesLogs, OfAll}
-use Rattle.desks.specs.Desks.{desk_at, with_start, doing_at, started_at, is_quiet_doing, HasRooms, doing_in, started_in, IsNewDesk}
+use Rattle.world.specs.EngineCalls.{item_started, acknowledged, signalled, fresh_session, joined}
+use Rattle.world.specs.{Told.IsTold, Told.LeavesRows, Told.pairs_in, Told.pairs_of, Sessions.fresh_work, Sessions.of_txn, Sessions.change_txn}
+use Rattle.world.specs.{Sessions.with_save, Endings.IsCommitted, Endings.IsRolledBack}
+use Rattle.law_logged_changes.specs.{Steps.LeavesLog, Steps.HasNoLog, Steps.LeavesLogs, Steps.OfAll, Logs.LogsAgree, Logs.IsLogOf}
+use Rattle.desks.specs.Desks.{desk_at, with_start, doing_at, started_at, is_quiet_doing, HasRooms, doing_in, started_in, IsNewDesk, Store}
+use Rattle.desks.specs.Holding.{SearchHeld, IsHeld, IsFresh, RowsHeldAt, RowsHeldBy}
+use Rattle.desks.specs.{declared.desk.Desk.Desk, declared.desk.Doing.TheVariants.Nothing, Leaves.Does}
 use Rattle.law_logged_changes.proofs.Leaving.{rows_leave, all_left, more_grow}
 use Rattle.law_held_steps.proofs.AnyStep.{some_same, each, others_past, past_grows, quiet_step, held_after, waits_not, quiet_rows_at, rows_quiet_at}
+use Rattle.law_held_steps.proofs.Desks.{desk_elsewhere, as_many}
 use Rattle.law_world_agreement.proofs.Entries.{started_agrees, ended_agrees, acked_agrees, signal_agrees, unentered_agrees}
-use Rattle.law_world_agreement.specs.Steps.{IsEntered as IsSettled, opened, viewed, session_begun, IsChangedBy}
-use Rattle.world.specs.Told.{IsTold, LeavesRows, pairs_in, pairs_of}
-use Rattle.world.specs.EngineCalls.{item_started, acknowledged, signalled, fresh_session, joined}
-use Rattle.world.specs.Sessions.{fresh_work, of_txn, change_txn, with_save}
-use Rattle.desks.specs.Holding.{SearchHeld, IsHeld, IsFresh, RowsHeldAt, RowsHeldBy}
-use Rattle.law_world_agreement.proofs.Opening.{set_here, set_other, opened_agrees, viewed_agrees}
-use Rattle.law_world_agreement.proofs.Ending.{one_session_of, committed_agrees, rolled_back_agrees}
-use Rattle.law_past_agreement.specs.Agreement.{owed_by, owed_by_txn, owed_by_item}
+use Rattle.law_world_agreement.proofs.{Opening.set_here, Opening.set_other, Opening.opened_agrees, Opening.viewed_agrees, Ending.one_session_of}
+use Rattle.law_world_agreement.proofs.{Ending.committed_agrees, Ending.rolled_back_agrees, Joining.first_agrees, Joining.joined_agrees, Changing.created_agrees}
+use Rattle.law_world_agreement.specs.{Steps.IsEntered as IsSettled, Steps.opened, Steps.viewed, Steps.session_begun, Steps.IsChangedBy, Agreement.Agrees}
+use Rattle.law_past_agreement.specs.{Agreement.owed_by, Agreement.owed_by_txn, Agreement.owed_by_item, Slots.writer_without, Order.MayCome}
 use Rattle.law_stored_rows.specs.Tables.{HasItsColumns, HasNoPairs, AreCoded}
-use Rattle.std.proofs.{lemmas.Bool.Decides.nat_tests, lemmas.Bool.Decides.eqb_tells, lemmas.Bool.false≢true}
-use Rattle.inno_model.specs.{declared.event.Event.Event}
-use Rattle.law_held_steps.specs.{Leaving.LeavesDesks, Leaving.HasSameRows}
-use Rattle.entries.specs.{Index.Index, Index.AreKept, Pairs.Pair, Lists.empty_index}
-use Rattle.row_versions.specs.{Versions.Stays}
-use Rattle.shared_lists.specs.{Fitting.FitsThen}
-use Rattle.law_found_rows.specs.{Pasts.AddsAtMostOne}
-use Rattle.sql_history.specs.{Settings.at_end, Settings.saved}
-use Rattle.law_past_agreement.proofs.{Ids.ids_of}
-use Rattle.txn_table.specs.{Txns.ids_of as listed_ids}
-use Rattle.law_past_agreement.specs.{Slots.writer_without, Order.MayCome}
-use Rattle.world.specs.{Endings.IsCommitted, Endings.IsRolledBack}
-use Rattle.desks.specs.{declared.desk.Desk.Desk, declared.desk.Doing.TheVariants.Nothing, Desks.Store, Leaves.Does}
-use Rattle.row_changes.proofs.{Sessions.same_pairs, Sessions.same_versions}
-use Rattle.law_world_agreement.specs.{Agreement.Agrees}
-use Rattle.inno_types.specs.{declared.reply.Item.Item, declared.reply.Reply.Reply, declared.lock.Level.Level, declared.value.Schema.Schema}
-use Rattle.law_held_steps.proofs.{Desks.desk_elsewhere, Desks.as_many}
-use Rattle.inno_db.specs.{declared.change.Change.TheVariants.Create}
-use Rattle.law_stored_rows.proofs.{Made.a_table_more}
-use Rattle.row_changes.specs.{Told.HasRows}
-use Rattle.law_world_agreement.proofs.{Joining.first_agrees, Joining.joined_agrees, Changing.created_agrees}
 use Rattle.law_stored_rows.specs.{Storable.IsStorable, Storable.IsKeyOn, Edits.clustered_index, Edits.key_index}
-use Rattle.law_logged_changes.specs.{Logs.LogsAgree, Logs.IsLogOf}
+use Rattle.law_held_steps.specs.Leaving.{LeavesDesks, HasSameRows}
+use Rattle.entries.specs.{Index.Index, Index.AreKept, Pairs.Pair, Lists.empty_index}
+use Rattle.row_versions.specs.Versions.{Stays}
+use Rattle.shared_lists.specs.Fitting.{FitsThen}
+use Rattle.law_found_rows.specs.Pasts.{AddsAtMostOne}
+use Rattle.sql_history.specs.Settings.{at_end, saved}
+use Rattle.law_past_agreement.proofs.Ids.{ids_of}
+use Rattle.txn_table.specs.Txns.{ids_of as listed_ids}
+use Rattle.row_changes.proofs.Sessions.{same_pairs, same_versions}
+use Rattle.inno_types.specs.{declared.reply.Item.Item, declared.reply.Reply.Reply, declared.lock.Level.Level, declared.value.Schema.Schema}
+use Rattle.inno_db.specs.declared.change.Change.TheVariants.{Create}
+use Rattle.law_stored_rows.proofs.Made.{a_table_more}
+use Rattle.row_changes.specs.Told.{HasRows}
 
 -- a transaction whose log and changes are as they were
 pub same_log : {t : ℕ} {old new : WorldState} {session : Session} {before work : Work} → HasWork t session before old → work.log ≡ before.log
@@ -342,7 +337,8 @@ module _ {store : Store} (held : IsHeld store) (t : ℕ) (rests : doing_at t sto
         let after : Session = record session { work = Some seen } in
         entered_by held rests told (set_here old.sessions t session after there) (record { indexes = refl; versions = refl; schemas = refl })
         (same_writer (others after) (held.rooms t)) (viewed_agrees held.chains old t session work held.agrees has_work few)
-        (inr (View t, eq-eqb t t refl, refl)) held.count held.few held.fits (λ w is_w. same_log has_work (ap (λ (x : Work). x.log) (sym (some_same seen w is_w))) refl)
+        (inr (View t, eq-eqb t t refl, refl)) held.count held.few held.fits
+            (λ w is_w. same_log has_work (ap (λ (x : Work). x.log) (sym (some_same seen w is_w))) refl)
         (held.has_room.replies t session there) (λ waits. absurd (waits_not t (View t ∷ of_item t old.past) old.past waits refl))
         (λ w is_w. ap (λ (x : Work). x.can_end) (sym (some_same seen w is_w)) ∙ held.has_room.ends t session work has_work) (held.started t)
         (held.writes.opened t) (held.writes.clean t)
@@ -367,7 +363,8 @@ module _ {store : Store} (held : IsHeld store) (t : ℕ) (rests : doing_at t sto
           txns = refl;
           works = works_by t old.sessions (change_txn work.txn f old.sessions) there here refl (saved_else f);
           count = length-map old.sessions (λ x. of_txn work.txn f x x.work);
-        })) (inl refl) held.count held.few held.fits (λ w is_w. same_log (was w is_w) refl refl) (held.has_room.replies t session there) (held.has_room.acks t session there)
+        })) (inl refl) held.count held.few held.fits (λ w is_w. same_log (was w is_w) refl refl) (held.has_room.replies t session there)
+            (held.has_room.acks t session there)
         (λ w is_w. held.has_room.ends t session w (was w is_w)) (held.started t) (held.writes.opened t) (held.writes.clean t)
 
 -- ---- the session's open transaction ends, and it may write no longer
@@ -395,7 +392,8 @@ module _ {store : Store} (held : IsHeld store) (t : ℕ) (rests : doing_at t sto
       subst (λ (w : WorldState). IsHeld (then_closed w)) (sym is.rest) (entered_by held rests told (set_here old.sessions t
       is.session after there) (record { indexes = refl; versions = refl; schemas = refl }) (closed_desks (λ u differ. set_other old.sessions t u after differ)
       (held.rooms t)) (subst (Agrees held.chains) is.rest (committed_agrees held.chains old new t held.agrees is few))
-      (inr (Committed t, eq-eqb t t refl, refl)) held.count held.few held.fits (λ w is_w. absurd (cc)) (held.has_room.replies t is.session there) (λ waits. refl)
+      (inr (Committed t, eq-eqb t t refl, refl)) held.count held.few held.fits (λ w is_w. absurd (cc)) (held.has_room.replies t is.session there)
+          (λ waits. refl)
       (λ w is_w. absurd (cc)) (held.started t) (λ mine. absurd (writes_no_more store.writer t mine)) (λ other. own_then))
 
   pub rolled_back_held : {new : WorldState} → own t store.world.past ≡ [] → IsRolledBack t store.world new → IsHeld (then_closed new)
@@ -462,8 +460,10 @@ module _ {store : Store} (held : IsHeld store) (told : IsTold store.world) (name
       (record { session = fresh_session; closed = refl; sessions = refl; names = refl; past = refl; schemas = refl; txns = refl })) (inl refl)
       (length-append store.desks (desk ∷ []) ∙ ap (λ n. n + 1) held.count ∙ sym (length-append store.world.names (name ∷ [])))
       (omega (arith, length-append store.world.names (name ∷ []), room_left)) held.fits
-      (λ work is. absurd (cc)) (λ busy. absurd (no_item (owed_by_txn (level t store.world.past) (length (own t store.world.past)) (awaits_ack (of_item t store.world.past)))
-      (under_way t store.world.past) stranger busy)) (λ waits. absurd (no_ack (level t store.world.past) (length (own t store.world.past)) (awaits_ack (of_item t store.world.past))
+      (λ work is. absurd (cc))
+          (λ busy. absurd (no_item (owed_by_txn (level t store.world.past) (length (own t store.world.past)) (awaits_ack (of_item t store.world.past)))
+      (under_way t store.world.past) stranger busy))
+          (λ waits. absurd (no_ack (level t store.world.past) (length (own t store.world.past)) (awaits_ack (of_item t store.world.past))
       (owed_by_item (under_way t store.world.past)) stranger waits)) (λ work is. absurd (cc))
       (held.started t ∙ ap started_in (behind store.desks) ∙ sym (ap started_in at_last ∙ fresh.started_is)) (held.writes.opened t) (held.writes.clean t)
 

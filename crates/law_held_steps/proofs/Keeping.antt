@@ -1,31 +1,30 @@
 -- What holds of the lists after a step of a change, once its rows, logs and fitting changes are known: what the past says
 -- then, and what others keep of a session.
-use Rattle.std.proofs.Common.{◌≡◌, inl, inr, ℕ, ◌≤◌, true, false, List, ◌∷◌, length, refl, sym, subst, arith, eq-eqb, suc, ◌<◌, [], map, Option, Some, None}
-use Rattle.std.proofs.Common.{ap, ◌∙◌}
+use Rattle.std.proofs.Common.{◌≡◌, inl, inr, ℕ, ◌≤◌, true, false, List, ◌∷◌, length, refl, sym, subst, arith, eq-eqb, suc, ◌<◌, [], map, Option, Some, None, ap}
+use Rattle.std.proofs.Common.{◌∙◌}
+use Rattle.std.proofs.lemmas.Option.{slice_get_within}
 use Rattle.inno_db.specs.declared.change.Change.{Change}
 use Rattle.inno_model.specs.Past.{started, under_way, of_item, awaits_ack, level, IsOpen, own}
+use Rattle.inno_model.specs.{declared.event.Event.Event, declared.event.Event.TheVariants.Changed}
 use Rattle.law_found_rows.specs.Pasts.{AddsAtMostOne}
 use Rattle.std.specs.Prelude.{slice_get, is_some}
-use Rattle.std.proofs.lemmas.Option.{slice_get_within}
-use Rattle.world.specs.State.{WorldState, Session, Work, IsSession, HasWork, Logged}
+use Rattle.world.specs.{State.WorldState, State.Session, State.Work, State.IsSession, State.HasWork, State.Logged, Told.IsTold, Undoing.read_into}
 use Rattle.law_world_agreement.specs.Agreement.{Agrees}
 use Rattle.entries.specs.Pairs.{Pair}
 use Rattle.row_changes.specs.declared.keys_change.KeysChange.{KeysChange}
 use Rattle.shared_lists.specs.Fitting.{FitsThen}
 use Rattle.desks.specs.Holding.{AreFew, IsHeld, IsLast, IsLastOf, RowsHeld, RowsHeldBy, SearchHeld}
-use Rattle.inno_model.specs.{declared.event.Event.Event, declared.event.Event.TheVariants.Changed}
+use Rattle.desks.specs.Desks.{Store, desk_at, doing_in, doing_at, with_doing, is_undoing}
+use Rattle.desks.specs.{declared.desk.Desk.Desk, declared.desk.Doing.Doing, Leaves.Does}
 use Rattle.inno_types.specs.{declared.lock.Level.Level, declared.value.Schema.Schema}
 use Rattle.row_versions.specs.{Chains.Chains, declared.place.Place.Place}
 use Rattle.law_past_agreement.specs.{Slots.fresh, Agreement.SlotAgrees, Agreement.IsIdle, Rows.place_in}
 use Rattle.law_world_agreement.proofs.{Settled.slot_if, Settled.slot_at, Opening.idle_of}
-use Rattle.world.specs.{Told.IsTold, Undoing.read_into}
 use Rattle.row_changes.proofs.{Sessions.one_session, Ids.one_work}
 use Rattle.law_logged_changes.specs.{GoingOn.StaysOpen, GoingOn.KeepsBeside, Logs.LogsAgree}
-use Rattle.desks.specs.{declared.desk.Desk.Desk, declared.desk.Doing.Doing, Desks.Store, Leaves.Does}
-use Rattle.desks.specs.Desks.{desk_at, doing_in, doing_at, with_doing, is_undoing}
 use Rattle.law_held_steps.specs.{Making.LeavesLists, Leaving.is_searching}
-use Rattle.law_held_steps.proofs.{AnyStep.each, AnyStep.waits_not, AnyStep.past_grows, AnyStep.held_after, AnyStep.rows_by_writer}
-use Rattle.law_held_steps.proofs.{Desks.IsGiven, Desks.given, Desks.there, Desks.started_still, Desks.rooms_then, Places.no_search}
+use Rattle.law_held_steps.proofs.{AnyStep.each, AnyStep.waits_not, AnyStep.past_grows, AnyStep.held_after, AnyStep.rows_by_writer, Desks.IsGiven, Desks.given}
+use Rattle.law_held_steps.proofs.{Desks.there, Desks.started_still, Desks.rooms_then, Places.no_search}
 
 -- it has started or ended no item, and no commit of its own waits for its acknowledgement that didn't
 pub record GoesOnBy (s : ℕ) (old new : List Event) : Type 0 where

@@ -6,6 +6,5 @@ pub mod Showing
 pub mod Items
 pub mod Putting
 pub mod Places
-pub mod Shows
-pub mod Nearing
 pub mod Stepping
+pub mod Nearing

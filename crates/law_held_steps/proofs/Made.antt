@@ -1,38 +1,35 @@
 -- A change begins: its edit fits the tables of the history. Each step of it keeps the lists.
-use Rattle.std.proofs.Common.{◌≡◌, ◌≢◌, ℕ, List, Option, Some, None, refl, subst, ◌<◌, true, length, sym, ap, ◌∙◌, arith, ◌+◌, ◌≤◌, ◌^◌, Bool, false, cond}
-use Rattle.std.proofs.Common.{◌∷◌}
+use Rattle.std.proofs.Common.{◌≡◌, ◌≢◌, ℕ, List, Option, Some, None, refl, subst, ◌<◌, true, length, sym, ap, ◌∙◌, arith, ◌+◌, ◌≤◌, ◌^◌, Bool, false, cond, ◌∷◌}
 use Rattle.std.proofs.lemmas.Option.{slice_get_within}
 use Rattle.std.specs.Prelude.{slice_get, IsSomeAnd}
 use Rattle.law_stored_rows.specs.Fitting.{IsKeyFor, FitsTable}
 use Rattle.row_changes.specs.Rows.{primary_of, table_of, place_of, row_steps, IsChangingRowAlone, ChangesRowAlone}
+use Rattle.row_changes.specs.declared.row_edit.RowEdit.TheVariants.{Put, Remove}
+use Rattle.row_changes.specs.Edits.{change_of, FitsEdit, rows_put}
+use Rattle.row_changes.specs.declared.row_change.RowChange.TheVariants.{Record, Keys}
+use Rattle.row_changes.specs.declared.reached.Reached.TheVariants.{Went, Done, Hindered}
+use Rattle.row_changes.specs.{declared.row_edit.RowEdit.RowEdit, declared.record_change.RecordChange.RecordChange, declared.keys_change.KeysChange.KeysChange}
+use Rattle.row_changes.specs.{declared.row_change.RowChange.RowChange, declared.reached.Reached.Reached}
 use Rattle.law_past_agreement.specs.Order.{created}
-use Rattle.desks.specs.Holding.{IsHeld, RowsHeld, SearchHeld, AreFew, IsLastOf, IsLastIfTold}
+use Rattle.desks.specs.Desks.{Store, desk_at, doing_in, doing_at, started_in, started_at, with_doing, is_quiet_doing, is_undoing, HasRooms}
+use Rattle.desks.specs.{Holding.IsHeld, Holding.RowsHeld, Holding.SearchHeld, Holding.AreFew, Holding.IsLastOf, Holding.IsLastIfTold, declared.desk.Desk.Desk}
+use Rattle.desks.specs.{declared.desk.Doing.Doing, declared.desk.Doing.TheVariants.Nothing, declared.desk.Doing.TheVariants.Changing, Undoing.keys_if}
 use Rattle.row_changes.proofs.Alone.{alone_rows}
 use Rattle.law_held_steps.proofs.Keeping.{open_work, open_joined, goes_same, goes_changed, leaves_lists, last_of_kept, keeps}
+use Rattle.law_held_steps.proofs.{Desks.given, Desks.there, Desks.started_still, Desks.rooms_then, Desks.changes_at_a_desk, AnyStep.each, AnyStep.quiet_rows_at}
+use Rattle.law_held_steps.proofs.{AnyStep.rows_by_writer, Places.search_as, Putting.rows_mine, Putting.changing_rows, Putting.alone_if}
 use Rattle.law_found_rows.proofs.FittingChanges.{tables_storable}
 use Rattle.law_world_agreement.specs.Agreement.{Agrees}
-use Rattle.law_logged_changes.proofs.Listed.{begun as begun_row}
+use Rattle.law_logged_changes.proofs.{Listed.begun as begun_row, Entering.goes_on, Entering.place_there, Logging.change_logged, Logging.row_all}
 use Rattle.inno_types.specs.{declared.value.Schema.Schema, declared.value.Value.Value}
 use Rattle.world.specs.{State.WorldState, Undoing.read_into, Told.IsTold}
-use Rattle.row_changes.specs.{declared.row_edit.RowEdit.RowEdit, declared.row_edit.RowEdit.TheVariants.Put, declared.row_edit.RowEdit.TheVariants.Remove}
-use Rattle.row_changes.specs.{Edits.change_of, Edits.FitsEdit, Edits.rows_put, declared.record_change.RecordChange.RecordChange}
-use Rattle.row_changes.specs.{declared.keys_change.KeysChange.KeysChange, declared.row_change.RowChange.RowChange}
-use Rattle.row_changes.specs.{declared.row_change.RowChange.TheVariants.Record, declared.row_change.RowChange.TheVariants.Keys}
-use Rattle.row_changes.specs.{declared.reached.Reached.Reached, declared.reached.Reached.TheVariants.Went, declared.reached.Reached.TheVariants.Done}
-use Rattle.row_changes.specs.{declared.reached.Reached.TheVariants.Hindered}
 use Rattle.shared_lists.specs.{Fitting.FitsWell, Fitting.FitsThen, Steps.rows_of_change}
 use Rattle.law_held_steps.specs.{Beginning.IsEditable, Beginning.IsKeyOfEdit, Beginning.begun, Leaving.is_searching, Making.doing_after, Making.Comes}
 use Rattle.law_held_steps.specs.{Making.MakesChange}
 use Rattle.inno_model.specs.{Past.IsOpen, Past.own, Past.started, declared.event.Event.TheVariants.Changed}
-use Rattle.desks.specs.{declared.desk.Desk.Desk, declared.desk.Doing.Doing, declared.desk.Doing.TheVariants.Nothing, declared.desk.Doing.TheVariants.Changing}
-use Rattle.desks.specs.{Desks.Store, Desks.desk_at, Desks.doing_in, Desks.doing_at, Desks.started_in, Desks.started_at, Desks.with_doing}
-use Rattle.desks.specs.{Desks.is_quiet_doing, Desks.is_undoing, Desks.HasRooms, Undoing.keys_if}
-use Rattle.law_held_steps.proofs.{Desks.given, Desks.there, Desks.started_still, Desks.rooms_then, Desks.changes_at_a_desk, AnyStep.each, AnyStep.quiet_rows_at}
-use Rattle.law_held_steps.proofs.{AnyStep.rows_by_writer, Places.search_as, Putting.rows_mine, Putting.changing_rows, Putting.alone_if}
-use Rattle.row_versions.specs.{declared.place.Place.Place, declared.version.Version.Version, Chains.Chains, Chains.versions_at, Chains.is_same_place}
-use Rattle.row_versions.specs.{Chains.Pushes}
+use Rattle.row_versions.specs.Chains.{Chains, versions_at, is_same_place, Pushes}
+use Rattle.row_versions.specs.{declared.place.Place.Place, declared.version.Version.Version}
 use Rattle.law_logged_changes.specs.{GoingOn.KeepsBeside, GoingOn.StaysAgreed, GoingOn.EntersAgreed, GoingOn.EndsAgreed, Logs.LogsAgree, Logs.IsAlone}
-use Rattle.law_logged_changes.proofs.{Entering.goes_on, Entering.place_there, Logging.change_logged, Logging.row_all}
 
 some_there : (found : Option Schema) (P : Schema → Type 0) → IsSomeAnd found P → (schema : Schema) × (found ≡ Some schema) × P schema
 some_there None P fits = absurd fits

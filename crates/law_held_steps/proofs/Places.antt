@@ -1,24 +1,22 @@
 -- Steps that move a session's places leave all rows, and may follow one another; a world that is held stays so.
 use Rattle.std.proofs.Common.{◌≡◌, ◌≢◌, ◌⊎◌, ⊎_elim, ℕ, Bool, true, false, List, Option, Some, None, refl, sym, ap, subst, ◌∙◌, ◌<◌, ◌≤◌, length, ◌+◌, arith}
+use Rattle.std.proofs.{lemmas.Bool.Decides.eqb_tells, lemmas.Bool.cases_eq}
 use Rattle.std.specs.Prelude.{◌==◌, if◌then◌else◌, slice_get, List}
 use Rattle.law_held_steps.proofs.AnyStep.{each, quiet_step, does_beside, held_beside, rows_left_at}
 use Rattle.law_held_steps.proofs.Desks.{desk_elsewhere, started_still, doing_mine, as_many, doing_stays, rooms_then, quiet_undoes_not}
-use Rattle.law_logged_changes.proofs.Leaving.{logs_beside, own_beside, agrees_beside}
-use Rattle.desks.specs.Desks.{desk_at, doing_at, with_doing, is_quiet_doing}
+use Rattle.law_logged_changes.proofs.Leaving.{logs_beside, own_beside, agrees_beside, left_told, has_rows_left, rows_leave, all_left}
+use Rattle.desks.specs.Desks.{desk_at, doing_at, with_doing, is_quiet_doing, Store}
 use Rattle.desks.specs.Holding.{SearchHeld, IsHeld, RowsHeldBy, SightHolds}
+use Rattle.desks.specs.{declared.desk.Desk.Desk, declared.desk.Doing.Doing, declared.desk.Doing.TheVariants.Nothing, declared.desk.Doing.TheVariants.Searching}
 use Rattle.law_held_steps.specs.Leaving.{MovesPlaces, LeavesTable, is_searching}
-use Rattle.std.proofs.{lemmas.Bool.Decides.eqb_tells, lemmas.Bool.cases_eq}
 use Rattle.row_versions.specs.{Versions.Versions, Versions.Stays, Chains.Chains}
-use Rattle.row_changes.proofs.{Sessions.same_pairs, Sessions.same_versions}
-use Rattle.world.proofs.{Stores.store_stays, Stores.store_goes_on}
+use Rattle.row_changes.proofs.Sessions.{same_pairs, same_versions}
+use Rattle.world.proofs.Stores.{store_stays, store_goes_on}
 use Rattle.row_search.specs.{Steps.OnlyMoves, declared.sight.Sight.Sight, declared.sight.Sight.TheVariants.View, declared.sight.Sight.TheVariants.Newest}
 use Rattle.entries.specs.{Pairs.Pair, Index.AreKept, Calls.Leaves, Calls.released}
 use Rattle.world.specs.{State.WorldState, State.index_of, Told.IsTold, Told.LeavesRows, Indexes.Calls, Undoing.IsUnchanged}
-use Rattle.law_logged_changes.proofs.{Leaving.left_told, Leaving.has_rows_left, Leaving.rows_leave, Leaving.all_left}
-use Rattle.desks.specs.{declared.desk.Desk.Desk, declared.desk.Doing.Doing, declared.desk.Doing.TheVariants.Nothing}
-use Rattle.desks.specs.{declared.desk.Doing.TheVariants.Searching, Desks.Store}
-use Rattle.inno_types.specs.{declared.value.Schema.Schema}
-use Rattle.row_changes.specs.{Awaited.IsOfTable}
+use Rattle.inno_types.specs.declared.value.Schema.{Schema}
+use Rattle.row_changes.specs.Awaited.{IsOfTable}
 
 kept_same : {old new : Option (List Pair)} → new ≡ old → AreKept old new
 kept_same {old} same = subst (AreKept old) (sym same) (same_pairs old)

@@ -4,54 +4,47 @@ use Rattle.shared_lists.specs.Tasks as tasks
 use Rattle.shared_lists.specs.declared.answers.Undone.TheVariants as undone
 use Rattle.std.proofs.Common.{[], ◌≡◌, ◌≤◌, true, false, List, ◌∷◌, length, Some, refl, sym, ap, subst, arith, ℕ, Option, None, ◌≢◌, ⊎_elim, ◌∙◌, slice_get}
 use Rattle.std.proofs.Common.{Bool, ◌+◌, ◌*◌, ◌^◌, ◌<◌, inl, inr, ◌⊎◌, cond, ◌-◌, map, eq-eqb}
+use Rattle.std.proofs.{lemmas.Bool.cases_eq, lemmas.Bool.Decides.nat_tests, lemmas.List.length-set, lemmas.List.set-set}
 use Rattle.world.specs.State.{WorldState, Logged, Session, Work, HasWork, IsSession, standing_of}
 use Rattle.world.specs.Undoing.{read_into, ReadsLast, newest, IsRead, HoldsRecord, IsCutBack}
+use Rattle.world.specs.{Told.IsTold, Told.TellsTogether, Told.LeavesRows, declared.undo_room.UndoRoom.UndoRoom, Memory.IsInMemory, Sessions.undone_added}
 use Rattle.desks.specs.Holding.{RowsHeld, RowsHeldAt, RowsHeldBy, IsLast, IsLastIfTold, IsLagging, SearchHeld, IsHeld, IsGoingBack, WriterAgrees}
-use Rattle.law_logged_changes.proofs.Leaving.{own_beside, agrees_beside, step_all, step_beside, logs_beside, work_beside, work_again}
-use Rattle.law_held_steps.proofs.AnyStep.{some_same, last_left, held_beside, rows_left, last_log, rows_by_writer, waits_not, held_after}
-use Rattle.undo_apply.specs.Stages.{Stops, StopsAt, IsPuttingBack, GoesOn, IsHindered, IsDone, PutsBack, StageHolds, WalksOn}
-use Rattle.law_held_steps.specs.Undoing.{HasPutBack, HasLast, IsReady}
-use Rattle.row_versions.specs.Chains.{Chains, older, versions_at, with_versions, is_same_place, Pops}
-use Rattle.law_past_agreement.specs.Order.{IsOfRow, IsUndoable, MayCome}
-use Rattle.world.specs.Told.{IsTold, TellsTogether, LeavesRows}
-use Rattle.law_logged_changes.specs.Logs.{IsAlone, LogsAgree, IsLogOf}
-use Rattle.law_logged_changes.specs.Steps.{ChangesPairsAlone, LeavesLogs, IsToCut, HasCut}
 use Rattle.desks.specs.Undoing.{left_at, keys_if, undo_left_in, most_versions, left_in}
 use Rattle.desks.specs.declared.desk.Doing.TheVariants.{Nothing, Changing, Lagging, Undoing}
-use Rattle.desks.specs.Desks.{desk_at, doing_in, doing_at, started_in, is_quiet_doing, is_undoing, with_read, with_room, HasRooms, with_doing}
-use Rattle.law_held_steps.proofs.Desks.{IsGiven, is_given, given_then}
-use Rattle.law_logged_changes.proofs.Leaving.{rows_leave, all_left, cut_left, cut_again}
+use Rattle.desks.specs.Desks.{desk_at, doing_in, doing_at, started_in, is_quiet_doing, is_undoing, with_read, with_room, HasRooms, with_doing, Store}
+use Rattle.desks.specs.{Shown.shown, Shown.task_at, Shown.lists_of, declared.desk.Desk.Desk, declared.desk.Doing.Doing, Leaves.Does}
+use Rattle.law_logged_changes.proofs.Leaving.{own_beside, agrees_beside, step_all, step_beside, logs_beside, work_beside, work_again, rows_leave, all_left}
+use Rattle.law_logged_changes.proofs.Leaving.{cut_left, cut_again, has_rows_left}
 use Rattle.law_logged_changes.proofs.Beginning.{tells_of_it, begins_settled, begins_lagging}
-use Rattle.inno_model.specs.Past.{own, is_of, started, under_way, of_item, awaits_ack, level}
-use Rattle.desks.specs.Shown.{shown, task_at, lists_of}
-use Rattle.shared_lists.specs.Tasks.{Task, MayTakeBack, undo_to_go}
-use Rattle.std.proofs.{lemmas.Bool.cases_eq, lemmas.Bool.Decides.nat_tests, lemmas.List.length-set, lemmas.List.set-set}
-use Rattle.inno_types.specs.{declared.value.Schema.Schema}
-use Rattle.world.proofs.{Memory.no_pages}
-use Rattle.law_stored_rows.specs.{Records.LeadTo, Tables.Said, Tables.what_is_there}
-use Rattle.desks.proofs.{Counting.versions_most, Counting.versions_are, Showing.task_is}
-use Rattle.row_changes.specs.{Awaited.IsAwaitedAlone, Told.HasRows, Rows.IsChangingRowAlone, declared.row_change.RowChange.RowChange}
-use Rattle.std.specs.{Prelude.is_some, Prelude.slice_set}
-use Rattle.row_versions.specs.{declared.place.Place.Place, declared.version.Version.Version, declared.kept.Kept.Kept, Versions.Stays}
-use Rattle.world.specs.{declared.undo_room.UndoRoom.UndoRoom, Memory.IsInMemory, Sessions.undone_added}
-use Rattle.store_api.specs.{declared.answers.Undo.Undo, declared.moves.Move.Move, declared.moves.Move.TheVariants.Done, declared.moves.Move.TheVariants.Step}
+use Rattle.law_logged_changes.proofs.{TakenBack.rows_then, TakenBack.to_cut_by_history, Cutting.rows_cut, Cutting.has_cut}
+use Rattle.law_held_steps.proofs.AnyStep.{some_same, last_left, held_beside, rows_left, last_log, rows_by_writer, waits_not, held_after}
+use Rattle.law_held_steps.proofs.{Desks.IsGiven, Desks.is_given, Desks.given_then, Keeping.open_work, Showing.settings_same, Showing.shows_now}
+use Rattle.undo_apply.specs.Stages.{Stops, StopsAt, IsPuttingBack, GoesOn, IsHindered, IsDone, PutsBack, StageHolds, WalksOn}
 use Rattle.undo_apply.specs.{declared.work_room.Stage.Stage, Rooms.IsWhole, Rooms.steps_left, declared.work_room.WorkRoom.WorkRoom}
 use Rattle.undo_apply.specs.{declared.work_room.Stage.TheVariants.Walk, declared.work_room.Stage.TheVariants.Find, Told.rows_of, Standing.versions_before}
 use Rattle.undo_apply.specs.{Standing.HasWalked}
-use Rattle.desks.specs.{declared.desk.Desk.Desk, declared.desk.Doing.Doing, Desks.Store, Leaves.Does}
-use Rattle.law_held_steps.proofs.{Keeping.open_work, Showing.settings_same, Showing.shows_now}
+use Rattle.law_held_steps.specs.Undoing.{HasPutBack, HasLast, IsReady, TakesBackIn}
+use Rattle.row_versions.specs.Chains.{Chains, older, versions_at, with_versions, is_same_place, Pops}
+use Rattle.row_versions.specs.{declared.place.Place.Place, declared.version.Version.Version, declared.kept.Kept.Kept, Versions.Stays}
+use Rattle.law_past_agreement.specs.{Order.IsOfRow, Order.IsUndoable, Order.MayCome, Rows.place_in}
+use Rattle.law_logged_changes.specs.{Logs.IsAlone, Logs.LogsAgree, Logs.IsLogOf, Steps.ChangesPairsAlone, Steps.LeavesLogs, Steps.IsToCut, Steps.HasCut}
+use Rattle.inno_model.specs.Past.{own, is_of, started, under_way, of_item, awaits_ack, level}
+use Rattle.inno_model.specs.{declared.event.Event.Event, declared.event.Event.TheVariants.Undone}
+use Rattle.shared_lists.specs.{Tasks.Task, Tasks.MayTakeBack, Tasks.undo_to_go, Fitting.FitsThen, State.task_of, State.Turns}
+use Rattle.inno_types.specs.declared.value.Schema.{Schema}
+use Rattle.world.proofs.Memory.{no_pages}
+use Rattle.law_stored_rows.specs.{Records.LeadTo, Tables.Said, Tables.what_is_there}
+use Rattle.desks.proofs.{Counting.versions_most, Counting.versions_are, Showing.task_is}
+use Rattle.row_changes.specs.{Awaited.IsAwaitedAlone, Told.HasRows, Rows.IsChangingRowAlone, declared.row_change.RowChange.RowChange}
+use Rattle.std.specs.Prelude.{is_some, slice_set}
+use Rattle.store_api.specs.{declared.answers.Undo.Undo, declared.moves.Move.Move, declared.moves.Move.TheVariants.Done, declared.moves.Move.TheVariants.Step}
 use Rattle.inno_db.specs.{declared.change.Change.Change, declared.change.Change.TheVariants.Create}
 use Rattle.undo_apply.proofs.{Hindrances.never_hindered, Telling.leaves_told, Columns.few_keys}
-use Rattle.inno_model.specs.{declared.event.Event.Event, declared.event.Event.TheVariants.Undone}
-use Rattle.inno_model.proofs.{Untouched.untouched}
-use Rattle.entries.specs.{Index.Index}
-use Rattle.law_past_agreement.proofs.{Rows.own_undone}
-use Rattle.row_changes.proofs.{Sessions.same_pairs, Sessions.same_versions}
-use Rattle.shared_lists.specs.{Fitting.FitsThen, State.task_of, State.Turns}
-use Rattle.law_logged_changes.proofs.{Leaving.has_rows_left, TakenBack.rows_then, TakenBack.to_cut_by_history, Cutting.rows_cut, Cutting.has_cut}
-use Rattle.law_past_agreement.specs.{Rows.place_in}
+use Rattle.inno_model.proofs.Untouched.{untouched}
+use Rattle.entries.specs.Index.{Index}
+use Rattle.law_past_agreement.proofs.Rows.{own_undone}
+use Rattle.row_changes.proofs.Sessions.{same_pairs, same_versions}
 use Rattle.law_world_agreement.specs.{Agreement.Agrees, Steps.IsTakenBackBy}
-use Rattle.law_held_steps.specs.{Undoing.TakesBackIn}
 use Rattle.law_world_agreement.proofs.{Opening.set_here, Opening.set_other, Changing.one_session, Changing.one_work, Entries.taken_back_agrees}
 
 -- nobody else has changes
@@ -162,7 +155,8 @@ module _ (chains : Chains) (place : Place) (undo : Undo) (schema : Schema) (old 
     (few : length (versions_before chains place) ≤ most) (tells : IsTold new) (same : new.versions.kept_at ≡ old.versions.kept_at) where
   walks_near : (stage next : Stage) → WalksOn schema undo new stage next
       → StageHolds chains (what_is_there chains) place undo schema (rows_of old) bytes stage
-      → StageHolds chains (what_is_there chains) place undo schema (rows_of new) read next → left_at keys most new.versions.kept_at next < left_at keys most new.versions.kept_at stage
+      → StageHolds chains (what_is_there chains) place undo schema (rows_of new) read next
+          → left_at keys most new.versions.kept_at next < left_at keys most new.versions.kept_at stage
   walks_near (Walk which pointer) (Walk other behind) walks was now =
       let walked : HasWalked schema undo.key old.versions.kept_at which pointer was.0 (versions_before chains place) = was.3 in
       let walking : HasWalked schema undo.key new.versions.kept_at other behind now.0 (versions_before chains place) = now.3 in
@@ -653,7 +647,8 @@ module _ (s : ℕ) {store : Store} (held : IsHeld store) (busy : doing_at s stor
 
         rows_now : HasRows after new
         rows_now =
-            has_rows_left cut new entry_leaves after (rows_cut s mid cut back_to.logged last.log last.before to_cut back after (rows_then held.chains after source mid
+            has_rows_left cut new entry_leaves after
+                (rows_cut s mid cut back_to.logged last.log last.before to_cut back after (rows_then held.chains after source mid
             back_to.logged last.log last.change last.before back_to.place room_was next (last_log held.logs last) last.place_is putting done_by pops))
 
         cut_now : HasCut s last.log last.before cut
@@ -678,7 +673,8 @@ module _ (s : ℕ) {store : Store} (held : IsHeld store) (busy : doing_at s stor
         logs_now =
             let log_is : work_now.log ≡ last.log =
             ap (λ (w : Work). w.log) (one_work s session_cut cut_now.session work_cut cut_now.work cut has_work_cut cut_now.has_work) ∙ cut_now.log_is in
-            cut_again s last.log last.before new (cut_left s cut new last.log last.before session_now work_now (rows_leave cut new entry_leaves) left_logs cut_now
+            cut_again s last.log last.before new
+                (cut_left s cut new last.log last.before session_now work_now (rows_leave cut new entry_leaves) left_logs cut_now
             has_work_now log_is) (ap (own s) past_now ∙ own_undone s keep last.change last.before source.past last.own_is (omega (arith, keep_is, own_length)))
 
         -- the session has nothing to do any more, and one older version more was dropped

@@ -1,34 +1,31 @@
 -- What callers see of desks: entries that change no row, what sessions set, searches of which places alone have moved, and changes of rows.
+use Rattle.shared_lists.specs.Tasks as tasks
+use Rattle.shared_lists.specs.declared.answers.Changed.TheVariants as answers
 use Rattle.std.proofs.Common.{◌≡◌, ◌≢◌, ℕ, zero, suc, Option, Some, List, [], ◌∷◌, length, refl, sym, ap, ◌∙◌, ◌<◌, subst, ◌+◌, ◌*◌, ◌≤◌, ◌^◌, true, false}
 use Rattle.std.proofs.Common.{None, arith}
-use Rattle.std.proofs.lemmas.List.{length-set, map-set, set-get_or}
-use Rattle.std.proofs.lemmas.Bool.{true≢false}
+use Rattle.std.proofs.{lemmas.List.length-set, lemmas.List.map-set, lemmas.List.set-get_or, lemmas.Bool.true≢false}
 use Rattle.std.specs.Prelude.{slice_get, slice_set, slice_index_or}
 use Rattle.law_held_steps.specs.Making.{given_up, LeavesLists, AddsNothing, IsNearer, IsEntered}
+use Rattle.law_held_steps.specs.{Undoing.settings_of, Begun.IsBegun, Leaving.MovesPlaces, Leaving.is_searching, TakenUp.IsSearchOf, Beginning.begun}
 use Rattle.law_held_steps.proofs.Desks.{doing_here, desk_elsewhere, busy_at_a_desk, given, there}
+use Rattle.law_held_steps.proofs.{Keeping.same_settings, AnyStep.some_same, AnyStep.each}
 use Rattle.inno_types.specs.declared.value.Schema.{Schema}
 use Rattle.row_versions.specs.Versions.{Versions}
 use Rattle.sql_history.specs.Settings.{Setting, at_first}
-use Rattle.shared_lists.specs.Tasks.{Task, is_changing, asked, steps_left, left_by}
+use Rattle.shared_lists.specs.{Tasks.Task, Tasks.is_changing, Tasks.asked, Tasks.steps_left, Tasks.left_by, State.task_of, State.IsNow, State.Turns}
+use Rattle.shared_lists.specs.{State.Lists, declared.answers.Reading.Reading, Steps.Changes, Steps.rows_of_change, Steps.rows_entered}
 use Rattle.desks.specs.Shown.{shown, task_at, lists_of, reading_of, change_in}
+use Rattle.desks.specs.declared.desk.Doing.TheVariants.{Nothing, Searching, Changing, Lagging, Undoing}
+use Rattle.desks.specs.Desks.{desk_at, doing_in, doing_at, with_doing, is_quiet_doing, is_undoing, Store}
+use Rattle.desks.specs.Undoing.{left_in, keys_if}
+use Rattle.desks.specs.{declared.desk.Desk.Desk, declared.desk.Doing.Doing, declared.desk.TableSearch.TableSearch, Holding.IsHeld}
 use Rattle.desks.proofs.Showing.{task_is, task_stays, idle_shown, lists_stay}
 use Rattle.law_world_agreement.proofs.Opening.{set_here, set_other}
 use Rattle.sql_plan.specs.declared.choice.Plan.{Plan}
 use Rattle.law_stored_rows.specs.Storable.{IsStorable}
 use Rattle.law_found_rows.proofs.FittingChanges.{tables_storable}
-use Rattle.shared_lists.specs.Tasks as tasks
-use Rattle.shared_lists.specs.declared.answers.Changed.TheVariants as answers
-use Rattle.law_held_steps.specs.{Undoing.settings_of, Begun.IsBegun, Leaving.MovesPlaces, TakenUp.IsSearchOf, Beginning.begun}
-use Rattle.law_held_steps.specs.{Leaving.is_searching}
-use Rattle.law_held_steps.proofs.{Keeping.same_settings, AnyStep.some_same, AnyStep.each}
-use Rattle.inno_model.specs.{declared.event.Event.Event}
+use Rattle.inno_model.specs.declared.event.Event.{Event}
 use Rattle.world.specs.{State.WorldState, State.Session, Told.IsTold}
-use Rattle.shared_lists.specs.{State.task_of, State.IsNow, State.Turns, State.Lists, declared.answers.Reading.Reading, Steps.Changes, Steps.rows_of_change}
-use Rattle.shared_lists.specs.{Steps.rows_entered}
-use Rattle.desks.specs.declared.desk.Doing.TheVariants.{Nothing, Searching, Changing, Lagging, Undoing}
-use Rattle.desks.specs.Desks.{desk_at, doing_in, doing_at, with_doing, is_quiet_doing, is_undoing}
-use Rattle.desks.specs.{declared.desk.Desk.Desk, Desks.Store, Undoing.left_in}
-use Rattle.desks.specs.{Undoing.keys_if, declared.desk.Doing.Doing, declared.desk.TableSearch.TableSearch, Holding.IsHeld}
 use Rattle.row_search.specs.{declared.sight.Sight.Sight, declared.search.RowSearch.RowSearch, Steps.IsSameScan}
 use Rattle.row_changes.specs.{declared.row_edit.RowEdit.RowEdit, declared.row_change.RowChange.RowChange, declared.row_change.RowChange.TheVariants.Record}
 use Rattle.row_changes.specs.{declared.row_change.RowChange.TheVariants.Keys, Edits.change_of, Rows.row_steps, Rows.table_of}
@@ -184,7 +181,8 @@ shows_now {s} old new writer mine quiet others names schemas is shows = record {
 task_by : (state : WorldState) {schemas : List Schema} (desk : Option Desk) (doing : Doing) → doing_in desk ≡ doing → is_undoing doing ≡ false
     → state.schemas ≡ schemas → task_at state desk ≡ shown schemas 0 doing
 task_by state desk doing is not schemas =
-    ap (shown state.schemas (left_in state desk)) is ∙ ap (λ (x : List Schema). shown x (left_in state desk) doing) schemas ∙ undoes_not _ (left_in state desk) doing not
+    ap (shown state.schemas (left_in state desk)) is ∙ ap (λ (x : List Schema). shown x (left_in state desk) doing) schemas ∙
+        undoes_not _ (left_in state desk) doing not
   where
     undoes_not : (x : List Schema) (left : ℕ) (d : Doing) → is_undoing d ≡ false → shown x left d ≡ shown x 0 d
     undoes_not x left Undoing none = absurd (cc)
@@ -211,7 +209,8 @@ module _ {s : ℕ} {store : Store} {new : WorldState} (held : IsHeld store) (min
   pub now_shown : (doing : Doing) {past : List Event} {task : Task} → is_undoing doing ≡ false → new.past ≡ past → shown new.schemas 0 doing ≡ task
       → IsNow past s task store.writer (lists_of store).state (lists_of (then_does doing)).state
   now_shown doing not past_is task_is =
-      shows_now store (then_does doing) refl mine held.quiet (given s doing store.desks (there s store.desks within).1).others leaves.names leaves.schemas past_is
+      shows_now store (then_does doing) refl mine held.quiet (given s doing store.desks (there s store.desks within).1).others leaves.names
+          leaves.schemas past_is
       (mine_shown doing not ∙ task_is)
 
   module _ {change : RowChange} (at : doing_at s store.desks ≡ Changing change) where

@@ -1,22 +1,20 @@
 -- The newest record of a log tells of the newest version of its place, so a taking back may begin.
 use Rattle.row_changes.proofs.Sessions.{one_found}
-use Rattle.std.proofs.Common.{◌≡◌, inl, inr, ⊎_elim, ℕ, List, ◌∷◌, Option, Some, None, refl, sym, ap, subst, ◌∙◌, arith, slice_get}
-use Rattle.std.proofs.Common.{length}
+use Rattle.std.proofs.Common.{◌≡◌, inl, inr, ⊎_elim, ℕ, List, ◌∷◌, Option, Some, None, refl, sym, ap, subst, ◌∙◌, arith, slice_get, length}
 use Rattle.std.proofs.lemmas.Bool.{cases_order}
 use Rattle.inno_types.specs.{declared.value.Value.Value, declared.value.Column.Column, declared.value.Schema.Schema}
 use Rattle.inno_db.specs.declared.change.Change.{Change}
 use Rattle.key_codec.specs.Keys.{HasKey, key_code}
-use Rattle.row_versions.specs.{declared.place.Place.Place, declared.version.Version.Version}
-use Rattle.row_versions.specs.Chains.{Chains, versions_at, older}
+use Rattle.row_versions.specs.{declared.place.Place.Place, declared.version.Version.Version, Chains.Chains, Chains.versions_at, Chains.older}
 use Rattle.law_stored_rows.specs.{Records.shown, Tables.Said, Tables.AreCodedAs, Tables.SayTheSameBut, Tables.what_is_there}
 use Rattle.law_stored_rows.proofs.Values.{one_key}
 use Rattle.law_past_agreement.specs.Rows.{place_in}
 use Rattle.world.specs.{State.WorldState, State.Logged, Told.IsTold, Told.pairs_of}
-use Rattle.row_changes.specs.{declared.entry_put.EntryPut.EntryPut, declared.keys_change.KeysChange.KeysChange, Told.HasRows, Edits.IsKeyAt}
 use Rattle.row_changes.specs.Keys.{IsChangingKeys, IsPushed, HasRowsSoFar, SaySoFar, gone, said_next}
+use Rattle.row_changes.specs.{declared.entry_put.EntryPut.EntryPut, declared.keys_change.KeysChange.KeysChange, Told.HasRows, Edits.IsKeyAt}
+use Rattle.undo_apply.specs.Standing.{TellsOf, IsNewest, versions_before, IsLagging, IsUnderWay}
 use Rattle.undo_apply.specs.{declared.work_room.WorkRoom.WorkRoom, declared.work_room.Stage.Stage, declared.work_room.Stage.TheVariants.Find, Rooms.IsWhole}
 use Rattle.undo_apply.specs.{Told.rows_of, Stages.FitsKeys, Stages.StageHolds, Stages.IsPuttingBack}
-use Rattle.undo_apply.specs.Standing.{TellsOf, IsNewest, versions_before, IsLagging, IsUnderWay}
 use Rattle.undo_apply.proofs.{Columns.newest_read, Taken.as_but}
 use Rattle.law_logged_changes.specs.Logs.{records_of, HasRecord, Stands, IsLogOf}
 use Rattle.law_logged_changes.proofs.Logs.{newest_stands}

@@ -1,13 +1,11 @@
 -- An undo record goes, and with it what it kept.
 use Rattle.law_logged_changes.specs.{Steps.IsToCut, Steps.HasCut, Steps.IsRowAgain, Logs.records_of, Logs.IsLogOf, Logs.IsAlone}
-use Rattle.law_stored_rows.specs.{Records.IsRecordWith, Records.LeadTo, Records.if_of, Records.kept_of}
-use Rattle.law_stored_rows.specs.{Edits.clustered_index, Tables.in_table, Tables.AreClustered, Tables.AreCodedAs, Tables.Said}
-use Rattle.law_stored_rows.specs.Tables.{what_is_there}
+use Rattle.law_stored_rows.specs.Tables.{in_table, AreClustered, AreCodedAs, Said, what_is_there}
+use Rattle.law_stored_rows.specs.{Records.IsRecordWith, Records.LeadTo, Records.if_of, Records.kept_of, Edits.clustered_index}
 use Rattle.law_stored_rows.proofs.{KeptRows.others_keep, RowRecords.record_still, RowRecords.one_lead, RowRecords.one_record}
 use Rattle.std.proofs.Common.{◌≡◌, ◌≢◌, ⊎_elim, inl, inr, ℕ, ◌<◌, List, [], ◌∷◌, length, Option, None, Some, refl, sym, ap, subst, ◌∙◌, slice_get, arith}
-use Rattle.std.specs.Prelude.{IsSome, IsTrue}
-use Rattle.std.specs.List.{AllByRecursion}
 use Rattle.std.proofs.lemmas.Bool.{cases_eq}
+use Rattle.std.specs.{Prelude.IsSome, Prelude.IsTrue, List.AllByRecursion}
 use Rattle.inno_types.specs.declared.value.Schema.{Schema}
 use Rattle.inno_db.specs.declared.change.Change.{Change}
 use Rattle.inno_model.specs.Past.{own}
@@ -17,8 +15,7 @@ use Rattle.row_versions.specs.{declared.kept.Kept.Kept, declared.version.Version
 use Rattle.world.specs.{State.WorldState, State.Session, State.Work, State.Logged, State.HasWork, Told.IsTold, Told.pairs_of, Undoing.IsCutBack}
 use Rattle.row_changes.specs.Told.{HasRows, AreRowsAs}
 use Rattle.row_changes.proofs.{Ids.one_work, Sessions.one_found, Sessions.set_here, Sessions.set_other}
-use Rattle.law_logged_changes.proofs.{Leaving.same_schemas_grow, Leaving.none_yet, Logs.all_of, Logs.all_mapped, Logs.Keeps, Logs.log_on}
-use Rattle.law_logged_changes.proofs.Logs.{here_or_not}
+use Rattle.law_logged_changes.proofs.{Leaving.same_schemas_grow, Leaving.none_yet, Logs.all_of, Logs.all_mapped, Logs.Keeps, Logs.log_on, Logs.here_or_not}
 
 -- ---- a record without what its row has again
 

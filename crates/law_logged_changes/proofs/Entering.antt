@@ -1,31 +1,29 @@
 -- Each step of a change: those that add no entry, and the one that adds its entry.
-use Rattle.law_logged_changes.proofs.{Leaving.stay_kept, Leaving.work_again, Leaving.agrees_beside}
+use Rattle.row_changes.specs.declared.record_change.RecordReached.TheVariants as records
+use Rattle.law_logged_changes.proofs.Leaving.{stay_kept, work_again, agrees_beside}
 use Rattle.std.proofs.Common.{◌≡◌, ⊎_elim, ℕ, ◌^◌, ◌<◌, ◌==◌, Bool, true, false, List, ◌∷◌, length, Option, Some, refl, sym, ap, subst, ◌∙◌, arith}
-use Rattle.std.specs.Prelude.{slice_get, IsTrue, option_map}
-use Rattle.std.specs.{List.list_any}
-use Rattle.std.proofs.lemmas.{Bool.cases_eq, Option.slice_get_within}
+use Rattle.std.proofs.{lemmas.Bool.cases_eq, lemmas.Option.slice_get_within}
+use Rattle.std.specs.{Prelude.slice_get, Prelude.IsTrue, Prelude.option_map, List.list_any}
 use Rattle.inno_types.specs.{declared.value.Value.Value, declared.value.Schema.Schema}
 use Rattle.store_api.specs.declared.answers.Undo.{Undo}
-use Rattle.row_versions.specs.{Versions.Versions, declared.place.Place.Place, declared.version.Version.Version}
 use Rattle.row_versions.specs.Chains.{Chains, with_versions, Pushes}
+use Rattle.row_versions.specs.{Versions.Versions, declared.place.Place.Place, declared.version.Version.Version}
 use Rattle.law_past_agreement.specs.{Rows.place_in, Rows.is_at, Rows.row_of, Order.IsOfRow, Order.IsTabled}
 use Rattle.law_stored_rows.specs.Records.{KeepsMore}
 use Rattle.world.specs.{State.WorldState, State.Session, State.Work, State.HasWork, Indexes.KeepsIf, Told.IsTold}
 use Rattle.law_world_agreement.specs.{Agreement.Agrees, Steps.IsChangedBy, Steps.IsEntered}
 use Rattle.law_world_agreement.proofs.{Changing.changed_agrees, Entries.unentered_agrees}
-use Rattle.row_changes.specs.{declared.row_edit.RowEdit.RowEdit, declared.row_edit.RowEdit.TheVariants.Remove, declared.row_change.RowChange.TheVariants.Keys}
-use Rattle.row_changes.specs.{declared.record_change.RecordChange.RecordChange, Keys.StaysBesideKeys, declared.row_change.RowChange.TheVariants.Record}
-use Rattle.row_changes.specs.{declared.keys_change.KeysChange.KeysChange, declared.row_change.RowChange.RowChange, declared.row_edit.RowEdit.TheVariants.Put}
-use Rattle.row_changes.specs.{Edits.change_of, Edits.rows_put, Asides.StepsAside, declared.reached.Reached.Reached, Told.HasRows}
-use Rattle.row_changes.specs.Records.{Records, IsChangingRecord, ChangesRecord, id_for}
-use Rattle.row_changes.specs.Rows.{IsChangingRowAlone, row_after, primary_of, place_of, PushesEdit, ChangesRowAlone}
-use Rattle.row_changes.specs.declared.reached.Reached.TheVariants.{Went, Done, Hindered}
-use Rattle.row_changes.proofs.{Ids.one_work, Sessions.one_session, Pushed.kept_more, Keying.beside_stay, Alone.keys_alone}
-use Rattle.row_changes.proofs.Alone.{alone_over}
+use Rattle.row_changes.specs.{declared.row_edit.RowEdit.RowEdit, declared.row_edit.RowEdit.TheVariants.Remove, declared.row_edit.RowEdit.TheVariants.Put}
+use Rattle.row_changes.specs.{declared.row_change.RowChange.TheVariants.Keys, declared.row_change.RowChange.TheVariants.Record}
+use Rattle.row_changes.specs.{declared.record_change.RecordChange.RecordChange, Keys.StaysBesideKeys, declared.keys_change.KeysChange.KeysChange}
+use Rattle.row_changes.specs.{declared.row_change.RowChange.RowChange, Edits.change_of, Edits.rows_put, Asides.StepsAside, declared.reached.Reached.Reached}
+use Rattle.row_changes.specs.{Told.HasRows, Records.Records, Records.IsChangingRecord, Records.ChangesRecord, Records.id_for, Rows.IsChangingRowAlone}
+use Rattle.row_changes.specs.{Rows.row_after, Rows.primary_of, Rows.place_of, Rows.PushesEdit, Rows.ChangesRowAlone, declared.reached.Reached.TheVariants.Went}
+use Rattle.row_changes.specs.{declared.reached.Reached.TheVariants.Done, declared.reached.Reached.TheVariants.Hindered}
+use Rattle.row_changes.proofs.{Ids.one_work, Sessions.one_session, Pushed.kept_more, Keying.beside_stay, Alone.keys_alone, Alone.alone_over}
 use Rattle.law_logged_changes.specs.Logs.{IsAlone}
 use Rattle.law_logged_changes.specs.GoingOn.{StaysOpen, KeepsBeside, EntersAgreed, GoesOnAgreed, StaysAgreed, EndsAgreed}
 use Rattle.inno_db.proofs.Keys.{key_in-at}
-use Rattle.row_changes.specs.declared.record_change.RecordReached.TheVariants as records
 
 -- ---- no entry comes
 

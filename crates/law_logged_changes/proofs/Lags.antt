@@ -1,24 +1,21 @@
 -- What is known of rows and keys at each stage of a taking back.
-use Rattle.std.proofs.Common.{◌||◌, ◌≡◌, ◌⊎◌, inl, inr, ⊎_elim, ℕ, Bool, true, List, sym, ap, subst, ◌∙◌, length, suc, false, ◌∷◌, Option, Some}
-use Rattle.std.proofs.Common.{None, refl, arith}
-use Rattle.row_versions.specs.Chains.{Chains, versions_at, older}
-use Rattle.law_stored_rows.specs.Tables.{AreClustered, AreCoded, Said, what_is_there}
+use Rattle.std.proofs.Common.{◌||◌, ◌≡◌, ◌⊎◌, inl, inr, ⊎_elim, ℕ, Bool, true, List, sym, ap, subst, ◌∙◌, length, suc, false, ◌∷◌, Option, Some, None, refl}
+use Rattle.std.proofs.Common.{arith}
+use Rattle.std.proofs.{lemmas.Bool.cases_order, lemmas.Bool.Decides.leb_tells, lemmas.Bool.Decides.eqb_tells}
+use Rattle.row_versions.specs.{Chains.Chains, Chains.versions_at, Chains.older, declared.place.Place.Place, declared.version.Version.Version}
+use Rattle.law_stored_rows.specs.{Tables.AreClustered, Tables.AreCoded, Tables.Said, Tables.what_is_there, Entries.has_value, Records.shown}
 use Rattle.undo_apply.specs.declared.work_room.Stage.TheVariants.{Find, Key, Walk, Mark, Await, Remove, Unmark, AwaitRecords, Record}
 use Rattle.undo_apply.specs.Standing.{versions_before, said_but, IsLagging, SayBefore, IsUnderWay, IsTakenBack}
-use Rattle.undo_apply.proofs.Taken.{says_place, lags_there, whole_yet}
-use Rattle.row_changes.specs.Keys.{gone, without_row, said_next, SaySoFar}
-use Rattle.std.specs.{List.list_any}
-use Rattle.std.proofs.{lemmas.Bool.cases_order, lemmas.Bool.Decides.leb_tells, lemmas.Bool.Decides.eqb_tells}
-use Rattle.inno_types.specs.{declared.value.Value.Value, declared.value.Schema.Schema}
-use Rattle.store_api.specs.{declared.answers.Undo.Undo, declared.answers.Version.Version as Coded}
-use Rattle.row_versions.specs.{declared.place.Place.Place, declared.version.Version.Version}
-use Rattle.law_stored_rows.specs.{Entries.has_value, Records.shown}
-use Rattle.world.specs.{State.WorldState, Told.IsTold, Told.pairs_of}
 use Rattle.undo_apply.specs.{declared.work_room.WorkRoom.WorkRoom, declared.work_room.Stage.Stage, Told.Rows, Told.rows_of, Stages.StageHolds}
 use Rattle.undo_apply.specs.{Stages.IsPuttingBack}
-use Rattle.undo_apply.proofs.{Columns.lagging_any}
-use Rattle.law_logged_changes.specs.{Lagging.LagsAt, Lagging.LagsSomewhere}
+use Rattle.undo_apply.proofs.{Taken.says_place, Taken.lags_there, Taken.whole_yet, Columns.lagging_any}
+use Rattle.row_changes.specs.Keys.{gone, without_row, said_next, SaySoFar}
 use Rattle.row_changes.specs.{declared.entry_put.EntryPut.EntryPut, declared.row_change.RowChange.TheVariants.Record}
+use Rattle.std.specs.List.{list_any}
+use Rattle.inno_types.specs.{declared.value.Value.Value, declared.value.Schema.Schema}
+use Rattle.store_api.specs.{declared.answers.Undo.Undo, declared.answers.Version.Version as Coded}
+use Rattle.world.specs.{State.WorldState, Told.IsTold, Told.pairs_of}
+use Rattle.law_logged_changes.specs.Lagging.{LagsAt, LagsSomewhere}
 
 -- ---- at whatever stage
 

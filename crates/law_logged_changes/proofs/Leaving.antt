@@ -4,34 +4,29 @@ use Rattle.law_logged_changes.specs.Logs.{RecordsAt, LogStands, records_of, IsLo
 use Rattle.law_logged_changes.specs.Steps.{LeavesRecords, LeavesLog, HasNoLog, LeavesLogs, OfAll, HasCut, MakesTable, ChangesPairsAlone}
 use Rattle.std.proofs.Common.{Some, ◌≡◌, ◌≢◌, ◌⊎◌, inl, inr, ⊎_elim, ℕ, zero, suc, ◌<◌, List, [], ◌∷◌, ◌++◌, Option, refl, sym, ap, subst, ◌∙◌, slice_get}
 use Rattle.std.proofs.Common.{arith, true, false, None}
-use Rattle.world.specs.State.{WorldState, Session, Work, Logged, HasWork, IsIndex}
-use Rattle.world.specs.Told.{pairs_of, IsTold, LeavesRows}
-use Rattle.row_changes.proofs.Telling.{went, put_told, told_if, rows_if, rows_alone}
-use Rattle.law_logged_changes.proofs.Logs.{all_of, Grows, Keeps, log_on, empty_log}
+use Rattle.std.proofs.{lemmas.Bool.cases_eq, lemmas.Option.slice_get_within}
+use Rattle.world.specs.{State.WorldState, State.Session, State.Work, State.Logged, State.HasWork, State.IsIndex, Told.pairs_of, Told.IsTold, Told.LeavesRows}
+use Rattle.row_changes.proofs.{Telling.went, Telling.put_told, Telling.told_if, Telling.rows_if, Telling.rows_alone, Ids.one_work, Sessions.one_session}
+use Rattle.row_changes.proofs.{Changing.stage_kept, Changing.told_kept, Alone.alone_rows, Pushed.table_kept, Keying.changing_next}
+use Rattle.law_logged_changes.proofs.{Logs.all_of, Logs.Grows, Logs.Keeps, Logs.log_on, Logs.empty_log, Listed.listed_of}
 use Rattle.std.specs.Prelude.{slice_get, IfSome, is_some}
-use Rattle.undo_apply.specs.Stages.{GoesOn, IsHindered, IsDone, PutsBack}
-use Rattle.row_changes.specs.Keys.{IsChangingKeys, said_next, HasRowsSoFar, IsEntering}
+use Rattle.undo_apply.specs.{Stages.GoesOn, Stages.IsHindered, Stages.IsDone, Stages.PutsBack, declared.work_room.WorkRoom.WorkRoom}
+use Rattle.row_changes.specs.{Keys.IsChangingKeys, Keys.said_next, Keys.HasRowsSoFar, Keys.IsEntering, Asides.StepsAside, Pairs.RowsStay, Pairs.PutsPair}
+use Rattle.row_changes.specs.{declared.entry_put.PutPhase.PutPhase, declared.keys_change.KeysChange.KeysChange, declared.row_change.RowChange.RowChange}
+use Rattle.row_changes.specs.{Entries.PutPhaseHolds, declared.record_change.RecordChange.RecordChange, declared.entry_put.EntryPut.EntryPut, Told.HasRows}
+use Rattle.row_changes.specs.{Told.AreRowsAs, Rows.IsChangingRowAlone, Records.IsChangingRecord, declared.row_change.RowChange.TheVariants.Keys}
+use Rattle.row_changes.specs.{declared.row_change.RowChange.TheVariants.Record}
 use Rattle.law_stored_rows.specs.{Records.KeepsMore, Edits.clustered_index, Edits.key_index, Tables.Said, Tables.what_is_there}
 use Rattle.row_versions.specs.{Versions.Stays, declared.kept.Kept.Kept, declared.place.Place.Place, Chains.Chains, declared.version.Version.Version}
-use Rattle.std.proofs.{lemmas.Bool.cases_eq, lemmas.Option.slice_get_within}
 use Rattle.inno_types.specs.{declared.value.Schema.Schema, declared.value.Value.Value}
 use Rattle.inno_db.specs.{declared.change.Change.Change, declared.change.Change.TheVariants.Create}
-use Rattle.inno_model.specs.{Past.own}
+use Rattle.inno_model.specs.Past.{own}
 use Rattle.entries.specs.{Pairs.value_of, Index.Index, Index.AreKept}
-use Rattle.law_stored_rows.proofs.{Pairs.no_key}
-use Rattle.row_changes.specs.{Asides.StepsAside, Pairs.RowsStay, Pairs.PutsPair, declared.entry_put.PutPhase.PutPhase}
-use Rattle.row_changes.specs.{declared.keys_change.KeysChange.KeysChange, declared.row_change.RowChange.RowChange, Entries.PutPhaseHolds}
-use Rattle.row_changes.specs.{declared.record_change.RecordChange.RecordChange, declared.entry_put.EntryPut.EntryPut, Told.HasRows, Told.AreRowsAs}
-use Rattle.row_changes.specs.{Rows.IsChangingRowAlone, Records.IsChangingRecord, declared.row_change.RowChange.TheVariants.Keys}
-use Rattle.row_changes.specs.{declared.row_change.RowChange.TheVariants.Record}
-use Rattle.row_changes.proofs.{Ids.one_work, Sessions.one_session, Changing.stage_kept, Changing.told_kept, Alone.alone_rows, Pushed.table_kept}
-use Rattle.row_changes.proofs.{Keying.changing_next}
+use Rattle.law_stored_rows.proofs.Pairs.{no_key}
 use Rattle.undo_apply.proofs.{Telling.leaves_told, Telling.rows_left as stays_leave, Columns.few_keys}
 use Rattle.store_api.specs.{declared.answers.Undo.Undo, declared.moves.Move.Move, declared.moves.Move.TheVariants.Done, declared.moves.Move.TheVariants.Step}
-use Rattle.law_world_agreement.specs.{Agreement.Agrees}
-use Rattle.law_world_agreement.proofs.{Joining.agrees_alike}
-use Rattle.undo_apply.specs.{declared.work_room.WorkRoom.WorkRoom}
-use Rattle.law_logged_changes.proofs.{Listed.listed_of}
+use Rattle.law_world_agreement.specs.Agreement.{Agrees}
+use Rattle.law_world_agreement.proofs.Joining.{agrees_alike}
 
 -- ---- which steps are such
 

@@ -1,39 +1,36 @@
 -- The step that puts a version logs it.
 use Rattle.row_changes.specs.declared.record_change.RecordReached.TheVariants as records
 use Rattle.row_changes.proofs.Pushed.{kept_over, kept_more, key_at, code_of_edit, plain, none_of, written_pointer, small_id}
-use Rattle.row_changes.proofs.Telling.{pairs_told, puts_pairs, tells}
+use Rattle.row_changes.proofs.{Telling.pairs_told, Telling.puts_pairs, Telling.tells, Ids.one_work, Sessions.one_session, Sessions.one_found}
+use Rattle.row_changes.proofs.{Changing.key_short, Changing.value_short, Alone.alone_rows, Keying.beside_stay}
 use Rattle.law_logged_changes.proofs.Leaving.{stay_kept, log_over, same_schemas_grow, none_yet, all_left, aside_left, logs_beside}
-use Rattle.law_logged_changes.proofs.Logs.{taken_here, taken_elsewhere, here_or_not, put_elsewhere}
+use Rattle.law_logged_changes.proofs.Logs.{taken_here, taken_elsewhere, here_or_not, put_elsewhere, all_mapped, one_more}
+use Rattle.law_logged_changes.proofs.Entering.{place_there}
 use Rattle.std.proofs.Common.{◌==◌, ◌≡◌, ◌≢◌, inl, inr, ⊎_elim, ℕ, ◌^◌, ◌<◌, true, false, List, [], ◌∷◌, Option, Some, None, refl, sym, ap, subst, ◌∙◌, arith}
 use Rattle.std.proofs.Common.{slice_get}
 use Rattle.std.proofs.lemmas.Bool.{cases_eq, cond-true, cond-false, eq-eqb, ne_eqb}
-use Rattle.world.specs.State.{WorldState, Session, Work, Logged, HasWork}
-use Rattle.row_changes.specs.Rows.{primary_of, IsChangingRowAlone, ChangesRowAlone}
+use Rattle.world.specs.{State.WorldState, State.Session, State.Work, State.Logged, State.HasWork, Indexes.IsUndo, Told.IsTold, Told.pairs_of}
 use Rattle.row_changes.specs.Records.{IsTable, Records, PutsOver, id_for, IsChangingRecord, RecordsEdit, PutsFirst, PutsVersion, ChangesRecord, undo_of_new}
 use Rattle.row_changes.specs.Records.{undo_of_former}
-use Rattle.row_changes.specs.Edits.{change_of, rows_put, version_by}
+use Rattle.row_changes.specs.{Rows.primary_of, Rows.IsChangingRowAlone, Rows.ChangesRowAlone, Edits.change_of, Edits.rows_put, Edits.version_by}
+use Rattle.row_changes.specs.{declared.reached.Reached.TheVariants.Went, declared.reached.Reached.TheVariants.Done}
+use Rattle.row_changes.specs.{declared.reached.Reached.TheVariants.Hindered, Told.HasRows, declared.record_change.RecordChange.RecordChange}
+use Rattle.row_changes.specs.{declared.row_change.RowChange.TheVariants.Record, declared.row_change.RowChange.TheVariants.Keys}
+use Rattle.row_changes.specs.{declared.reached.Reached.Reached, declared.row_change.RowChange.RowChange, Keys.StaysBesideKeys}
 use Rattle.undo_apply.specs.Standing.{TellsOf, LeadsBack, was_before}
 use Rattle.law_logged_changes.specs.Logs.{RecordsAt, records_of, taken_back, Stands, LogStands, IsLogOf, LogsAgree, IsAlone}
-use Rattle.row_changes.specs.declared.reached.Reached.TheVariants.{Went, Done, Hindered}
-use Rattle.row_changes.proofs.{Ids.one_work, Sessions.one_session, Sessions.one_found, Changing.key_short, Changing.value_short, Alone.alone_rows}
-use Rattle.row_changes.proofs.{Keying.beside_stay}
-use Rattle.law_logged_changes.proofs.{Logs.all_mapped, Logs.one_more, Entering.place_there}
+use Rattle.law_logged_changes.specs.Steps.{HasLogged, LeavesRecords}
 use Rattle.std.specs.{Prelude.is_some, List.AllByRecursion}
 use Rattle.inno_types.specs.{declared.value.Value.Value, declared.value.Schema.Schema}
 use Rattle.inno_db.specs.{declared.change.Change.Change, declared.change.Change.TheVariants.Create}
 use Rattle.inno_model.specs.{Past.own, declared.event.Event.TheVariants.Changed}
 use Rattle.store_api.specs.{declared.answers.Undo.Undo, declared.answers.Version.Version as Coded}
-use Rattle.entries.specs.{Pairs.value_of}
+use Rattle.entries.specs.Pairs.{value_of}
 use Rattle.row_versions.specs.{declared.kept.Kept.Kept, Versions.Stays, declared.place.Place.Place, Chains.Chains}
-use Rattle.row_codec.specs.{Rows.version_code}
+use Rattle.row_codec.specs.Rows.{version_code}
 use Rattle.law_stored_rows.specs.{Edits.clustered_index, Edits.Puts, Records.IsCodeOf, Records.KeepsMore, Tables.AreClustered}
-use Rattle.law_stored_rows.proofs.{Pairs.at_index, Pairs.value_now}
-use Rattle.world.specs.{Indexes.IsUndo, Told.IsTold, Told.pairs_of}
-use Rattle.row_changes.specs.{Told.HasRows, declared.record_change.RecordChange.RecordChange, declared.row_change.RowChange.TheVariants.Record}
-use Rattle.row_changes.specs.{declared.row_change.RowChange.TheVariants.Keys, declared.reached.Reached.Reached, declared.row_change.RowChange.RowChange}
-use Rattle.row_changes.specs.{Keys.StaysBesideKeys}
-use Rattle.undo_apply.proofs.{Columns.before_new, Columns.before_kept}
-use Rattle.law_logged_changes.specs.{Steps.HasLogged, Steps.LeavesRecords}
+use Rattle.law_stored_rows.proofs.Pairs.{at_index, value_now}
+use Rattle.undo_apply.proofs.Columns.{before_new, before_kept}
 
 -- ---- what older records keep is kept
 

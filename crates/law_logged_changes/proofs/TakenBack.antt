@@ -1,26 +1,24 @@
 -- A change that is taken back leaves the log of the older changes.
-use Rattle.law_logged_changes.proofs.{Leaving.log_over, Leaving.same_schemas_grow, Logs.newest_stands, Lags.at_stage, Lags.clustered_while}
-use Rattle.law_logged_changes.proofs.Beginning.{top, tells_of_it, way_settled}
-use Rattle.law_logged_changes.proofs.Logs.{taken_here, taken_elsewhere, here_or_not, put_elsewhere}
-use Rattle.law_logged_changes.proofs.Leaving.{work_beside, work_again, own_beside, none_yet, done_beside}
+use Rattle.law_logged_changes.proofs.Leaving.{log_over, same_schemas_grow, work_beside, work_again, own_beside, none_yet, done_beside}
+use Rattle.law_logged_changes.proofs.Logs.{newest_stands, taken_here, taken_elsewhere, here_or_not, put_elsewhere}
+use Rattle.law_logged_changes.proofs.{Lags.at_stage, Lags.clustered_while, Beginning.top, Beginning.tells_of_it, Beginning.way_settled}
 use Rattle.std.proofs.Common.{◌≡◌, ◌≢◌, ◌⊎◌, inl, inr, ⊎_elim, ℕ, List, ◌∷◌, Option, Some, sym, ap, subst, ◌∙◌, arith, slice_get}
 use Rattle.inno_types.specs.declared.value.Schema.{Schema}
-use Rattle.inno_db.specs.declared.change.Change.{Change}
+use Rattle.inno_db.specs.{declared.change.Change.Change, Database.key_of}
 use Rattle.inno_model.specs.Past.{own}
 use Rattle.store_api.specs.declared.answers.Undo.{Undo}
 use Rattle.entries.specs.Pairs.{Pair, value_of}
-use Rattle.inno_db.specs.Database.{key_of}
-use Rattle.row_versions.specs.{declared.kept.Kept.Kept, declared.place.Place.Place, declared.version.Version.Version, Chains.Chains, Chains.Pops}
-use Rattle.row_versions.specs.Chains.{older as behind}
-use Rattle.law_stored_rows.specs.{Edits.clustered_index, Edits.Puts, Records.shown, Records.kept_of, Records.LeadTo, Records.IsRecordWith}
-use Rattle.law_stored_rows.specs.Tables.{in_table, Said, what_is_there}
+use Rattle.row_versions.specs.Chains.{Chains, Pops, older as behind}
+use Rattle.row_versions.specs.{declared.kept.Kept.Kept, declared.place.Place.Place, declared.version.Version.Version}
+use Rattle.law_stored_rows.specs.Records.{shown, kept_of, LeadTo, IsRecordWith}
+use Rattle.law_stored_rows.specs.{Edits.clustered_index, Edits.Puts, Tables.in_table, Tables.Said, Tables.what_is_there}
 use Rattle.law_stored_rows.proofs.{FromTables.decoded, KeptRows.kept_along, RowRecords.pointer_followed, RowRecords.record_back}
 use Rattle.law_past_agreement.specs.Rows.{place_in}
 use Rattle.world.specs.{State.WorldState, State.Session, State.Work, State.Logged, State.HasWork, Told.IsTold, Told.pairs_of}
 use Rattle.row_changes.specs.Told.{HasRows}
 use Rattle.row_changes.proofs.Telling.{stays_told, same_pairs_of, put_told, put_pairs}
-use Rattle.undo_apply.specs.{declared.work_room.WorkRoom.WorkRoom, Told.rows_of, Stages.IsPuttingBack, Stages.IsDone}
 use Rattle.undo_apply.specs.Standing.{TellsOf, LeadsBack, was_before, versions_before, IsLagging, IsTakenBack}
+use Rattle.undo_apply.specs.{declared.work_room.WorkRoom.WorkRoom, Told.rows_of, Stages.IsPuttingBack, Stages.IsDone}
 use Rattle.undo_apply.proofs.{Taken.stands, Taken.taken_whole, Taken.whole_yet, Columns.before_kept}
 use Rattle.law_logged_changes.specs.Steps.{ChangesPairsAlone, IsToCut, IsRowAgain}
 use Rattle.law_logged_changes.specs.Logs.{records_of, taken_back, HasRecord, Stands, IsLogOf, LogsAgree, IsAlone}

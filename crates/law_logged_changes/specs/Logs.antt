@@ -1,13 +1,11 @@
 -- When the undo log of a transaction is that of its changes: each change of a row has its record there, and the records put
 -- back in turn, the newest first, what was there before.
 use Rattle.std.specs.Prelude.{◌≡◌, ◌≢◌, ℕ, ◌==◌, ◌&&◌, if◌then◌else◌, List, [], ◌∷◌, Option, Some}
-use Rattle.std.specs.List.{AllByRecursion}
-use Rattle.std.specs.BTreeMap.{is_at}
+use Rattle.std.specs.{List.AllByRecursion, BTreeMap.is_at}
 use Rattle.inno_types.specs.declared.value.Schema.{Schema}
 use Rattle.inno_db.specs.{declared.change.Change.Change, declared.change.Change.TheVariants.Create}
 use Rattle.inno_model.specs.Past.{own}
-use Rattle.store_api.specs.{declared.answers.Undo.Undo}
-use Rattle.store_api.specs.declared.answers.Version.{Version as Coded}
+use Rattle.store_api.specs.{declared.answers.Undo.Undo, declared.answers.Version.Version as Coded}
 use Rattle.entries.specs.Pairs.{key_cmp, value_of}
 use Rattle.row_versions.specs.{declared.kept.Kept.Kept, declared.place.Place.Place}
 use Rattle.law_stored_rows.specs.{Edits.clustered_index, Records.IsCodeOf}

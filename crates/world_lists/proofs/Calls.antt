@@ -1,33 +1,61 @@
--- What a call finds of the lists: its session with its transaction, as the past says, what it has under way, and its desk.
-use Rattle.std.proofs.Common.{◌≡◌, ℕ, ◌+◌, ◌<◌, Bool, true, Option, Some, None, List, length, sym, ap, subst, ◌∙◌, arith, get_or, inl, inr, zero, suc, ◌∷◌}
-use Rattle.std.proofs.Common.{map, refl, []}
+-- What a call finds of the lists: its session with its transaction, as the past says, what it has under way, and its desk;
+-- and who is awaited at indexes after each step.
+use Rattle.row_changes.specs.declared.reached.Reached.TheVariants as reached
+use Rattle.std.proofs.Common.{◌≡◌, ℕ, ◌+◌, ◌<◌, Bool, true, Option, Some, None, List, length, sym, ap, subst, ◌∙◌, arith, get_or, zero, suc, ◌∷◌, ◌++◌, map}
+use Rattle.std.proofs.Common.{refl, [], ◌≢◌, ⊎_elim}
 use Rattle.std.proofs.lemmas.Bool.Decides.{eqb_tells}
-use Rattle.std.proofs.lemmas.List.{get_or-set_other}
-use Rattle.std.proofs.lemmas.Option.{slice_get-get_or}
-use Rattle.std.specs.Prelude.{slice_set, slice_index_or, is_some, slice_get, option_map}
-use Rattle.inno_types.specs.declared.reply.Item.{Item}
+use Rattle.std.specs.Prelude.{slice_set, slice_index_or, is_some, slice_get, option_map, if◌then◌else◌}
 use Rattle.inno_model.specs.Past.{own, level, txn, view_of, started, under_way, of_item, IsOpen, awaits_ack}
+use Rattle.inno_model.specs.{declared.event.Event.Event, declared.event.Event.TheVariants.Acked}
+use Rattle.world.specs.State.{WorldState, Session, Work, IsSession, HasWork, standing_of, txn_of, Seen, own_of, level_of}
+use Rattle.world_lists.specs.Between.{IsKept, AwaitsWriter, AwaitsOnly, AwaitsNobody, table_in, table_at}
+use Rattle.world_lists.specs.Parts.{StepsChange, LeavesIfOver}
+use Rattle.law_past_agreement.specs.{Agreement.IsIdle, Agreement.IsWorkOf, Agreement.ViewAgrees, Order.MayCome, Rows.place_in}
+use Rattle.shared_lists.specs.{State.Lists, State.task_of, State.writer_without, Tasks.Idle}
+use Rattle.desks.specs.Desks.{Store, desk_at, doing_at, started_in, with_desk, with_doing, with_start, doing_in}
+use Rattle.desks.specs.declared.desk.Doing.TheVariants.{Nothing, Changing}
+use Rattle.desks.specs.{declared.desk.Desk.Desk, Shown.lists_of, Holding.IsHeld, declared.desk.Doing.Doing}
+use Rattle.row_changes.specs.Rows.{IsChangingRow, ChangesRow, table_of}
+use Rattle.row_changes.specs.{Records.IsListed, declared.row_change.RowChange.RowChange, declared.row_change.RowChange.TheVariants.Record}
+use Rattle.row_changes.specs.{declared.row_change.RowChange.TheVariants.Keys, declared.reached.Reached.Reached, Awaited.AwaitsIn, Awaited.IsOfTable}
+use Rattle.inno_types.specs.{declared.reply.Item.Item, declared.value.Schema.Schema}
 use Rattle.sql_history.specs.Settings.{Setting, at_first}
 use Rattle.store_api.specs.declared.answers.Standing.{Standing}
-use Rattle.world.specs.State.{WorldState, Session, Work, IsSession, HasWork, standing_of, txn_of, Seen, own_of, level_of}
-use Rattle.world.specs.declared.undo_room.UndoRoom.{UndoRoom}
-use Rattle.undo_apply.specs.declared.work_room.WorkRoom.{WorkRoom}
-use Rattle.row_changes.specs.Records.{IsListed}
 use Rattle.law_logged_changes.proofs.Listed.{listed_of}
-use Rattle.world_lists.specs.Between.{IsKept}
 use Rattle.law_world_agreement.specs.Agreement.{sight_of, work_at}
-use Rattle.inno_model.specs.{declared.event.Event.Event, declared.event.Event.TheVariants.Acked}
-use Rattle.law_past_agreement.specs.{Order.MayCome, Rows.place_in, Agreement.IsIdle, Agreement.IsWorkOf, Agreement.ViewAgrees}
-use Rattle.shared_lists.specs.{Tasks.Idle, State.Lists, State.task_of}
-use Rattle.desks.specs.{declared.desk.Desk.Desk, declared.desk.Doing.TheVariants.Nothing, Desks.fresh_desk, Desks.desk_at, Desks.doing_at, Desks.with_start}
-use Rattle.desks.specs.{Shown.seen_of, Holding.IsHeld}
-use Rattle.law_held_steps.proofs.{Showing.rests_of, Showing.setting_at, Items.start_here, Keeping.open_work}
+use Rattle.law_held_steps.proofs.{Showing.rests_of, Showing.setting_at, Keeping.open_work, AnyStep.some_same, Desks.as_many, Desks.desk_elsewhere}
 use Rattle.law_world_agreement.proofs.{Opening.idle_of, Ending.work_of}
-use Rattle.law_held_steps.proofs.AnyStep.{some_same}
+use Rattle.desks.proofs.Showing.{desk_read, set_at}
+use Rattle.entries.specs.Index.{Index}
+use Rattle.row_versions.specs.Chains.{Chains}
+use Rattle.law_stored_rows.specs.Tables.{Said}
+use Rattle.law_held_steps.specs.{Leaving.MovesPlaces, Leaving.LeavesTable, Making.doing_after}
 
-desk_read : (desks : List Desk) (s : ℕ) (read : Desk) → s < length desks → read ≡ get_or desks s read → read ≡ desk_at s desks
-desk_read desks s read within is =
-    is ∙ some_same (get_or desks s read) (desk_at s desks) (sym (slice_get-get_or desks s read within) ∙ slice_get-get_or desks s fresh_desk within)
+-- ---- desks
+
+-- a desk that becomes another twice
+pub with_both : (s : ℕ) (first second : Desk → Desk) (desks : List Desk)
+    → with_desk s second (with_desk s first desks) ≡ with_desk s (λ desk. second (first desk)) desks
+with_both s first second [] = refl
+with_both zero first second (desk ∷ desks) = refl
+with_both (suc s) first second (desk ∷ desks) = ap (λ (ds : List Desk). desk ∷ ds) (with_both s first second desks)
+
+-- what is read of desks, but how many items were started, is as it was once one is
+pub start_leaves : {X : Type 0} (read : Option Desk → X) → ((desk : Desk) → read (Some (record desk { started = desk.started + 1 })) ≡ read (Some desk))
+    → (s u : ℕ) (desks : List Desk) → read (desk_at u (with_start s desks)) ≡ read (desk_at u desks)
+start_leaves read same s u [] = refl
+start_leaves read same zero zero (desk ∷ desks) = same desk
+start_leaves read same zero (suc u) (desk ∷ desks) = refl
+start_leaves read same (suc s) zero (desk ∷ desks) = refl
+start_leaves read same (suc s) (suc u) (desk ∷ desks) = start_leaves read same s u desks
+
+-- and so is what a new desk shows no more of than none
+pub new_leaves : {X : Type 0} (read : Option Desk → X) (desk : Desk) → read (Some desk) ≡ read None → (u : ℕ) (desks : List Desk)
+    → read (desk_at u (desks ++ desk ∷ [])) ≡ read (desk_at u desks)
+new_leaves read desk same zero [] = same
+new_leaves read desk same (suc u) [] = refl
+new_leaves read desk same zero (first ∷ desks) = refl
+new_leaves read desk same (suc u) (first ∷ desks) = new_leaves read desk same u desks
 
 -- ---- what is read of a session is what the past says
 
@@ -39,8 +67,10 @@ there_at (first ∷ sessions) (suc s) within = there_at sessions s (omega (arith
 nsome_same : {X : Type 0} (x : X) → None ≡ Some x → ⊥
 nsome_same x same = cc
 
-module _ {state : WorldState} {writer : Option ℕ} {desks : List Desk} {cuts : ℕ} {undo : UndoRoom} {room : WorkRoom}
-    (held : IsHeld state writer desks cuts undo room) where
+module _ {store : Store} (held : IsHeld store) where
+  abbrev state : WorldState
+  state = store.world
+
   there : (s : ℕ) → s < length state.names → (session : Session) × IsSession s session state
   there s joined = there_at state.sessions s (omega (arith, joined, held.agrees.count))
 
@@ -88,46 +118,48 @@ module _ {state : WorldState} {writer : Option ℕ} {desks : List Desk} {cuts : 
     pub closed_none : level s state.past ≡ None → session.work ≡ None
     closed_none closed = by_work (λ none. none) (λ work was. absurd (nsome_same work.level (sym closed ∙ (work_says work was).level_is)))
 
-module _ (s : ℕ) {state : WorldState} {writer : Option ℕ} {desks : List Desk} {cuts : ℕ} {undo : UndoRoom} {room : WorkRoom} {lists : Lists}
-    (kept : IsKept state writer desks cuts undo room) (view : seen_of undo.table room.stage state writer desks ≡ lists) where
-  pub past_here : (P : List Event → Type 0) → P lists.state.past → P state.past
+module _ (s : ℕ) {store : Store} {lists : Lists} (kept : IsKept store) (view : lists_of store ≡ lists) where
+  abbrev world : WorldState
+  world = store.world
+
+  pub past_here : (P : List Event → Type 0) → P lists.state.past → P world.past
   past_here P given = subst (λ (l : Lists). P l.state.past) (sym view) given
 
-  pub joined_here : s < length lists.state.names → s < length state.names
+  pub joined_here : s < length lists.state.names → s < length world.names
   joined_here joined = subst (λ (l : Lists). s < length l.state.names) (sym view) joined
 
-  pub at_desk : s < length lists.state.names → s < length desks
+  pub at_desk : s < length lists.state.names → s < length store.desks
   at_desk joined = omega (arith, joined_here joined, kept.held.count)
 
-  pub its_session : s < length lists.state.names → (session : Session) × IsSession s session state
+  pub its_session : s < length lists.state.names → (session : Session) × IsSession s session world
   its_session joined = there kept.held s (joined_here joined)
 
-  pub its_work : s < length lists.state.names → IsOpen s lists.state.past → (session : Session) × (work : Work) × HasWork s session work state
+  pub its_work : s < length lists.state.names → IsOpen s lists.state.past → (session : Session) × (work : Work) × HasWork s session work world
   its_work joined is_open = open_work kept.held.agrees s (past_here (IsOpen s) is_open)
 
-  pub at_rest : task_of s lists.state ≡ Idle → doing_at s desks ≡ Nothing
-  at_rest idle = rests_of s undo.table room.stage state writer desks (subst (λ (l : Lists). task_of s l.state ≡ Idle) (sym view) idle)
+  pub at_rest : task_of s lists.state ≡ Idle → doing_at s store.desks ≡ Nothing
+  at_rest idle = rests_of s store (subst (λ (l : Lists). task_of s l.state ≡ Idle) (sym view) idle)
 
-  pub writer_now : lists.state.writer ≡ Some s → writer ≡ Some s
+  pub writer_now : lists.state.writer ≡ Some s → store.writer ≡ Some s
   writer_now mine = ap (λ (l : Lists). l.state.writer) view ∙ mine
 
   -- ---- its transaction
 
   -- it is among the open ones
-  pub its_listed : {session : Session} {work : Work} → HasWork s session work state → IsListed s work state
-  its_listed {session} {work} has = listed_of kept.held.chains writer state s session work kept.held.agrees has
+  pub its_listed : {session : Session} {work : Work} → HasWork s session work world → IsListed s work world
+  its_listed {session} {work} has = listed_of kept.held.chains world s session work kept.held.agrees has
 
-  pub its_txn : {session : Session} {work : Work} → HasWork s session work state → txn s lists.state.past ≡ work.txn
+  pub its_txn : {session : Session} {work : Work} → HasWork s session work world → txn s lists.state.past ≡ work.txn
   its_txn {session} {work} has = sym (ap (λ (l : Lists). txn s l.state.past) view) ∙ txn_is kept.held s has.session_is work.txn (ap txn_of has.work_is)
 
-  pub its_own : {session : Session} → IsSession s session state → (standing_of session).own ≡ length (own s lists.state.past)
+  pub its_own : {session : Session} → IsSession s session world → (standing_of session).own ≡ length (own s lists.state.past)
   its_own is = own_is kept.held s is ∙ ap (λ (l : Lists). length (own s l.state.past)) view
 
   -- ---- what is read of it
 
   module _ (joined : s < length lists.state.names) {read : Standing}
-      (read_is : (session : Session) → IsSession s session state → read ≡ standing_of session) where
-    txn_read : (session : Session) → IsSession s session state → {n : Option ℕ} → read.txn ≡ n → (standing_of session).txn ≡ n
+      (read_is : (session : Session) → IsSession s session world → read ≡ standing_of session) where
+    txn_read : (session : Session) → IsSession s session world → {n : Option ℕ} → read.txn ≡ n → (standing_of session).txn ≡ n
     txn_read session is some = sym (ap (λ (t : Standing). t.txn) (read_is session is)) ∙ some
 
     pub level_read : {n : ℕ} → read.txn ≡ Some n → Some read.level ≡ level s lists.state.past
@@ -155,54 +187,238 @@ module _ (s : ℕ) {state : WorldState} {writer : Option ℕ} {desks : List Desk
         nsome_same work.txn (sym (txn_read session has.session_is none) ∙ ap txn_of has.work_is)
 
   pub view_read : s < length lists.state.names → IsOpen s lists.state.past → {has : Bool}
-      → ((session : Session) (work : Work) → HasWork s session work state → has ≡ is_some work.view) → has ≡ is_some (view_of s lists.state.past)
+      → ((session : Session) (work : Work) → HasWork s session work world → has ≡ is_some work.view) → has ≡ is_some (view_of s lists.state.past)
   view_read joined is_open read =
       let (session, work, has) = its_work joined is_open in
       read session work has ∙ view_is kept.held s has.session_is work has.work_is ∙ ap (λ (l : Lists). is_some (view_of s l.state.past)) view
 
-  pub setting_read : s < length lists.state.names → {setting : Setting} → ((session : Session) → IsSession s session state → setting ≡ session.setting)
+  pub setting_read : s < length lists.state.names → {setting : Setting} → ((session : Session) → IsSession s session world → setting ≡ session.setting)
       → setting ≡ slice_index_or lists.settings s at_first
   setting_read joined read =
       let (session, is) = its_session joined in
-      read session is ∙ sym (setting_at state.sessions s is) ∙ ap (λ (l : Lists). slice_index_or l.settings s at_first) view
+      read session is ∙ sym (setting_at world.sessions s is) ∙ ap (λ (l : Lists). slice_index_or l.settings s at_first) view
 
   -- ---- it has room for its entries
 
   pub may_ack : s < length lists.state.names → (moment : ℕ) → MayCome lists.state.past (Acked s moment)
-      → (session : Session) × IsSession s session state × (session.can_ack ≡ true)
+      → (session : Session) × IsSession s session world × (session.can_ack ≡ true)
   may_ack joined moment may =
       let (session, is) = its_session joined in
       (session, is, kept.held.has_room.acks s session is (past_here (λ h. awaits_ack (of_item s h) ≡ true) may.0))
 
   pub may_reply : s < length lists.state.names → (item : Item) → under_way s lists.state.past ≡ Some item
-      → (session : Session) × IsSession s session state × (session.can_reply ≡ true)
+      → (session : Session) × IsSession s session world × (session.can_reply ≡ true)
   may_reply joined item busy =
       let (session, is) = its_session joined in
       (session, is, kept.held.has_room.replies s session is (ap is_some (past_here (λ h. under_way s h ≡ Some item) busy)))
 
   pub may_end : s < length lists.state.names → IsOpen s lists.state.past
-      → (session : Session) × (work : Work) × HasWork s session work state × (work.can_end ≡ true)
+      → (session : Session) × (work : Work) × HasWork s session work world × (work.can_end ≡ true)
   may_end joined is_open =
       let (session, work, has) = its_work joined is_open in (session, work, has, kept.held.has_room.ends s session work has)
 
   -- ---- what is read of desks
 
-  module _ (joined : s < length lists.state.names) where
-    pub desk_started : {read : Desk} → read ≡ get_or desks s read → read.started ≡ started s lists.state.past
-    desk_started {read} is =
-        ap (λ (desk : Desk). desk.started) (desk_read desks s read (at_desk joined) is)
-        ∙ sym (kept.held.started s) ∙ ap (λ (l : Lists). started s l.state.past) view
+  -- it has a desk still
+  pub still_there : (doing : Doing) {now : List Desk} → now ≡ with_doing s doing store.desks → s < length lists.state.names → s < length now
+  still_there doing gives joined =
+      omega (arith, at_desk joined, ap length gives, as_many s (λ desk. record desk { doing = doing }) store.desks)
 
-    pub desks_started : {read other : Desk} → read ≡ get_or desks s read → other ≡ get_or desks s other
-        → slice_set desks s (record { started = read.started + 1; doing = other.doing }) ≡ with_start s desks
-    desks_started {read} {other} is other_is =
-        ap (λ (desk : Desk). slice_set desks s (record { started = desk.started + 1; doing = other.doing })) (desk_read desks s read (at_desk joined) is)
-        ∙ ap (λ (desk : Desk). slice_set desks s (record { started = (desk_at s desks).started + 1; doing = desk.doing }))
-        (desk_read desks s other (at_desk joined) other_is)
+  module _ (joined : s < length lists.state.names) {read : Desk} (is : read ≡ get_or store.desks s read) where
+    pub its_desk : desk_at s store.desks ≡ Some read
+    its_desk = desk_read store.desks s (at_desk joined) is
 
-    pub doing_started : (u : ℕ) → doing_at u (with_start s desks) ≡ doing_at u desks
-    doing_started u = elim (eqb_tells u s) [
-      | inl same ↦ ap (λ v. doing_at v (with_start s desks)) same.1 ∙ ap (λ (desk : Desk). desk.doing) (start_here desks s (at_desk joined)) ∙ ap
-          (λ v. doing_at v desks) (sym same.1)
-      | inr differ ↦ ap (λ (desk : Desk). desk.doing) (get_or-set_other desks s u _ fresh_desk differ.1)
-    ]
+    pub desk_started : read.started ≡ started s lists.state.past
+    desk_started = sym (ap started_in its_desk) ∙ sym (kept.held.started s) ∙ ap (λ (l : Lists). started s l.state.past) view
+
+    pub desks_started : {count : ℕ} → count ≡ started s lists.state.past
+        → slice_set store.desks s (record read { started = count + 1 }) ≡ with_start s store.desks
+    desks_started {count} count_is =
+        ap (λ n. slice_set store.desks s (record read { started = n + 1 })) (count_is ∙ sym desk_started)
+        ∙ set_at s (λ desk. record desk { started = desk.started + 1 }) store.desks its_desk
+
+-- ---- Who is awaited at indexes, after each step of the lists.
+
+-- nobody is awaited who wasn't before, and the tables are the same
+pub record AwaitsNoMore (old new : WorldState) : Type 0 where
+  pub fewer : (index by : ℕ) → (new.indexes index).awaited ≡ Some by → (old.indexes index).awaited ≡ Some by
+  pub schemas : new.schemas ≡ old.schemas
+
+pub no_more_in : (old new target : WorldState) → new ≡ target → target.indexes ≡ old.indexes → target.schemas ≡ old.schemas → AwaitsNoMore old new
+no_more_in old new target is indexes schemas = record {
+  fewer =
+      λ index by now. ap (λ (at : ℕ → Index). (at index).awaited) (sym indexes) ∙ (ap (λ (state : WorldState). (state.indexes index).awaited) (sym is) ∙ now);
+  schemas = ap (λ (state : WorldState). state.schemas) is ∙ schemas;
+}
+
+pub same_no_more : (old : WorldState) → AwaitsNoMore old old
+same_no_more old = record { fewer = λ index by is. is; schemas = refl }
+
+pub moves_no_more : (s : ℕ) (old new : WorldState) → MovesPlaces s old new → AwaitsNoMore old new
+moves_no_more s old new moves = record { fewer = moves.fewer; schemas = ap (λ (state : WorldState). state.schemas) moves.rest }
+
+-- ---- desks
+
+same_table : (a b : ℕ) → Some a ≡ Some b → a ≡ b
+same_table a b same = cc
+
+no_table : (table : ℕ) → None ≡ Some table → ⊥
+no_table table same = cc
+
+-- the table at a desk, by what is done there
+pub table_by : (desk : Option Desk) {doing : Doing} {found : Option ℕ} → doing_in desk ≡ doing → ((undone : ℕ) → table_in undone doing ≡ found)
+    → doing ≢ Nothing → table_at desk ≡ found
+table_by None is at some = absurd (some (sym is))
+table_by (Some desk) is at some = ap (table_in desk.undo.table) is ∙ at desk.undo.table
+
+-- who has this under way changes no row
+pub rests : (desk : Option Desk) {doing : Doing} → doing_in desk ≡ doing → ((undone : ℕ) → table_in undone doing ≡ None) → table_at desk ≡ None
+rests None is none = refl
+rests (Some desk) is none = ap (table_in desk.undo.table) is ∙ none desk.undo.table
+
+pub awaits_of_nobody : (store : Store) → AwaitsNobody store.world → AwaitsWriter store
+awaits_of_nobody store nobody = record { each = λ index by is. absurd (nobody index by is) }
+
+-- where who may write changes no row, nobody is awaited
+pub awaits_none : (s : ℕ) {store : Store} → AwaitsWriter store → store.writer ≡ Some s → table_at (desk_at s store.desks) ≡ None → AwaitsNobody store.world
+awaits_none s {store} awaits mine rest index by is =
+    let was = awaits.each index by is in
+    let one : by ≡ s = same_table by s (sym was.writes ∙ mine) in
+    no_table was.table (sym (ap (λ n. table_at (desk_at n store.desks)) one ∙ rest) ∙ was.table_is)
+
+-- ---- all that holds
+
+-- who is awaited may write still, and changes a row of the same table
+kept_if : {old : Store} (new : Store) → IsKept old → AwaitsNoMore old.world new.world
+    → ((by table : ℕ) → old.writer ≡ Some by → table_at (desk_at by old.desks) ≡ Some table
+    → (new.writer ≡ Some by) × (table_at (desk_at by new.desks) ≡ Some table)) → IsHeld new → IsKept new
+kept_if new kept more stays held = record {
+  held = held;
+  awaits = record {
+    each = λ index by is. (let was = kept.awaits.each index by (more.fewer index by is) in
+        let on = stays by was.table was.writes was.table_is in
+        record {
+          writes = on.0;
+          table = was.table;
+          table_is = on.1;
+          of_table = subst (λ (schemas : List Schema). IsOfTable was.table schemas index) (sym more.schemas) was.of_table;
+        });
+  };
+}
+
+-- a session that changes no row may have another thing under way, or the right to write no longer
+kept_but : (s : ℕ) {old : Store} (new : Store) → IsKept old → AwaitsNoMore old.world new.world → table_at (desk_at s old.desks) ≡ None
+    → ((by : ℕ) → by ≢ s → old.writer ≡ Some by → new.writer ≡ Some by) → ((by : ℕ) → by ≢ s → desk_at by new.desks ≡ desk_at by old.desks)
+    → IsHeld new → IsKept new
+kept_but s {old} new kept more rest rights others =
+    kept_if new kept more (λ by table writes is. let differs : by ≢ s =
+    λ same. no_table table (sym (ap (λ n. table_at (desk_at n old.desks)) same ∙ rest) ∙ is) in
+    (rights by differs writes, ap table_at (others by differs) ∙ is))
+
+module _ {store : Store} (kept : IsKept store) {new : WorldState} (more : AwaitsNoMore store.world new) where
+  pub kept_by : (now : List Desk) → ((by : ℕ) → table_at (desk_at by now) ≡ table_at (desk_at by store.desks))
+      → IsHeld (record store { world = new; desks = now }) → IsKept (record store { world = new; desks = now })
+  kept_by now same = kept_if (record store { world = new; desks = now }) kept more (λ by table writes is. (writes, same by ∙ is))
+
+  pub kept_on : IsHeld (record store { world = new }) → IsKept (record store { world = new })
+  kept_on = kept_by store.desks (λ by. refl)
+
+  -- one session has another thing under way
+  pub kept_beside : (s : ℕ) (doing : Doing) {now : List Desk} → table_at (desk_at s store.desks) ≡ None → now ≡ with_doing s doing store.desks
+      → IsHeld (record store { world = new; desks = with_doing s doing store.desks }) → IsKept (record store { world = new; desks = now })
+  kept_beside s doing {now} rest gives held =
+      kept_but s (record store { world = new; desks = now }) kept more rest (λ by differs writes. writes) (λ by differs. ap (desk_at by) gives
+      ∙ desk_elsewhere s by (λ (desk : Desk). record desk { doing = doing }) store.desks differs)
+      (subst (λ (desks : List Desk). IsHeld (record store { world = new; desks = desks })) (sym gives) held)
+
+  -- or may write no longer
+  pub kept_closed : (s : ℕ) {later : Option ℕ} → doing_at s store.desks ≡ Nothing → later ≡ writer_without store.writer s
+      → IsHeld (record store { world = new; writer = writer_without store.writer s }) → IsKept (record store { world = new; writer = later })
+  kept_closed s {later} idle is held =
+      kept_but s (record store { world = new; writer = later }) kept more (rests (desk_at s store.desks) idle (λ undone. refl))
+      (λ by differs writes. is ∙ without_stays store.writer by differs writes) (λ by differs. refl)
+      (subst (λ (w : Option ℕ). IsHeld (record store { world = new; writer = w })) (sym is) held)
+    where
+      without_stays : (writer : Option ℕ) (by : ℕ) → by ≢ s → writer ≡ Some by → writer_without writer s ≡ Some by
+      without_stays None by differs writes = absurd (no_table by writes)
+      without_stays (Some w) by differs writes = ⊎_elim (λ t. absurd (differs (sym (same_table w by writes) ∙ t.1))) (λ f. ap (λ (mine : Bool). if mine then
+          None else Some w) f.0 ∙ writes) (eqb_tells w s)
+
+-- the right to write is taken
+pub kept_locked : (s : ℕ) {store : Store} → IsKept store → writer_without store.writer s ≡ None → IsHeld (record store { writer = Some s })
+    → IsKept (record store { writer = Some s })
+kept_locked s {store} kept free =
+    kept_if (record store { writer = Some s }) kept (same_no_more store.world) (λ by table writes is. (is_mine by store.writer free writes, is))
+  where
+    is_mine : (by : ℕ) (writer : Option ℕ) → writer_without writer s ≡ None → writer ≡ Some by → Some s ≡ Some by
+    is_mine by None free writes = absurd (no_table by writes)
+    is_mine by (Some w) free writes = ⊎_elim (λ t. ap (λ n. Some n) (sym t.1 ∙ same_table w by writes))
+        (λ f. absurd (no_table w (sym (ap (λ (mine : Bool). if mine then None else Some w) (sym f.0) ∙ free)))) (eqb_tells w s)
+
+-- ---- one session alone
+
+pub only_mine : (s table : ℕ) {store : Store} → AwaitsWriter store → store.writer ≡ Some s → table_at (desk_at s store.desks) ≡ Some table
+    → AwaitsOnly s table store.world
+only_mine s table {store} awaits mine at = record {
+  each = λ index by is. (let was = awaits.each index by is in
+      let one : by ≡ s = same_table by s (sym was.writes ∙ mine) in
+      let same : was.table ≡ table = same_table was.table table (sym was.table_is ∙ (ap (λ n. table_at (desk_at n store.desks)) one ∙ at)) in
+      (one, subst (λ (t : ℕ). IsOfTable t store.world.schemas index) same was.of_table));
+}
+
+-- a step in a table, by its session
+pub only_then : (s table : ℕ) (old new : WorldState) → AwaitsOnly s table old → AwaitsIn s table old new → new.schemas ≡ old.schemas → AwaitsOnly s table new
+only_then s table old new only awaits same = record {
+  each = λ index by is. (let found = ⊎_elim (only.each index by) (λ mine. mine) (awaits.each index by is) in
+      (found.0, subst (λ (schemas : List Schema). IsOfTable table schemas index) (sym same) found.1));
+}
+
+pub only_left : (s table : ℕ) (old new : WorldState) → AwaitsOnly s table old → MovesPlaces s old new → LeavesTable s table old new → AwaitsNobody new
+only_left s table old new only leaves gone index by is =
+    let was = only.each index by (leaves.fewer index by is) in gone.gone index by was.1 is was.0
+
+pub writer_of_only : (s table : ℕ) (store : Store) → AwaitsOnly s table store.world → store.writer ≡ Some s → table_at (desk_at s store.desks) ≡ Some table
+    → AwaitsWriter store
+writer_of_only s table store only mine at = record {
+  each = λ index by is. (let was = only.each index by is in
+      record {
+        writes = mine ∙ ap (λ n. Some n) (sym was.0);
+        table = table;
+        table_is = ap (λ n. table_at (desk_at n store.desks)) was.0 ∙ at;
+        of_table = was.1;
+      });
+}
+
+-- ---- a change
+
+-- the table of a change stays
+table_on : (s : ℕ) (chains : Chains) (beside : Said) (old new : WorldState) (change next : RowChange)
+    → ChangesRow s chains beside old new change (reached.Went next) → table_of next ≡ table_of change
+table_on s chains beside old new (Record change key after) (Record next key' after') is = is.0.0.table_is
+table_on s chains beside old new (Record change key after) (Keys next) is = is.0.2
+table_on s chains beside old new (Keys change) (Record next key after) is = absurd (is.0)
+table_on s chains beside old new (Keys change) (Keys next) is = is.0.table_is
+
+module _ (s : ℕ) (old : WorldState) (store : Store) (change : RowChange) (mine : store.writer ≡ Some s) (only : AwaitsOnly s (table_of change) old)
+    (chains : Chains) (beside : Said) (schemas : store.world.schemas ≡ old.schemas) where
+  came : (mid : WorldState) (came : Reached RowChange) → doing_at s store.desks ≡ doing_after change came → mid.schemas ≡ old.schemas
+      → AwaitsIn s (table_of change) old mid → MovesPlaces s mid store.world → LeavesIfOver s (table_of change) mid store.world came
+      → ChangesRow s chains beside old mid change came → AwaitsWriter store
+  came mid (reached.Went next) at same awaits leaves gone made =
+      let at_mid = only_then s (table_of change) old mid only awaits same in
+      writer_of_only s (table_of change) store (record {
+        each = λ index by is. (let was = at_mid.each index by (leaves.fewer index by is) in
+            (was.0, subst (λ (schemas : List Schema). IsOfTable (table_of change) schemas index) (same ∙ sym schemas) was.1));
+      }) mine (table_by (desk_at s store.desks) at (λ undone. ap (λ n. Some n) (table_on s chains beside old mid change next made))
+      (λ none. absurd (let same : Changing next ≡ Nothing = none in cc)))
+  came mid reached.Done at same awaits leaves gone made =
+      awaits_of_nobody store
+      (only_left s (table_of change) mid store.world (only_then s (table_of change) old mid only awaits same) leaves gone)
+  came mid (reached.Hindered other why) at same awaits leaves gone made =
+      awaits_of_nobody store
+      (only_left s (table_of change) mid store.world (only_then s (table_of change) old mid only awaits same) leaves gone)
+
+  pub change_awaits : IsChangingRow s chains beside old change → (doing : Doing) (answer : _) (step : StepsChange s change old store.world doing answer)
+      → doing_at s store.desks ≡ doing → step.mid.schemas ≡ old.schemas → AwaitsWriter store
+  change_awaits is_changing doing answer step at same =
+      came step.mid step.reached (at ∙ step.doing_is) same step.awaits step.left step.gone (step.made chains beside is_changing)

@@ -1,40 +1,39 @@
 -- A change of a row in held lists: how it begins, what each of its steps leaves, with the indexes that are left where it is over
 -- or was hindered, and a change that is given up.
+use Rattle.shared_lists.specs.declared.answers.Changed.TheVariants as answers
 use Rattle.std.proofs.Common.{◌≡◌, ℕ, zero, suc, ◌+◌, ◌<◌, ◌^◌, false, true, List, ◌∷◌, length, Option, Some, refl, sym, ap, subst, ◌∙◌, arith, []}
 use Rattle.std.proofs.lemmas.Bool.{false≢true}
-use Rattle.std.specs.Prelude.{slice_get, slice_index_or}
+use Rattle.std.specs.Prelude.{slice_get, slice_index_or, slice_set, get_or}
 use Rattle.inno_db.specs.declared.change.Change.{Change}
 use Rattle.row_versions.specs.Chains.{Chains}
+use Rattle.law_stored_rows.specs.Tables.{Said, what_is_there}
 use Rattle.law_past_agreement.specs.Order.{created}
 use Rattle.key_codec.specs.Keys.{IsOfKind}
 use Rattle.row_changes.proofs.Changing.{lacks_memory}
 use Rattle.law_logged_changes.proofs.Leaving.{left_told}
-use Rattle.undo_apply.specs.declared.work_room.WorkRoom.{WorkRoom}
 use Rattle.shared_lists.specs.Tasks.{Task, Idle, asked, left_by, is_changing, steps_left}
+use Rattle.shared_lists.specs.{Fitting.FitsWell, declared.answers.Changed.Changed, State.Lists, State.Turns, State.task_of, Steps.Changes, Steps.rows_entered}
 use Rattle.desks.specs.declared.desk.Doing.TheVariants.{Nothing, Searching, Changing, Lagging, Undoing}
-use Rattle.desks.proofs.Showing.{task_is}
+use Rattle.desks.specs.Desks.{desk_at, doing_at, with_doing, doing_in}
+use Rattle.desks.specs.{declared.desk.Desk.Desk, declared.desk.Doing.Doing, Desks.Store, Shown.lists_of, Shown.shown, Undoing.left_in, Holding.IsHeld}
+use Rattle.desks.proofs.Showing.{task_is, desk_read, given_at}
 use Rattle.law_held_steps.proofs.Showing.{begun_turns, begun_task, went_shown, entered_shown, done_shown, given_up_shown, rows_shown, left_shown}
-use Rattle.world_lists.specs.Between.{IsKept, AwaitsWriter, can_await, table_at}
+use Rattle.law_held_steps.proofs.Made.{can_be_keyed, begins, change_made}
+use Rattle.law_held_steps.proofs.{Putting.changing_rows, Desks.doing_here, Desks.changes_at_a_desk, Places.held_left}
+use Rattle.world_lists.specs.Between.{IsKept, AwaitsWriter}
 use Rattle.world_lists.specs.Parts.{StepsChange, StepsAtDesk, HasChange, LeavesIfOver, doing_now, is_told, answer_for}
-use Rattle.shared_lists.specs.declared.answers.Changed.TheVariants as answers
 use Rattle.inno_types.specs.{declared.value.Column.Column, declared.value.Schema.Schema}
 use Rattle.inno_model.specs.{Past.IsOpen, declared.event.Event.Event}
 use Rattle.store_api.specs.{declared.moves.Move.Move, declared.moves.Move.TheVariants.NoMemory}
-use Rattle.world.specs.{State.WorldState, Told.IsTold, declared.undo_room.UndoRoom.UndoRoom}
-use Rattle.row_changes.specs.{Awaited.AwaitsIn, declared.row_edit.RowEdit.RowEdit, declared.row_change.RowChange.RowChange}
-use Rattle.row_changes.specs.{declared.row_change.RowChange.TheVariants.Record, declared.row_change.RowChange.TheVariants.Keys}
-use Rattle.row_changes.specs.{declared.reached.Reached.Reached, declared.reached.Reached.TheVariants.Went, declared.reached.Reached.TheVariants.Done}
-use Rattle.row_changes.specs.{declared.reached.Reached.TheVariants.Hindered, Edits.change_of, Records.IsTable, Rows.IsChangingRow, Rows.ChangesRow}
-use Rattle.row_changes.specs.{Rows.table_of, Rows.primary_of}
-use Rattle.shared_lists.specs.{Fitting.FitsWell, declared.answers.Changed.Changed, State.Lists, State.Turns, State.task_of, Steps.Changes, Steps.rows_entered}
-use Rattle.desks.specs.{declared.desk.Desk.Desk, declared.desk.Doing.Doing, Desks.doing_at, Desks.with_doing, Shown.lists_of, Shown.shown, Shown.seen_of}
-use Rattle.desks.specs.{Undoing.undo_left_in, Holding.IsHeld}
-use Rattle.law_held_steps.specs.{Beginning.IsEditable, Beginning.IsKeyOfEdit, Beginning.begun, Leaving.is_searching, Leaving.LeavesIndexes}
-use Rattle.law_held_steps.specs.{Leaving.LeavesTable, Making.doing_after, Making.Comes, Making.LeavesLists, Making.MakesChange}
-use Rattle.law_held_steps.proofs.{Made.can_be_keyed, Made.begins, Made.change_made, Putting.rows_mine, Desks.doing_here, Desks.changes_at_a_desk}
-use Rattle.law_held_steps.proofs.{Left.held_left}
-use Rattle.world_lists.proofs.{Awaiting.kept_beside, Awaiting.same_no_more, Awaiting.change_awaits, Awaiting.only_mine, Calls.past_here, Calls.at_rest}
-use Rattle.world_lists.proofs.{Calls.at_desk, Calls.writer_now}
+use Rattle.world.specs.{State.WorldState, Told.IsTold}
+use Rattle.row_changes.specs.declared.row_change.RowChange.TheVariants.{Record, Keys}
+use Rattle.row_changes.specs.declared.reached.Reached.TheVariants.{Went, Done, Hindered}
+use Rattle.row_changes.specs.Rows.{IsChangingRow, ChangesRow, table_of, primary_of}
+use Rattle.row_changes.specs.{Awaited.AwaitsIn, declared.row_edit.RowEdit.RowEdit, declared.row_change.RowChange.RowChange, declared.reached.Reached.Reached}
+use Rattle.row_changes.specs.{Edits.change_of, Records.IsTable}
+use Rattle.law_held_steps.specs.Making.{doing_after, made_to, Comes, LeavesLists, MakesChange}
+use Rattle.law_held_steps.specs.{Beginning.IsEditable, Beginning.IsKeyOfEdit, Beginning.begun, Leaving.is_searching, Leaving.MovesPlaces, Leaving.LeavesTable}
+use Rattle.world_lists.proofs.Calls.{kept_beside, same_no_more, change_awaits, only_mine, rests, table_by, past_here, at_rest, at_desk, writer_now}
 
 -- ---- the table of a change
 
@@ -48,38 +47,40 @@ few_keys table schema state is =
     let fewer : length schema.keys < 5 = omega arith in
     (schema, is.there, fewer)
 
-table_there : (s : ℕ) (chains : Chains) (state : WorldState) (change : RowChange) → IsChangingRow s chains state change → HasTable (table_of change) state
-table_there s chains state (Record change key after) is = few_keys change.table is.0.schema state is.0.table
-table_there s chains state (Keys change) is = few_keys change.table is.schema state is.table
+module _ (s : ℕ) (chains : Chains) (beside : Said) where
+  table_there : (state : WorldState) (change : RowChange) → IsChangingRow s chains beside state change → HasTable (table_of change) state
+  table_there state (Record change key after) is = few_keys change.table is.0.schema state is.0.table
+  table_there state (Keys change) is = few_keys change.table is.schema state is.table
 
-still_changing : (s : ℕ) (chains : Chains) (old new : WorldState) (change same : RowChange) (why : Move)
-    → ChangesRow s chains old new change (Hindered same why) → IsChangingRow s chains new change
-still_changing s chains old new (Record change key after) same why is = is.1
-still_changing s chains old new (Keys change) same why is = is.1
+  still_changing : (old new : WorldState) (change same : RowChange) (why : Move) → ChangesRow s chains beside old new change (Hindered same why)
+      → IsChangingRow s chains beside new change
+  still_changing old new (Record change key after) same why is = is.1
+  still_changing old new (Keys change) same why is = is.1
 
-done_table : (s : ℕ) (chains : Chains) (old new : WorldState) (change : RowChange) → IsChangingRow s chains old change → ChangesRow s chains old new change Done
-    → HasTable (table_of change) new
-done_table s chains old new (Record change key after) is made = absurd made
-done_table s chains old new (Keys change) is made =
-    let had = table_there s chains old (Keys change) is in
-    (had.0, ap (λ (state : WorldState). slice_get state.schemas change.table) made.0.rest ∙ had.1, had.2)
+  done_table : (old new : WorldState) (change : RowChange) → IsChangingRow s chains beside old change → ChangesRow s chains beside old new change Done
+      → HasTable (table_of change) new
+  done_table old new (Record change key after) is made = absurd made
+  done_table old new (Keys change) is made =
+      let had = table_there old (Keys change) is in
+      (had.0, ap (λ (state : WorldState). slice_get state.schemas change.table) made.0.rest ∙ had.1, had.2)
 
 -- it is there where a change has come so far, and where one is given up
 module _ (s : ℕ) {table : ℕ} (change : RowChange) (table_is : table ≡ table_of change) (old : WorldState)
-    (may : (chains : Chains) × IsChangingRow s chains old change) where
+    (may : (chains : Chains) × (beside : Said) × IsChangingRow s chains beside old change) where
   pub table_dropped : HasTable table old
-  table_dropped = subst (λ n. HasTable n old) (sym table_is) (table_there s may.0 old change may.1)
+  table_dropped = subst (λ n. HasTable n old) (sym table_is) (table_there s may.0 may.1 old change may.2)
 
   module _ (new : WorldState) (came : Reached RowChange)
-      (made : (chains : Chains) → IsChangingRow s chains old change → ChangesRow s chains old new change came) where
+      (made : (chains : Chains) (beside : Said) → IsChangingRow s chains beside old change → ChangesRow s chains beside old new change came) where
+    made_as : {reached : Reached RowChange} → came ≡ reached → ChangesRow s may.0 may.1 old new change reached
+    made_as is = subst (ChangesRow s may.0 may.1 old new change) is (made may.0 may.1 may.2)
+
     pub table_left : {same : RowChange} {why : Move} → came ≡ Hindered same why → HasTable table new
     table_left {same} {why} is =
-        let still = still_changing s may.0 old new change same why (subst (ChangesRow s may.0 old new change) is (made may.0 may.1)) in
-        subst (λ n. HasTable n new) (sym table_is) (table_there s may.0 new change still)
+        subst (λ n. HasTable n new) (sym table_is) (table_there s may.0 may.1 new change (still_changing s may.0 may.1 old new change same why (made_as is)))
 
     pub table_over : came ≡ Done → HasTable table new
-    table_over is =
-        subst (λ n. HasTable n new) (sym table_is) (done_table s may.0 old new change may.1 (subst (ChangesRow s may.0 old new change) is (made may.0 may.1)))
+    table_over is = subst (λ n. HasTable n new) (sym table_is) (done_table s may.0 may.1 old new change may.2 (made_as is))
 
 pub gone_by : {s table other : ℕ} {old new : WorldState} → table ≡ other → LeavesTable s table old new → LeavesTable s other old new
 gone_by {s} {old = old} {new = new} same gone = subst (λ n. LeavesTable s n old new) same gone
@@ -102,14 +103,15 @@ lies_there (Record change key after) (Keys next) is = ap (doing_now (Record chan
 lies_there (Keys change) (Record next key after) is = ap (doing_now (Keys change) (Record next key after)) is
 lies_there (Keys change) (Keys next) is = ap (doing_now (Keys change) (Keys next)) is
 
-pub step_of : {s : ℕ} (change : RowChange) {old mid new : WorldState} {doing : Doing} {answer : Changed} {came : Reached RowChange} (reached : Reached
-    RowChange) → AwaitsIn s (table_of change) old mid → LeavesIndexes s mid new → came ≡ reached → ((chains : Chains) → IsChangingRow s chains old change
-    → ChangesRow s chains old mid change came) → LeavesIfOver s (table_of change) mid new reached → doing ≡ doing_after change reached → answer ≡ answer_for
-    change reached → StepsChange s change old new doing answer
+pub step_of : {s : ℕ} (change : RowChange) {old mid new : WorldState} {doing : Doing} {answer : Changed} {came : Reached RowChange}
+    (reached : Reached RowChange) → AwaitsIn s (table_of change) old mid → MovesPlaces s mid new → came ≡ reached
+    → ((chains : Chains) (beside : Said) → IsChangingRow s chains beside old change → ChangesRow s chains beside old mid change came)
+    → LeavesIfOver s (table_of change) mid new reached → doing ≡ doing_after change reached → answer ≡ answer_for change reached
+    → StepsChange s change old new doing answer
 step_of {s} change {old} {mid} reached awaits left is made gone doing_is answer_is = record {
   mid = mid;
   reached = reached;
-  made = λ chains changing. subst (ChangesRow s chains old mid change) is (made chains changing);
+  made = λ chains beside changing. subst (ChangesRow s chains beside old mid change) is (made chains beside changing);
   awaits = awaits;
   left = left;
   gone = gone;
@@ -117,14 +119,23 @@ step_of {s} change {old} {mid} reached awaits left is made gone doing_is answer_
   answer_is = answer_is;
 }
 
+-- a change that has made a step where it lies: what is left of it is at its desk
+pub steps_there : (s : ℕ) {old new : WorldState} (desks : List Desk) {read : Desk} {change : RowChange} {doing put : Doing} {answer : Changed}
+    → s < length desks → read ≡ get_or desks s read → read.doing ≡ Changing change → StepsChange s change old new doing answer → put ≡ doing
+    → StepsAtDesk s old new desks (slice_set desks s (record read { doing = put })) answer
+steps_there s {old} {new} desks {change = change} {doing = doing} {answer = answer} within is at step same other is_other =
+    let one : change ≡ other = (let e : Changing change ≡ Changing other =
+    sym at ∙ (sym (ap doing_in (desk_read desks s within is)) ∙ is_other) in cc) in
+    (doing, subst (λ (c : RowChange). StepsChange s c old new doing answer) one step, given_at s doing desks within is same)
+
 -- ---- a change that is given up
 
 -- one that the history doesn't tell is as where it found no memory
-pub dropped : (s : ℕ) (chains : Chains) (state : WorldState) (change : RowChange) → is_told change ≡ false → IsChangingRow s chains state change
-    → ChangesRow s chains state state change (Hindered change NoMemory)
-dropped s chains state (Record change key after) untold is =
+pub dropped : (s : ℕ) (chains : Chains) (beside : Said) (state : WorldState) (change : RowChange) → is_told change ≡ false
+    → IsChangingRow s chains beside state change → ChangesRow s chains beside state state change (Hindered change NoMemory)
+dropped s chains beside state (Record change key after) untold is =
     let lacks = lacks_memory s state change is.0 in (refl, is, (lacks.1, lacks.3, lacks.4, lacks.5))
-dropped s chains state (Keys change) untold is = absurd (false≢true (sym untold))
+dropped s chains beside state (Keys change) untold is = absurd (false≢true (sym untold))
 
 pub nothing_after : (change : RowChange) → is_told change ≡ false → Nothing ≡ doing_after change (Hindered change NoMemory)
 nothing_after (Record change key after) untold = refl
@@ -154,18 +165,17 @@ pub record Begins (s : ℕ) (change : Change) (old new : Lists) : Type 0 where
   pub settings : new.settings ≡ old.settings
   pub rows : new.rows ≡ old.rows
 
-module _ (s : ℕ) {state : WorldState} {writer : Option ℕ} {desks : List Desk} {cuts : ℕ} {undo : UndoRoom} {room : WorkRoom} {lists : Lists}
-    (kept : IsKept state writer desks cuts undo room) (view : seen_of undo.table room.stage state writer desks ≡ lists)
-    (locked : lists.state.writer ≡ Some s) {change : Change} (fits : FitsWell (created lists.state.past) change) (table : ℕ) (edit : RowEdit)
-    (is : change_of table edit ≡ change) {slice tables : List Schema} (slice_is : slice ≡ tables) (tables_are : tables ≡ state.schemas) where
-  held_mine : IsHeld state (Some s) desks cuts undo room
-  held_mine = subst (λ (w : Option ℕ). IsHeld state w desks cuts undo room) (writer_now s kept view locked) kept.held
+module _ (s : ℕ) {store : Store} {lists : Lists} (kept : IsKept store) (view : lists_of store ≡ lists) (locked : lists.state.writer ≡ Some s)
+    {change : Change} (fits : FitsWell (created lists.state.past) change) (table : ℕ) (edit : RowEdit) (is : change_of table edit ≡ change)
+    {slice tables : List Schema} (slice_is : slice ≡ tables) (tables_are : tables ≡ store.world.schemas) where
+  abbrev state : WorldState
+  state = store.world
 
   fits_mine : FitsWell (created state.past) (change_of table edit)
   fits_mine = subst (FitsWell (created state.past)) (sym is) (past_here s kept view (λ h. FitsWell (created h) change) fits)
 
   can : IsEditable state table edit
-  can = can_be_keyed held_mine table edit fits_mine
+  can = can_be_keyed kept.held table edit fits_mine
 
   pub edit_within : table < length slice
   edit_within = subst (λ (schemas : List Schema). table < length schemas) (sym (slice_is ∙ tables_are)) can.within
@@ -180,34 +190,32 @@ module _ (s : ℕ) {state : WorldState} {writer : Option ℕ} {desks : List Desk
         one (can.column, can.primary, can.of_kind)
 
     module _ (idle : task_of s lists.state ≡ Idle) (key : List ℕ) (spelled : IsKeyOfEdit found edit key) {first : RowChange}
-        (is_first : first ≡ begun table edit key) {later : List Desk} (gives_first : later ≡ with_doing s (Changing first) desks) where
-      gives : later ≡ with_doing s (Changing (begun table edit key)) desks
-      gives = subst (λ (c : RowChange). later ≡ with_doing s (Changing c) desks) is_first gives_first
+        (is_first : first ≡ begun table edit key) {later : List Desk} (gives_first : later ≡ with_doing s (Changing first) store.desks) where
+      gives : later ≡ with_doing s (Changing (begun table edit key)) store.desks
+      gives = subst (λ (c : RowChange). later ≡ with_doing s (Changing c) store.desks) is_first gives_first
 
-      pub change_kept : IsOpen s lists.state.past → IsKept state writer later cuts undo room
+      pub change_kept : IsOpen s lists.state.past → IsKept (record store { desks = later })
       change_kept is_open =
-          let rests = at_rest s kept view idle in
+          let idles = at_rest s kept view idle in
           let there = subst (λ (schema : Schema). slice_get state.schemas table ≡ Some schema) one can.there in
-          kept_beside state state writer desks cuts undo room kept (same_no_more state state refl) s _ later (ap can_await rests) gives
-          (subst (λ (w : Option ℕ). IsHeld state w later cuts undo room) (sym (writer_now s kept view locked)) (subst (λ (ds : List Desk). IsHeld state (Some s)
-          ds cuts undo room) (sym gives) (begins held_mine table found edit key rests (past_here s kept view (IsOpen s) is_open) fits_mine there spelled)))
+          kept_beside kept (same_no_more state) s (Changing (begun table edit key)) (rests (desk_at s store.desks) idles (λ undone. refl)) gives
+          (begins kept.held (writer_now s kept view locked) table found edit key idles (past_here s kept view (IsOpen s) is_open) fits_mine there spelled)
 
-      pub change_begins : s < length lists.state.names → Begins s change lists (seen_of undo.table room.stage state writer later)
+      pub change_begins : s < length lists.state.names → Begins s change lists (lists_of (record store { desks = later }))
       change_begins joined =
-          let left = undo_left_in undo.table room.stage state in
-          let now : Lists = lists_of state (Some s) (with_doing s (Changing (begun table edit key)) desks) left in
-          let task = begun_task held_mine (at_desk s kept view joined) left table edit key now refl in
-          let mine : Begins s change (lists_of state (Some s) desks left) now = record {
-            turns = begun_turns held_mine (at_desk s kept view joined) left left table edit key now refl;
+          let now : Lists = lists_of (record store { desks = later }) in
+          let now_is : now ≡ lists_of (record store { desks = with_doing s (Changing (begun table edit key)) store.desks })
+          = ap (λ (ds : List Desk). lists_of (record store { desks = ds })) gives in
+          let mine = writer_now s kept view locked in
+          let task = begun_task kept.held mine (at_desk s kept view joined) table edit key now now_is in
+          subst (λ (l : Lists). Begins s change l now) view (record {
+            turns = begun_turns kept.held mine (at_desk s kept view joined) table edit key now now_is;
             changing = task.0;
             asked_is = subst (λ (asks : Change). asked (task_of s now.state) ≡ Some asks) is task.1;
             few = task.2;
             settings = refl;
             rows = refl;
-          } in
-          subst (λ (l : Lists). Begins s change l (lists_of state writer later left)) view
-          (subst (λ (w : Option ℕ). Begins s change (lists_of state w desks left) (lists_of state w later left)) (sym (writer_now s kept view locked))
-          (subst (λ (ds : List Desk). Begins s change (lists_of state (Some s) desks left) (lists_of state (Some s) ds left)) (sym gives) mine))
+          })
 
 -- ---- a step of a change
 
@@ -231,31 +239,35 @@ no_more : (new old : ℕ) → new ≡ old → new ≡ old + 0
 no_more new old same = omega arith
 
 -- what a step shows, by how far it came
-module _ (s : ℕ) (desks : List Desk) (cuts : ℕ) (undo : UndoRoom) (room : WorkRoom) (old new : WorldState) (left later : ℕ)
-    (held : IsHeld old (Some s) desks cuts undo room) (leaves : LeavesLists old new) where
-  abbrev Shows : RowChange → Reached RowChange → Type 0
-  Shows change came =
-      ChangesIn s (lists_of old (Some s) desks left) (lists_of new (Some s) (with_doing s (doing_after change came) desks) later) (answer_for change came)
+module _ {s : ℕ} {store : Store} {new : WorldState} (held : IsHeld store) (mine : store.writer ≡ Some s) (leaves : LeavesLists store.world new)
+    (within : s < length store.desks) where
+  abbrev was_world : WorldState
+  was_world = store.world
 
-  came_shown : (change : RowChange) (came : Reached RowChange) → doing_at s desks ≡ Changing change → Comes s old new change came → Shows change came
+  abbrev Shows : RowChange → Reached RowChange → Type 0
+  Shows change came = ChangesIn s (lists_of store) (lists_of (made_to s store new change came)) (answer_for change came)
+
+  came_shown : (change : RowChange) (came : Reached RowChange) → doing_at s store.desks ≡ Changing change → Comes s was_world new change came
+      → Shows change came
   came_shown (Record change key after) (Went (Record next key' after')) at comes =
-      all_of (went_shown left later held leaves at comes) leaves.settings (no_more new.rows old.rows comes.adds.rows)
+      all_of (went_shown held mine leaves within at comes) leaves.settings (no_more new.rows was_world.rows comes.adds.rows)
   came_shown (Record change key after) (Went (Keys next)) at comes =
-      all_of (entered_shown left later held leaves at comes) leaves.settings (rows_shown desks left at comes)
+      all_of (entered_shown held mine leaves within at comes) leaves.settings (rows_shown held mine leaves within at comes)
   came_shown (Keys change) (Went (Record next key' after')) at comes = absurd comes
   came_shown (Keys change) (Went (Keys next)) at comes =
-      all_of (went_shown left later held leaves at comes) leaves.settings (no_more new.rows old.rows comes.adds.rows)
+      all_of (went_shown held mine leaves within at comes) leaves.settings (no_more new.rows was_world.rows comes.adds.rows)
   came_shown (Record change key after) Done at comes = absurd (let none = comes.1 in cc)
   came_shown (Keys change) Done at comes =
-      all_of (done_shown left later held leaves at comes.0 comes.1) leaves.settings (no_more new.rows old.rows comes.0.rows)
+      all_of (done_shown held mine leaves within at comes.0 comes.1) leaves.settings (no_more new.rows was_world.rows comes.0.rows)
   came_shown (Record change key after) (Hindered same why) at comes =
-      all_of (given_up_shown left later held leaves at comes.0) leaves.settings (no_more new.rows old.rows comes.0.rows)
+      all_of (given_up_shown held mine leaves within at comes.0) leaves.settings (no_more new.rows was_world.rows comes.0.rows)
   came_shown (Keys change) (Hindered same why) at comes =
-      all_of (given_up_shown left later held leaves at comes.0) leaves.settings (no_more new.rows old.rows comes.0.rows)
+      all_of (given_up_shown held mine leaves within at comes.0) leaves.settings (no_more new.rows was_world.rows comes.0.rows)
 
-module _ (s : ℕ) (desks : List Desk) (cuts : ℕ) (undo : UndoRoom) (room : WorkRoom) (old new : WorldState) (change : RowChange) (doing : Doing)
-    (answer : Changed) (step : StepsChange s change old new doing answer) (held : IsHeld old (Some s) desks cuts undo room)
-    (at : doing_at s desks ≡ Changing change) (was : IsTold old) (told : IsTold new) (few : length new.past < 2 ^ 63) where
+-- A step is made of the change at the desk of the session, which may write.
+module _ (s : ℕ) {store : Store} {new : WorldState} {change : RowChange} {doing : Doing} {answer : Changed}
+    (step : StepsChange s change store.world new doing answer) (kept : IsKept store) (mine : store.writer ≡ Some s)
+    (at : doing_at s store.desks ≡ Changing change) (was : IsTold store.world) (told : IsTold new) (few : length new.past < 2 ^ 63) where
   told_mid : IsTold step.mid
   told_mid =
       left_told step.mid new (record {
@@ -264,35 +276,48 @@ module _ (s : ℕ) (desks : List Desk) (cuts : ℕ) (undo : UndoRoom) (room : Wo
         versions = step.left.versions;
       }) told
 
-  is_made : MakesChange s desks cuts undo room old step.mid change step.reached
+  is_made : MakesChange s store step.mid change step.reached
   is_made =
-      change_made held at step.made was told_mid
+      change_made kept.held mine at (λ chains. step.made chains (what_is_there chains)) was told_mid
       (subst (λ (past : List Event). length past < 2 ^ 63) (ap (λ (state : WorldState). state.past) step.left.rest) few)
 
-  mid_same : step.mid.schemas ≡ old.schemas
-  mid_same = is_made.leaves.schemas
+  within : s < length store.desks
+  within = changes_at_a_desk s store.desks at
 
-  mine_awaits : AwaitsWriter old (Some s) desks undo.table → (later : List Desk) → doing_at s later ≡ doing → AwaitsWriter new (Some s) later undo.table
-  mine_awaits awaits later now =
-      change_awaits s old new desks undo.table change (only_mine s old (Some s) desks undo.table (table_of change) awaits refl (ap (table_at undo.table) at))
-      held.chains (rows_mine s held refl at).0 (ap (λ (state : WorldState). state.schemas) step.left.rest ∙ mid_same) doing answer later step now mid_same
+  abbrev made_mid : Store
+  made_mid = made_to s store step.mid change step.reached
 
-  abbrev desks_then : List Desk
-  desks_then = with_doing s (doing_after change step.reached) desks
+  abbrev made : Store
+  made = record store { world = new; desks = with_doing s doing store.desks }
 
-  none : is_searching (doing_at s desks_then) ≡ false
-  none = ap is_searching (doing_here s (doing_after change step.reached) desks (changes_at_a_desk s desks at)) ∙ not_searching change step.reached
+  none : is_searching (doing_at s made_mid.desks) ≡ false
+  none = ap is_searching (doing_here s (doing_after change step.reached) store.desks within) ∙ not_searching change step.reached
 
-  mine_held : IsHeld new (Some s) (with_doing s doing desks) cuts undo room
-  mine_held = subst (λ (d : Doing). IsHeld new (Some s) (with_doing s d desks) cuts undo room) (sym step.doing_is) (held_left step.left is_made.held none told)
+  -- the same of what the step was made to
+  as_made : (P : Store → Type 0) → P (record made_mid { world = new }) → P made
+  as_made P holds = subst (λ (d : Doing). P (record store { world = new; desks = with_doing s d store.desks })) (sym step.doing_is) holds
 
-  mine_shown : (left later : ℕ) → ChangesIn s (lists_of old (Some s) desks left) (lists_of new (Some s) (with_doing s doing desks) later) answer
-  mine_shown left later =
-      let before : Lists = lists_of old (Some s) desks left in
-      let shows = came_shown s desks cuts undo room old step.mid left later held is_made.leaves change step.reached at is_made.comes in
-      subst (λ (d : Doing). ChangesIn s before (lists_of new (Some s) (with_doing s d desks) later) answer) (sym step.doing_is)
-      (subst (λ (a : Changed). ChangesIn s before (lists_of new (Some s) desks_then later) a) (sym step.answer_is) (subst (λ (now : Lists). ChangesIn s before
-      now (answer_for change step.reached)) (sym (left_shown (Some s) desks_then later step.left none told)) shows))
+  mine_awaits : AwaitsWriter made
+  mine_awaits =
+      change_awaits s store.world made change mine (only_mine s (table_of change) kept.awaits mine (table_by (desk_at s store.desks) at (λ undone. refl)
+      (λ none. absurd (let same : Changing change ≡ Nothing = none in cc)))) kept.held.chains (what_is_there kept.held.chains)
+      (ap (λ (state : WorldState). state.schemas) step.left.rest ∙ is_made.leaves.schemas) (changing_rows s kept.held mine at).0 doing answer step
+      (doing_here s doing store.desks within) is_made.leaves.schemas
+
+  mine_kept : IsKept made
+  mine_kept = record { held = as_made IsHeld (held_left step.left is_made.held none told); awaits = mine_awaits }
+
+  mine_shown : ChangesIn s (lists_of store) (lists_of made) answer
+  mine_shown =
+      as_made (λ now. ChangesIn s (lists_of store) (lists_of now) answer) (subst (λ (a : Changed). ChangesIn s (lists_of store)
+      (lists_of (record made_mid { world = new })) a) (sym step.answer_is) (subst (λ (now : Lists). ChangesIn s (lists_of store) now
+      (answer_for change step.reached)) (sym (left_shown made_mid step.left none told))
+      (came_shown kept.held mine is_made.leaves within change step.reached at is_made.comes)))
+
+untold_if : (schemas : List Schema) (left : ℕ) (change : RowChange) {asks : Change} → asked (shown schemas left (Changing change)) ≡ Some asks
+    → is_told change ≡ false
+untold_if schemas left (Record change key after) is = refl
+untold_if schemas left (Keys change) is = absurd (cc)
 
 changing_shown : (schemas : List Schema) (left : ℕ) (doing : Doing) → is_changing (shown schemas left doing) ≡ true
     → (change : RowChange) × (doing ≡ Changing change)
@@ -303,63 +328,60 @@ changing_shown schemas left Lagging is = absurd (cc)
 changing_shown schemas left Undoing is = absurd (cc)
 
 -- The session may write, and a step is made of the change at its desk.
-module _ (s : ℕ) {old : WorldState} {writer : Option ℕ} {desks : List Desk} {cuts : ℕ} {undo : UndoRoom} {room : WorkRoom} {lists : Lists}
-    (kept : IsKept old writer desks cuts undo room) (view : seen_of undo.table room.stage old writer desks ≡ lists)
-    (locked : lists.state.writer ≡ Some s) where
-  abbrev left : ℕ
-  left = undo_left_in undo.table room.stage old
+module _ (s : ℕ) {store : Store} {lists : Lists} (kept : IsKept store) (view : lists_of store ≡ lists) (locked : lists.state.writer ≡ Some s) where
+  abbrev old : WorldState
+  old = store.world
 
-  its : writer ≡ Some s
+  its : store.writer ≡ Some s
   its = writer_now s kept view locked
 
-  held_now : IsHeld old (Some s) desks cuts undo room
-  held_now = subst (λ (w : Option ℕ). IsHeld old w desks cuts undo room) its kept.held
-
   module _ {new : WorldState} (was : IsTold old) (told : IsTold new) (few : length new.past < 2 ^ 63) {change : RowChange}
-      (at : doing_at s desks ≡ Changing change) {doing : Doing} {answer : Changed} (step : StepsChange s change old new doing answer)
-      {later : List Desk} (gives : later ≡ with_doing s doing desks) where
-    pub step_kept : IsKept new writer later cuts undo room
-    step_kept = record {
-      held = subst (λ (w : Option ℕ). IsHeld new w later cuts undo room) (sym its) (subst (λ (ds : List Desk). IsHeld new (Some s) ds cuts undo room)
-          (sym gives) (mine_held s desks cuts undo room old new change doing answer step held_now at was told few));
-      record_room = kept.record_room;
-      awaits = subst (λ (w : Option ℕ). AwaitsWriter new w later undo.table) (sym its) (mine_awaits s desks cuts undo room old new change doing answer step
-          held_now at was told few (subst (λ (w : Option ℕ). AwaitsWriter old w desks undo.table) its kept.awaits) later (ap (doing_at s) gives ∙ doing_here s
-          doing desks (changes_at_a_desk s desks at)));
-    }
+      (at : doing_at s store.desks ≡ Changing change) {doing : Doing} {answer : Changed} (step : StepsChange s change old new doing answer)
+      {later : List Desk} (gives : later ≡ with_doing s doing store.desks) where
+    abbrev now : Store
+    now = record store { world = new; desks = later }
 
-    pub step_shown : ChangesIn s lists (seen_of undo.table room.stage new writer later) answer
+    pub step_kept : IsKept now
+    step_kept = subst (λ (ds : List Desk). IsKept (record store { world = new; desks = ds })) (sym gives) (mine_kept s step kept its at was told few)
+
+    pub step_shown : ChangesIn s lists (lists_of now) answer
     step_shown =
-        let left_now = undo_left_in undo.table room.stage new in
-        subst (λ (l : Lists). ChangesIn s l (lists_of new writer later left_now) answer) view (subst (λ (w : Option ℕ). ChangesIn s (lists_of old w desks left)
-        (lists_of new w later left_now) answer) (sym its) (subst (λ (ds : List Desk). ChangesIn s (lists_of old (Some s) desks left) (lists_of new (Some s) ds
-        left_now) answer) (sym gives) (mine_shown s desks cuts undo room old new change doing answer step held_now at was told few left left_now)))
+        subst (λ (l : Lists). ChangesIn s l (lists_of now) answer) view (subst (λ (ds : List Desk). ChangesIn s (lists_of store)
+        (lists_of (record store { world = new; desks = ds })) answer) (sym gives) (mine_shown s step kept its at was told few))
 
     -- a change that was asked for and is given up is nothing
-    pub step_stops : (asks : Change) → asked (task_of s lists.state) ≡ Some asks → answer ≡ answers.NoMemory
-        → Turns s Idle lists.state (seen_of undo.table room.stage new writer later).state
+    pub step_stops : (asks : Change) → asked (task_of s lists.state) ≡ Some asks → answer ≡ answers.NoMemory → Turns s Idle lists.state (lists_of now).state
     step_stops asks asked_is is =
-        subst (λ (o : Option Change). Turns s (left_by o) lists.state (seen_of undo.table room.stage new writer later).state) asked_is
-        (subst (Changes s lists.state (seen_of undo.table room.stage new writer later).state) is step_shown.changes)
+        subst (λ (o : Option Change). Turns s (left_by o) lists.state (lists_of now).state) asked_is
+        (subst (Changes s lists.state (lists_of now).state) is step_shown.changes)
+
+  -- what it has under way, where that is known
+  pub its_change : {change : RowChange} → doing_at s store.desks ≡ Changing change
+      → (chains : Chains) × (beside : Said) × IsChangingRow s chains beside old change
+  its_change at = (kept.held.chains, what_is_there kept.held.chains, (changing_rows s kept.held its at).0)
+
+  pub its_untold : {change : RowChange} {asks : Change} → doing_at s store.desks ≡ Changing change → asked (task_of s lists.state) ≡ Some asks
+      → is_told change ≡ false
+  its_untold {change} at asks =
+      let left = left_in old (desk_at s store.desks) in
+      untold_if old.schemas left change (ap (λ (d : Doing). asked (shown old.schemas left d)) (sym at) ∙ (ap asked (sym (task_is s store))
+      ∙ (ap (λ (l : Lists). asked (task_of s l.state)) view ∙ asks)))
 
   module _ (changing : is_changing (task_of s lists.state) ≡ true) where
     -- who shows that it changes a row has a change under way
-    pub may_change : HasChange s old desks
+    pub may_change : HasChange s old store.desks
     may_change =
-        let found = changing_shown old.schemas left (doing_at s desks) (subst (λ (t : Task). is_changing t ≡ true) (task_is s left old writer desks)
-        (subst (λ (l : Lists). is_changing (task_of s l.state) ≡ true) (sym view) changing)) in (
-          found.0,
-          found.1,
-          kept.held.chains,
-          (rows_mine s kept.held its found.1).0,
-        )
+        let found = changing_shown old.schemas (left_in old (desk_at s store.desks)) (doing_at s store.desks) (subst (λ (t : Task). is_changing t ≡ true)
+        (task_is s store) (subst (λ (l : Lists). is_changing (task_of s l.state) ≡ true) (sym view) changing)) in
+        let mine = its_change found.1 in
+        (found.0, found.1, mine.0, mine.1, mine.2)
 
     module _ {new : WorldState} (was : IsTold old) (told : IsTold new) (few : length new.past < 2 ^ 63) {later : List Desk} {answer : Changed}
-        (made : StepsAtDesk s old new desks later answer) where
-      pub desk_kept : IsKept new writer later cuts undo room
+        (made : StepsAtDesk s old new store.desks later answer) where
+      pub desk_kept : IsKept (record store { world = new; desks = later })
       desk_kept = let step = made may_change.0 may_change.1 in step_kept was told few may_change.1 step.1 step.2
 
-      pub desk_shown : ChangesIn s lists (seen_of undo.table room.stage new writer later) answer
+      pub desk_shown : ChangesIn s lists (lists_of (record store { world = new; desks = later })) answer
       desk_shown = let step = made may_change.0 may_change.1 in step_shown was told few may_change.1 step.1 step.2
 
 pub none_entered : (new old : ℕ) → new ≡ old + 0 → new ≡ old

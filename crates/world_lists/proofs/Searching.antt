@@ -1,55 +1,50 @@
 -- Searches in held lists: what one needs that begins, what is held after each step, what callers see of it, and the newest rows
 -- of a table, which are read at once.
-use Rattle.std.proofs.Common.{◌≡◌, ◌≢◌, inl, inr, ℕ, ◌<◌, ◌==◌, true, false, not, List, map, length, get_or, Option, Some, None, slice_get, [], Result, Ok}
-use Rattle.std.proofs.Common.{Err, refl, sym, ap, subst, ◌∙◌, arith}
-use Rattle.std.proofs.lemmas.Bool.Decides.{eqb_tells}
-use Rattle.std.proofs.lemmas.Option.{slice_get_within, get_or_from_slice_get}
+use Rattle.row_search.specs.declared.sight.Sight.TheVariants as sights
+use Rattle.shared_lists.specs.declared.answers.Reading.TheVariants as readings
+use Rattle.shared_lists.specs.declared.answers.Searched.TheVariants as searched
+use Rattle.shared_lists.specs.Tasks as tasks
+use Rattle.std.proofs.Common.{◌≡◌, ◌≢◌, inl, inr, ℕ, ◌<◌, ◌==◌, true, false, not, List, map, length, get_or, Option, Some, None, slice_get, [], Result, Ok, Err}
+use Rattle.std.proofs.Common.{refl, sym, ap, subst, ◌∙◌, arith}
+use Rattle.std.proofs.{lemmas.Bool.Decides.eqb_tells, lemmas.Option.slice_get_within, lemmas.Option.get_or_from_slice_get}
 use Rattle.std.specs.Prelude.{◌≤◌, is_some, IfSome, IfOk}
 use Rattle.store_api.specs.declared.moves.Move.{Move}
 use Rattle.entries.specs.Calls.{Leaves}
 use Rattle.row_versions.specs.Chains.{Chains}
 use Rattle.sql_plan.specs.declared.choice.Plan.{Plan}
-use Rattle.undo_apply.specs.declared.work_room.WorkRoom.{WorkRoom}
 use Rattle.shared_lists.specs.State.{State, Lists, Places, task_of, places_before, counted, Turns, Stays}
+use Rattle.shared_lists.specs.{declared.answers.Reading.Reading, declared.answers.Searched.Searched, Steps.AreFoundBy, Steps.Searches, Steps.AreNewestRows}
 use Rattle.desks.proofs.Showing.{task_is, places_are}
 use Rattle.law_held_steps.specs.TakenUp.{ComesAnew, IsTakenUp, MayStep, IsSearchOf, plan_of}
-use Rattle.law_held_steps.proofs.Stepping.{has_view, begun, steps, went, nears, ended, waited, given_up}
+use Rattle.law_held_steps.specs.{Begun.HasView, Begun.IsBegun, Begun.IsNewSearch, Leaving.MovesPlaces, Newest.plan_read, Newest.TellsTable, Newest.AreRead}
+use Rattle.law_held_steps.proofs.Stepping.{has_view, begun, steps, went, nears, ended, waited, given_up, tells_held, are_newest}
 use Rattle.law_held_steps.proofs.Showing.{turns_now, turns_to_search, search_shown, has_desk, searches_on, seen_stay}
-use Rattle.world_lists.specs.Between.{IsKept, can_await}
+use Rattle.law_held_steps.proofs.Places.{moves_in_one, leaving_moves, moves_then, held_idle}
+use Rattle.law_held_steps.proofs.{Keeping.open_joined, Desks.doing_twice, Desks.doing_here}
+use Rattle.world_lists.specs.Between.{IsKept}
 use Rattle.read_view.specs.Sight.{Sight as ReadSight}
-use Rattle.row_search.specs.declared.sight.Sight.TheVariants as sights
-use Rattle.shared_lists.specs.declared.answers.Reading.TheVariants as readings
-use Rattle.shared_lists.specs.declared.answers.Searched.TheVariants as searched
-use Rattle.shared_lists.specs.Tasks as tasks
 use Rattle.inno_types.specs.{Order.IsBelow, declared.value.Value.Value, declared.value.Schema.Schema}
 use Rattle.inno_model.specs.{declared.event.Event.Event, Past.own, Past.view_of, Past.IsOpen}
-use Rattle.law_past_agreement.specs.{Order.created, Agreement.WriterAgrees}
-use Rattle.world.specs.{State.WorldState, Told.IsTold, Indexes.Calls, declared.undo_room.UndoRoom.UndoRoom}
-use Rattle.row_search.specs.{declared.found.FoundRow.FoundRow, declared.search.RowSearch.RowSearch, declared.sight.Sight.Sight, Steps.GoesOn, Steps.Waits}
-use Rattle.row_search.specs.{Steps.Ends}
-use Rattle.shared_lists.specs.{declared.answers.Reading.Reading, declared.answers.Searched.Searched, Steps.AreFoundBy, Steps.Searches, Steps.AreNewestRows}
-use Rattle.desks.specs.{declared.desk.Desk.Desk, declared.desk.Doing.Doing, declared.desk.Doing.TheVariants.Nothing}
-use Rattle.desks.specs.{declared.desk.Doing.TheVariants.Searching, declared.desk.TableSearch.TableSearch, Desks.doing_at, Desks.with_doing, Desks.is_quiet}
-use Rattle.desks.specs.{Holding.IsHeld, Holding.IsOwnView, Holding.SightHolds, Shown.reading_of, Shown.seen_of, Undoing.undo_left_in, Searching.places_in}
-use Rattle.desks.specs.{Searching.places_of}
-use Rattle.law_held_steps.specs.{Begun.HasView, Begun.IsBegun, Begun.IsNewSearch, Moving.MovesPlaces, Newest.plan_read, Newest.TellsTable, Newest.AreRead}
-use Rattle.law_held_steps.proofs.{Keeping.open_joined, Desks.doing_twice, Desks.doing_here, AtOnce.tells_held, AtOnce.are_newest, Places.moves_in_one}
-use Rattle.law_held_steps.proofs.{Places.leaving_moves, Places.moves_then, Places.held_idle}
-use Rattle.world_lists.proofs.{Awaiting.kept_on, Awaiting.kept_beside, Awaiting.moves_no_more, Awaiting.same_no_more, Calls.at_rest, Calls.at_desk}
-use Rattle.world_lists.proofs.{Calls.writer_now}
+use Rattle.law_past_agreement.specs.Order.{created}
+use Rattle.world.specs.{State.WorldState, Told.IsTold, Indexes.Calls}
+use Rattle.row_search.specs.Steps.{GoesOn, Waits, Ends}
+use Rattle.row_search.specs.{declared.found.FoundRow.FoundRow, declared.search.RowSearch.RowSearch, declared.sight.Sight.Sight}
+use Rattle.desks.specs.{declared.desk.Desk.Desk, declared.desk.Doing.Doing, declared.desk.Doing.TheVariants.Nothing, declared.desk.Doing.TheVariants.Searching}
+use Rattle.desks.specs.{declared.desk.TableSearch.TableSearch, Desks.desk_at, Desks.doing_at, Desks.with_doing, Desks.is_quiet, Desks.Store, Holding.IsHeld}
+use Rattle.desks.specs.{Holding.IsOwnView, Holding.SightHolds, Shown.reading_of, Shown.lists_of, Undoing.left_in, Searching.places_in, Searching.places_of}
+use Rattle.world_lists.proofs.Calls.{kept_on, kept_beside, moves_no_more, same_no_more, at_rest, at_desk, rests, writer_now}
 
 -- ---- who reads
 
 -- The reader's sight is one that may be, and it is what was asked for.
-abbrev ReadsBy : ℕ → WorldState → Option ℕ → Reading → Sight → Type 0
-ReadsBy s state writer reading sight = SightHolds state writer s sight × (reading_of sight ≡ reading)
+abbrev ReadsBy : ℕ → Store → Reading → Sight → Type 0
+ReadsBy s store reading sight = SightHolds store s sight × (reading_of sight ≡ reading)
 
-reads_by : (s : ℕ) (state : WorldState) (writer : Option ℕ) (reading : Reading) {sight : Sight}
-    → (reading ≡ readings.View → (view : ReadSight) × (reader : ℕ) × (sight ≡ sights.View view reader) × IsOwnView state s view reader)
-    → (reading ≡ readings.Newest → sight ≡ sights.Newest) → (reading ≡ readings.Newest → writer ≡ Some s) → ReadsBy s state writer reading sight
-reads_by s state writer readings.View own newest mine =
-    let is = own refl in subst (ReadsBy s state writer readings.View) (sym is.2) (is.3, refl)
-reads_by s state writer readings.Newest own newest mine = subst (ReadsBy s state writer readings.Newest) (sym (newest refl)) (mine refl, refl)
+reads_by : (s : ℕ) (store : Store) (reading : Reading) {sight : Sight}
+    → (reading ≡ readings.View → (view : ReadSight) × (reader : ℕ) × (sight ≡ sights.View view reader) × IsOwnView store.world s view reader)
+    → (reading ≡ readings.Newest → sight ≡ sights.Newest) → (reading ≡ readings.Newest → store.writer ≡ Some s) → ReadsBy s store reading sight
+reads_by s store readings.View own newest mine = let is = own refl in subst (ReadsBy s store readings.View) (sym is.2) (is.3, refl)
+reads_by s store readings.Newest own newest mine = subst (ReadsBy s store readings.Newest) (sym (newest refl)) (mine refl, refl)
 
 -- ---- answers
 
@@ -91,13 +86,15 @@ found_as table plan reading s past rows on is found =
     subst (λ (r : Reading). AreFoundBy r table plan past s rows) (sym is.4) (subst (λ (p : Plan). AreFoundBy (reading_of is.0.search.scan.sight) table p past s
     rows) (sym is.3) (subst (λ (n : ℕ). AreFoundBy (reading_of is.0.search.scan.sight) n (plan_of is.0) past s rows) (sym is.2) by))
 
-module _ (s : ℕ) {old : WorldState} {writer : Option ℕ} {desks : List Desk} {cuts : ℕ} {undo : UndoRoom} {room : WorkRoom} {lists : Lists}
-    (kept : IsKept old writer desks cuts undo room) (view : seen_of undo.table room.stage old writer desks ≡ lists) where
-  pub writer_within : IfSome writer (λ w. w < length desks)
-  writer_within = by writer (kept.held.agrees.lists.writes) where
-    by : (who : Option ℕ) → WriterAgrees old.past who → IfSome who (λ w. w < length desks)
-    by None writes = record {}
-    by (Some w) writes = omega (arith, open_joined kept.held.agrees w writes.0, kept.held.count)
+module _ (s : ℕ) {store : Store} {lists : Lists} (kept : IsKept store) (view : lists_of store ≡ lists) where
+  abbrev old : WorldState
+  old = store.world
+
+  pub writer_within : IfSome store.writer (λ w. w < length store.desks)
+  writer_within = by store.writer refl where
+    by : (who : Option ℕ) → store.writer ≡ who → IfSome who (λ w. w < length store.desks)
+    by None is = record {}
+    by (Some w) is = omega (arith, open_joined kept.held.agrees w (kept.held.writes.opened w is), kept.held.count)
 
   pub view_there : IsOpen s lists.state.past → is_some (view_of s lists.state.past) ≡ true → HasView s old
   view_there is_open viewed =
@@ -133,34 +130,34 @@ module _ (s : ℕ) {old : WorldState} {writer : Option ℕ} {desks : List Desk} 
           (own_view : reading ≡ readings.View → (seen : ReadSight) × (reader : ℕ) × (sight ≡ sights.View seen reader) × IsOwnView old s seen reader)
           (newest : reading ≡ readings.Newest → sight ≡ sights.Newest) (locked : reading ≡ readings.Newest → lists.state.writer ≡ Some s)
           {search : RowSearch} (is_new : IsNewSearch table plan sight search) {after : List Desk}
-          (at : after ≡ with_doing s (Searching (record { search = search; schema = copy; unique = plan.unique; cuts = cuts })) desks) where
+          (at : after ≡ with_doing s (Searching (record { search = search; schema = copy; unique = plan.unique; cuts = store.cuts })) store.desks) where
         abbrev first : TableSearch
-        first = record { search = search; schema = copy; unique = plan.unique; cuts = cuts }
+        first = record { search = search; schema = copy; unique = plan.unique; cuts = store.cuts }
 
-        has_begun : IsBegun table plan sight copy cuts first
+        has_begun : IsBegun table plan sight copy store.cuts first
         has_begun = record { search = is_new; schema_is = refl; unique_is = refl; cuts_is = refl }
 
-        reads : ReadsBy s old writer reading sight
-        reads = reads_by s old writer reading own_view newest (λ as_newest. writer_now s kept view (locked as_newest))
+        reads : ReadsBy s store reading sight
+        reads = reads_by s store reading own_view newest (λ as_newest. writer_now s kept view (locked as_newest))
 
-        pub begun_kept : task_of s lists.state ≡ tasks.Idle → IsTold old → IsKept old writer after cuts undo room
+        pub begun_kept : task_of s lists.state ≡ tasks.Idle → IsTold old → IsKept (record store { desks = after })
         begun_kept idle told =
-            let rests = at_rest s kept view idle in
-            kept_beside old old writer desks cuts undo room kept (same_no_more old old refl) s (Searching first) after (ap can_await rests) at
-            (subst (λ (d : List Desk). IsHeld old writer d cuts undo room) (sym at) (begun s kept.held told rests copied fits reads.0 has_begun))
+            let idles = at_rest s kept view idle in
+            kept_beside kept (same_no_more old) s (Searching first) (rests (desk_at s store.desks) idles (λ undone. refl)) at
+            (begun s kept.held told idles copied fits reads.0 has_begun)
 
         pub begun_seen : s < length lists.state.names
-            → Turns s (tasks.Searching table plan reading) lists.state (seen_of undo.table room.stage old writer after).state
+            → Turns s (tasks.Searching table plan reading) lists.state (lists_of (record store { desks = after })).state
         begun_seen joined =
-            subst (λ (l : Lists). Turns s (tasks.Searching table plan reading) l.state (seen_of undo.table room.stage old writer after).state) view
-            (subst (λ (r : Reading). Turns s (tasks.Searching table plan r) (seen_of undo.table room.stage old writer desks).state (seen_of undo.table
-            room.stage old writer after).state) reads.1 (subst (λ (d : List Desk). Turns s (tasks.Searching table plan (reading_of sight)) (seen_of undo.table
-            room.stage old writer desks).state (seen_of undo.table room.stage old writer d).state) (sym at) (turns_to_search s undo.table room.stage writer
-            desks old (at_desk s kept view joined) has_begun)))
+            let now : List Desk → State = λ desks. (lists_of (record store { desks = desks })).state in
+            subst (λ (l : Lists). Turns s (tasks.Searching table plan reading) l.state (now after)) view
+            (subst (λ (r : Reading). Turns s (tasks.Searching table plan r) (now store.desks) (now after)) reads.1
+            (subst (λ (d : List Desk). Turns s (tasks.Searching table plan (reading_of sight)) (now store.desks) (now d)) (sym at)
+            (turns_to_search s store (at_desk s kept view joined) has_begun)))
 
       -- ---- the newest rows, read at once
 
-      module _ (told : IsTold old) {by : Plan} (by_is : by ≡ plan_read (is_quiet writer desks) plan) where
+      module _ (told : IsTold old) {by : Plan} (by_is : by ≡ plan_read (is_quiet store.writer store.desks) plan) where
         tells : TellsTable kept.held.chains table by copy old
         tells = subst (λ (p : Plan). TellsTable kept.held.chains table p copy old) (sym by_is) (tells_held table plan copy kept.held told copied fits)
 
@@ -182,48 +179,47 @@ module _ (s : ℕ) {old : WorldState} {writer : Option ℕ} {desks : List Desk} 
             (λ given. (w : ℕ) → ((u : ℕ) → u ≢ w → own u lists.state.past ≡ []) → AreNewestRows table plan lists.state.past w given) is (read_now read)
 
   module _ (idle : task_of s lists.state ≡ tasks.Idle) {new : WorldState} (moves : MovesPlaces s old new) (told : IsTold new) where
-    pub nothing_kept : IsKept new writer desks cuts undo room
-    nothing_kept = kept_on old new writer desks cuts undo room kept (moves_no_more s old new moves) (held_idle kept.held (at_rest s kept view idle) moves told)
+    pub nothing_kept : IsKept (record store { world = new })
+    nothing_kept = kept_on kept (moves_no_more s old new moves) (held_idle kept.held (at_rest s kept view idle) moves told)
 
-    pub nothing_seen : Stays s lists.state (seen_of undo.table room.stage new writer desks).state
+    pub nothing_seen : Stays s lists.state (lists_of (record store { world = new })).state
     nothing_seen =
-        subst (λ (l : Lists). Stays s lists.state l.state) (sym (seen_stay undo.table room.stage writer desks moves told (λ on is. no_search on
+        subst (λ (l : Lists). Stays s lists.state l.state) (sym (seen_stay store moves told (λ on is. no_search on
         (sym (at_rest s kept view idle) ∙ is)) ∙ view)) (nothing_changes s lists.state)
 
   -- ---- a search under way
 
   abbrev now_in : WorldState → List Desk → State
-  now_in state at = (seen_of undo.table room.stage state writer at).state
+  now_in state at = (lists_of (record store { world = state; desks = at })).state
 
-  module _ {on : TableSearch} (was : Searching on ≡ doing_at s desks) where
-    is : doing_at s desks ≡ Searching on
+  module _ {on : TableSearch} (was : Searching on ≡ doing_at s store.desks) where
+    is : doing_at s store.desks ≡ Searching on
     is = sym was
 
     -- who searches is not awaited
-    kept_now : {new : WorldState} {after : List Desk} (doing : Doing) → after ≡ with_doing s doing desks → MovesPlaces s old new
-        → IsHeld new writer (with_doing s doing desks) cuts undo room → IsKept new writer after cuts undo room
-    kept_now {new} {after} doing at moves held =
-        kept_beside old new writer desks cuts undo room kept (moves_no_more s old new moves) s doing after (ap can_await is) at
-        (subst (λ (d : List Desk). IsHeld new writer d cuts undo room) (sym at) held)
+    kept_now : {new : WorldState} {after : List Desk} (doing : Doing) → after ≡ with_doing s doing store.desks → MovesPlaces s old new
+        → IsHeld (record store { world = new; desks = with_doing s doing store.desks }) → IsKept (record store { world = new; desks = after })
+    kept_now {new} doing at moves =
+        kept_beside kept (moves_no_more s old new moves) s doing (rests (desk_at s store.desks) is (λ undone. refl)) at
 
     -- it is over, or given up
-    turns_idle : {new : WorldState} {after : List Desk} → after ≡ with_doing s Nothing desks → MovesPlaces s old new → IsTold new
+    turns_idle : {new : WorldState} {after : List Desk} → after ≡ with_doing s Nothing store.desks → MovesPlaces s old new → IsTold new
         → Turns s tasks.Idle lists.state (now_in new after)
     turns_idle {new} {after} at moves told =
-        subst (λ (l : Lists). Turns s tasks.Idle l.state (now_in new after)) view (subst (λ (d : List Desk). Turns s tasks.Idle (now_in old desks)
-        (now_in new d)) (sym at) (turns_now undo.table room.stage writer desks Nothing (has_desk s desks is) moves told))
+        subst (λ (l : Lists). Turns s tasks.Idle l.state (now_in new after)) view (subst (λ (d : List Desk). Turns s tasks.Idle (lists_of store).state
+        (now_in new d)) (sym at) (turns_now store moves told Nothing refl (has_desk s store.desks is)))
 
     search_of : (table : ℕ) (plan : Plan) (reading : Reading) → task_of s lists.state ≡ tasks.Searching table plan reading
         → IsSearchOf (Searching on) table plan reading
     search_of table plan reading task =
-        subst (λ (d : Doing). IsSearchOf d table plan reading) is (search_shown (undo_left_in undo.table room.stage old) old.schemas (doing_at s desks)
-        (sym (task_is s (undo_left_in undo.table room.stage old) old writer desks) ∙ (ap (λ (l : Lists). task_of s l.state) view ∙ task)))
+        subst (λ (d : Doing). IsSearchOf d table plan reading) is (search_shown (left_in old (desk_at s store.desks)) old.schemas (doing_at s store.desks)
+        (sym (task_is s store) ∙ (ap (λ (l : Lists). task_of s l.state) view ∙ task)))
 
     -- it may come to its pair anew
-    module _ {search : RowSearch} (as_it_was : not (on.cuts == cuts) ≡ false → search ≡ on.search)
-        (comes : not (on.cuts == cuts) ≡ true → ComesAnew on.search search) where
-      taken_up : IsTakenUp cuts on search
-      taken_up = elim (eqb_tells on.cuts cuts) [
+    module _ {search : RowSearch} (as_it_was : not (on.cuts == store.cuts) ≡ false → search ≡ on.search)
+        (comes : not (on.cuts == store.cuts) ≡ true → ComesAnew on.search search) where
+      taken_up : IsTakenUp store.cuts on search
+      taken_up = elim (eqb_tells on.cuts store.cuts) [
         | inl same ↦ inl (same.1, as_it_was (ap not same.0))
         | inr differs ↦ inr (differs.1, comes (ap not differs.0))
       ]
@@ -232,37 +228,39 @@ module _ (s : ℕ) {old : WorldState} {writer : Option ℕ} {desks : List Desk} 
       may_step_now told = steps s kept.held is search taken_up told
 
       module _ {new : WorldState} (told : IsTold new) where
-        module _ {next : RowSearch} (goes : GoesOn s on.schema old new search next) {between after : List Desk} (takes : between ≡ with_doing s Nothing desks)
-            (gives : after ≡ with_doing s (Searching (record on { search = next; cuts = cuts })) between) where
+        module _ {next : RowSearch} (goes : GoesOn s on.schema old new search next) {between after : List Desk}
+            (takes : between ≡ with_doing s Nothing store.desks)
+            (gives : after ≡ with_doing s (Searching (record on { search = next; cuts = store.cuts })) between) where
           abbrev on_now : TableSearch
-          on_now = record on { search = next; cuts = cuts }
+          on_now = record on { search = next; cuts = store.cuts }
 
-          at : after ≡ with_doing s (Searching on_now) desks
-          at = desks_given s (Searching on_now) desks between after takes gives
+          at : after ≡ with_doing s (Searching on_now) store.desks
+          at = desks_given s (Searching on_now) store.desks between after takes gives
 
-          pub went_kept : IsKept new writer after cuts undo room
+          pub went_kept : IsKept (record store { world = new; desks = after })
           went_kept = kept_now (Searching on_now) at (moves_in_one goes.moves) (went s kept.held is search taken_up told goes).0
 
           pub went_seen : Turns s (task_of s lists.state) lists.state (now_in new after)
           went_seen =
               let goes_on = went s kept.held is search taken_up told goes in
               subst (λ (l : Lists). Turns s (task_of s l.state) l.state (now_in new after)) view
-              (subst (λ (d : List Desk). Turns s (task_of s (now_in old desks)) (now_in old desks) (now_in new d)) (sym at)
-              (searches_on s undo.table room.stage writer desks cuts next is goes_on.1 goes_on.2 told))
+              (subst (λ (d : List Desk). Turns s (task_of s (lists_of store).state) (lists_of store).state (now_in new d)) (sym at)
+              (searches_on s store store.cuts next is goes_on.1 goes_on.2 told))
 
           pub went_nears : IsBelow (counted (places_before s (now_in new after))) (counted (places_before s lists.state))
           went_nears =
+              let made : Store = record store { world = new; desks = with_doing s (Searching on_now) store.desks } in
               let before : places_before s lists.state ≡ places_in s old on = ap (λ (l : Lists). places_before s l.state) (sym view)
-              ∙ (places_are s (undo_left_in undo.table room.stage old) old writer desks ∙ ap (places_of s old) is) in
+              ∙ (places_are s store ∙ ap (places_of s old) is) in
               let now : places_before s (now_in new after) ≡ places_in s new on_now
-              = ap (λ (d : List Desk). places_before s (now_in new d)) at ∙ (places_are s (undo_left_in undo.table room.stage new) new writer
-              (with_doing s (Searching on_now) desks) ∙ ap (places_of s new) (doing_here s (Searching on_now) desks (has_desk s desks is))) in
+              = ap (λ (d : List Desk). places_before s (now_in new d)) at ∙ (places_are s made ∙ ap (places_of s new)
+              (doing_here s (Searching on_now) store.desks (has_desk s store.desks is))) in
               subst (λ (p : Places). IsBelow (counted (places_before s (now_in new after))) (counted p)) (sym before) (subst (λ (p : Places). IsBelow
               (counted p) (counted (places_in s old on))) (sym now) (nears s kept.held is search taken_up told goes))
 
-        module _ {after : List Desk} (at : after ≡ with_doing s Nothing desks) where
+        module _ {after : List Desk} (at : after ≡ with_doing s Nothing store.desks) where
           module _ {found : List FoundRow} (ends : Ends s on.schema old new search found) where
-            pub ended_kept : IsKept new writer after cuts undo room
+            pub ended_kept : IsKept (record store { world = new; desks = after })
             ended_kept = kept_now Nothing at (leaving_moves s _ old new ends.leaves) (ended s kept.held is search taken_up told ends).0
 
             pub ended_seen : {answer : Searched} → ((rows : List (List Value)) → answer ≡ searched.Found rows → rows ≡ map (λ (f : FoundRow). f.row) found)
@@ -281,7 +279,7 @@ module _ (s : ℕ) {old : WorldState} {writer : Option ℕ} {desks : List Desk} 
             moves : MovesPlaces s old new
             moves = (waited s kept.held is search taken_up told waits).1
 
-            pub hindered_kept : IsKept later writer after cuts undo room
+            pub hindered_kept : IsKept (record store { world = later; desks = after })
             hindered_kept = kept_now Nothing at (moves_then moves (leaving_moves s index new later leaves)) (given_up s kept.held is moves leaves told_later).0
 
             pub hindered_seen : Turns s tasks.Idle lists.state (now_in later after)

@@ -1,36 +1,37 @@
--- What holds of the lists between calls, beside what is held of a world with its desks: the room for the undo record that is
--- read, and who is awaited at indexes.
-use Rattle.std.specs.Prelude.{◌≡◌, ℕ, Bool, true, false, List, Option, Some}
-use Rattle.world.specs.{State.WorldState, declared.undo_room.UndoRoom.UndoRoom, Undoing.HoldsRecord}
+-- What holds of the lists between calls, beside what is held of a store: who is awaited at indexes.
+use Rattle.std.specs.Prelude.{◌≡◌, ℕ, List, Option, Some, None}
+use Rattle.world.specs.State.{WorldState}
 use Rattle.row_changes.specs.{Awaited.IsOfTable, Rows.table_of}
-use Rattle.undo_apply.specs.declared.work_room.WorkRoom.{WorkRoom}
 use Rattle.desks.specs.{declared.desk.Desk.Desk, declared.desk.Doing.Doing, declared.desk.Doing.TheVariants.Changing, declared.desk.Doing.TheVariants.Undoing}
-use Rattle.desks.specs.{Desks.doing_at, Holding.IsHeld}
+use Rattle.desks.specs.{Desks.Store, Desks.desk_at, Holding.IsHeld}
 
--- who changes a row, or takes one back, of this table at most
-abbrev pub can_await : Doing → Bool
-can_await (Changing change) = true
-can_await Undoing = true
-can_await other = false
+abbrev pub store_of : WorldState → Option ℕ → List Desk → ℕ → Store
+store_of world writer desks cuts = record { world = world; writer = writer; desks = desks; cuts = cuts }
 
--- the table of the row: that of the change, or that of the undo record
-abbrev pub table_at : ℕ → Doing → ℕ
-table_at undone (Changing change) = table_of change
-table_at undone other = undone
+-- the table of the row that is changed, or taken back by an undo record of this table
+abbrev pub table_in : ℕ → Doing → Option ℕ
+table_in undone (Changing change) = Some (table_of change)
+table_in undone Undoing = Some undone
+table_in undone other = None
+
+-- the table of which the session changes a row, or takes one back
+abbrev pub table_at : Option Desk → Option ℕ
+table_at None = None
+table_at (Some desk) = table_in desk.undo.table desk.doing
 
 -- Who is awaited at an index may write, and changes a row of its table or takes one back.
-pub record IsAwaitedFor (state : WorldState) (writer : Option ℕ) (desks : List Desk) (undone index by : ℕ) : Type 0 where
-  pub writes : writer ≡ Some by
-  pub can : can_await (doing_at by desks) ≡ true
-  pub of_table : IsOfTable (table_at undone (doing_at by desks)) state.schemas index
+pub record IsAwaitedFor (store : Store) (index by : ℕ) : Type 0 where
+  pub writes : store.writer ≡ Some by
+  pub table : ℕ
+  pub table_is : table_at (desk_at by store.desks) ≡ Some table
+  pub of_table : IsOfTable table store.world.schemas index
 
-pub record AwaitsWriter (state : WorldState) (writer : Option ℕ) (desks : List Desk) (undone : ℕ) : Type 0 where
-  pub each : (index by : ℕ) → (state.indexes index).awaited ≡ Some by → IsAwaitedFor state writer desks undone index by
+pub record AwaitsWriter (store : Store) : Type 0 where
+  pub each : (index by : ℕ) → (store.world.indexes index).awaited ≡ Some by → IsAwaitedFor store index by
 
-pub record IsKept (state : WorldState) (writer : Option ℕ) (desks : List Desk) (cuts : ℕ) (undo : UndoRoom) (room : WorkRoom) : Type 0 where
-  pub held : IsHeld state writer desks cuts undo room
-  pub record_room : HoldsRecord undo
-  pub awaits : AwaitsWriter state writer desks undo.table
+pub record IsKept (store : Store) : Type 0 where
+  pub held : IsHeld store
+  pub awaits : AwaitsWriter store
 
 -- nobody is awaited but this session, at indexes of this table
 pub record AwaitsOnly (s table : ℕ) (state : WorldState) : Type 0 where

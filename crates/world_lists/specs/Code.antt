@@ -1,6 +1,5 @@
 -- The lists as one value.
-use Rattle.std.specs.Prelude.{ℕ, List, refl}
-use Rattle.std.specs.Coded.{Coded, code_by, coded×, coded_list, coded_ℕ}
+use Rattle.std.specs.{Prelude.ℕ, Prelude.List, Prelude.refl, Coded.Coded, Coded.code_by, Coded.coded×, Coded.coded_list, Coded.coded_ℕ}
 use Rattle.sql_history.specs.{Settings.Setting, Named.setting_code}
 use Rattle.shared_lists.specs.State.{State, Lists, state_code}
 

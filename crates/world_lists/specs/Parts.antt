@@ -1,19 +1,18 @@
 -- What the parts of a step do to a world.
 use Rattle.std.specs.Prelude.{◌≡◌, ℕ, ◌-◌, Bool, true, false, List}
 use Rattle.row_versions.specs.Chains.{Chains}
+use Rattle.law_stored_rows.specs.Tables.{Said}
 use Rattle.world.specs.State.{WorldState, Session, Work, IsSession, HasWork, standing_of}
 use Rattle.world.specs.{Sessions.undone_added, Undoing.IsCutBack}
 use Rattle.row_changes.specs.{declared.row_change.RowChange.RowChange, declared.row_change.RowChange.TheVariants.Record}
 use Rattle.row_changes.specs.{declared.row_change.RowChange.TheVariants.Keys, declared.reached.Reached.Reached, Rows.IsChangingRow, Rows.ChangesRow}
 use Rattle.row_changes.specs.{Rows.table_of, Awaited.AwaitsIn}
 use Rattle.shared_lists.specs.{declared.answers.Changed.Changed, declared.answers.Changed.TheVariants.Went, declared.answers.Changed.TheVariants.Entered}
-use Rattle.shared_lists.specs.{declared.answers.Changed.TheVariants.Done, declared.answers.Changed.TheVariants.NoMemory, declared.answers.Undone.Undone}
+use Rattle.shared_lists.specs.{declared.answers.Changed.TheVariants.Done, declared.answers.Changed.TheVariants.NoMemory}
 use Rattle.desks.specs.{declared.desk.Doing.Doing, declared.desk.Doing.TheVariants.Nothing, declared.desk.Doing.TheVariants.Changing, Desks.doing_at}
 use Rattle.desks.specs.{Desks.with_doing, declared.desk.Desk.Desk}
-use Rattle.law_held_steps.specs.{Making.given_up, Making.doing_after, Leaving.LeavesIndexes, Leaving.LeavesTable}
-use Rattle.world_lists.specs.Between.{AwaitsOnly, AwaitsNobody}
+use Rattle.law_held_steps.specs.{Making.given_up, Making.doing_after, Leaving.MovesPlaces, Leaving.LeavesTable}
 use Rattle.row_changes.specs.declared.reached.Reached.TheVariants as reached
-use Rattle.shared_lists.specs.declared.answers.Undone.TheVariants as undone
 
 -- whether the history tells the change
 abbrev pub is_told : RowChange → Bool
@@ -31,18 +30,13 @@ abbrev pub LeavesIfOver : ℕ → ℕ → WorldState → WorldState → Reached 
 LeavesIfOver s table old new (reached.Went next) = Unit {0}
 LeavesIfOver s table old new other = LeavesTable s table old new
 
--- Whom a step of a taking back leaves awaited: its session, at the indexes of the table, and in the end nobody.
-abbrev pub AwaitsAfter : ℕ → ℕ → WorldState → List Desk → List Desk → Undone → Type 0
-AwaitsAfter s table new desks later undone.Went = AwaitsOnly s table new × (later ≡ desks)
-AwaitsAfter s table new desks later undone.Undone = AwaitsNobody new
-
 -- The change has made a step; one that is over, or was hindered, awaits no keys any more.
 pub record StepsChange (s : ℕ) (change : RowChange) (old new : WorldState) (doing : Doing) (answer : Changed) : Type 0 where
   pub mid : WorldState
   pub reached : Reached RowChange
-  pub made : (chains : Chains) → IsChangingRow s chains old change → ChangesRow s chains old mid change reached
+  pub made : (chains : Chains) (beside : Said) → IsChangingRow s chains beside old change → ChangesRow s chains beside old mid change reached
   pub awaits : AwaitsIn s (table_of change) old mid
-  pub left : LeavesIndexes s mid new
+  pub left : MovesPlaces s mid new
   pub gone : LeavesIfOver s (table_of change) mid new reached
   pub doing_is : doing ≡ doing_after change reached
   pub answer_is : answer ≡ answer_for change reached
@@ -56,7 +50,8 @@ doing_now change next NoMemory = given_up change
 
 -- The session has a change at its desk that may make a step.
 abbrev pub HasChange : ℕ → WorldState → List Desk → Type 0
-HasChange s state desks = (change : RowChange) × (doing_at s desks ≡ Changing change) × (chains : Chains) × IsChangingRow s chains state change
+HasChange s state desks =
+    (change : RowChange) × (doing_at s desks ≡ Changing change) × (chains : Chains) × (beside : Said) × IsChangingRow s chains beside state change
 
 -- The change at the session's desk has made a step, and nothing else has changed at desks.
 abbrev pub StepsAtDesk : ℕ → WorldState → WorldState → List Desk → List Desk → Changed → Type 0

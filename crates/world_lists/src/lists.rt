@@ -9,8 +9,8 @@ use desks::Desk;
 use std::alloc::Global;
 use std::marker::Model;
 use store_api::NoMemory;
-use undo_apply::{RecordRoom, WorkRoom};
-use world::{EngineWorld, UndoRoom};
+use undo_apply::RecordRoom;
+use world::EngineWorld;
 
 /// The lists over a world.
 #[derive(Drop)]
@@ -23,27 +23,23 @@ pub struct WorldLists<W: EngineWorld> {
     pub(crate) desks: Vec<Desk>,
     /// How many older versions were dropped.
     pub(crate) cuts: u64,
-    /// The undo record of the change that is being taken back, the lists by which it is handed on, and how far that has come.
-    /// Who may write takes one back at most.
-    pub(crate) undo: UndoRoom,
+    /// The lists by which an undo record is handed on. It holds nothing between calls, so one serves all sessions.
     pub(crate) record: RecordRoom,
-    pub(crate) room: WorkRoom,
 }
 
 impl<W: EngineWorld> Model for WorldLists<W> {
     ghost use Rattle.shared_lists.specs.State.{Lists};
     ghost use Rattle.world_lists.specs.Code.{lists_code};
-    ghost use Rattle.world_lists.specs.Between.{IsKept};
+    ghost use Rattle.world_lists.specs.Between.{IsKept, store_of};
     ghost use Rattle.desks.specs.Shown.{lists_of};
-    ghost use Rattle.desks.specs.Undoing.{undo_left_in};
 
     ghost Value = { Lists };
 
     ghost coded = { lists_code };
 
-    ghost view = { λ l. lists_of (W.state l.world) l.writer l.desks.items (undo_left_in l.undo.table l.room.stage (W.state l.world)) };
+    ghost view = { λ l. lists_of (store_of (W.state l.world) l.writer l.desks.items l.cuts) };
 
-    ghost invariant = { λ l. IsKept (W.state l.world) l.writer l.desks.items l.cuts l.undo l.room };
+    ghost invariant = { λ l. IsKept (store_of (W.state l.world) l.writer l.desks.items l.cuts) };
 }
 
 impl<W: EngineWorld> WorldLists<W> {
@@ -60,9 +56,7 @@ impl<W: EngineWorld> WorldLists<W> {
             writer: None,
             desks: Vec::new(alloc),
             cuts: 0,
-            undo: UndoRoom::new(alloc)?,
             record: RecordRoom::new(alloc)?,
-            room: WorkRoom::new(alloc)?,
         })
     }
 }

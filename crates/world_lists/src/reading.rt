@@ -6,7 +6,7 @@ ghost use Rattle.world.specs.State.{Session, IsSession};
 ghost use Rattle.desks.specs.Desks.{is_quiet};
 ghost use Rattle.desks.specs.Holding.{IsOwnView};
 ghost use Rattle.law_held_steps.specs.Begun.{HasView};
-ghost use Rattle.law_held_steps.specs.Moving.{MovesPlaces};
+ghost use Rattle.law_held_steps.specs.Leaving.{MovesPlaces};
 ghost use Rattle.law_held_steps.specs.Newest.{TellsTable, AreRead};
 ghost use Rattle.law_held_steps.specs.TakenUp.{MayStep, ComesAnew};
 

@@ -72,10 +72,10 @@ impl<W: EngineWorld> SharedLists for WorldLists<W> {
             return Err(NoMemory);
         }
         self.desks.reserve(1)?;
-        let session = self.world.join(name)?;
-        let desk = Desk {
-            started: 0,
-            doing: Doing::Nothing,
+        let desk = Desk::new(self.alloc)?;
+        let Ok(session) = self.world.join(name) else {
+            drop(desk);
+            return Err(NoMemory);
         };
         self.desks.push(desk).unwrap();
         Ok(session)
@@ -280,7 +280,7 @@ impl<W: EngineWorld> WorldLists<W> {
     ghost use Rattle.law_past_agreement.specs.Order.{MayCome};
     ghost use Rattle.shared_lists.specs.Tasks.{Undoing, MayTakeBack};
     ghost use Rattle.shared_lists.specs.State.{task_of};
-    ghost use Rattle.law_held_steps.specs.SeenUndoing.{TakesBackIn};
+    ghost use Rattle.law_held_steps.specs.Undoing.{TakesBackIn};
 
     /// Reads the undo record of the session's newest change.
     fn read_record(&mut self, session: u32) -> Undone
@@ -291,10 +291,8 @@ impl<W: EngineWorld> WorldLists<W> {
         ensures { TakesBackIn session (length (own session self.old.state.past) - 1) self.old self.new result }
     {
         let mut there = false;
-        match self
-            .world
-            .last(session, session as u8, &mut self.undo, &mut there)
-        {
+        let undo = &mut self.desks[session as usize].undo;
+        match self.world.last(session, session as u8, undo, &mut there) {
             Move::Done => {
                 give_doing(&mut self.desks, session, Doing::Undoing);
                 Undone::Went
@@ -315,9 +313,7 @@ impl<W: EngineWorld> WorldLists<W> {
             session,
             &mut self.desks,
             &mut self.cuts,
-            &self.undo,
             &mut self.record,
-            &mut self.room,
         )
     }
 }

@@ -3,6 +3,7 @@
 ghost use Rattle.std.specs.Prelude.{◌≡◌, ◌≢◌, ℕ, ◌-◌, ◌<◌, Option, false, [], length, slice_get, Some, IsTrue, ◌↔◌, IfSome, IfNone};
 ghost use Rattle.inno_types.specs.declared.value.Schema.{Schema};
 ghost use Rattle.row_versions.specs.Chains.{Chains};
+ghost use Rattle.law_stored_rows.specs.Tables.{Said};
 ghost use Rattle.world.specs.State.{Session, Work, IsSession, HasWork, standing_of};
 ghost use Rattle.world.specs.Undoing.{IsCutBack};
 ghost use Rattle.law_past_agreement.specs.Order.{IsOfRow};
@@ -10,13 +11,13 @@ ghost use Rattle.row_changes.specs.Edits.{change_of};
 ghost use Rattle.row_changes.specs.Rows.{IsChangingRow, table_of};
 ghost use Rattle.inno_model.specs.Past.{own};
 ghost use Rattle.desks.specs.Desks.{doing_at};
-ghost use Rattle.desks.specs.Holding.{IsHeld};
-ghost use Rattle.law_held_steps.specs.Leaving.{LeavesIndexes, LeavesTable};
+ghost use Rattle.desks.specs.Shown.{lists_of};
+ghost use Rattle.law_held_steps.specs.Leaving.{MovesPlaces, LeavesTable};
 ghost use Rattle.law_held_steps.specs.Making.{given_up};
-ghost use Rattle.law_held_steps.specs.SeenUndoing.{lists_held, TakesBackIn};
+ghost use Rattle.law_held_steps.specs.Undoing.{TakesBackIn};
 ghost use Rattle.row_changes.specs.declared.reached.Reached.TheVariants as reached;
-ghost use Rattle.world_lists.specs.Parts.{StepsChange, HasChange, StepsAtDesk, doing_now, DropsNewest, AwaitsAfter, is_told, answer_for};
-ghost use Rattle.world_lists.specs.Between.{AwaitsOnly};
+ghost use Rattle.world_lists.specs.Parts.{StepsChange, HasChange, StepsAtDesk, doing_now, DropsNewest, is_told, answer_for};
+ghost use Rattle.world_lists.specs.Between.{IsKept, store_of};
 
 use crate::lists::is_short;
 use desks::{Desk, Doing, give_doing};
@@ -25,8 +26,8 @@ use row_changes::{Came, RowChange, RowEdit};
 use shared_lists::{Changed, Undone};
 use std::alloc::Global;
 use store_api::Move;
-use undo_apply::{RecordRoom, WorkRoom};
-use world::{EngineWorld, UndoRoom, index_number};
+use undo_apply::RecordRoom;
+use world::{EngineWorld, index_number};
 
 /// Whether the session takes a change back.
 pub fn is_undoing(desks: &[Desk], session: u32) -> bool
@@ -68,7 +69,7 @@ fn step_change<W: EngineWorld>(
     session: u32,
     change: &mut RowChange,
 ) -> Changed
-    requires { (chains : Chains) × IsChangingRow session chains (W.state world.old) change.old }
+    requires { (chains : Chains) × (beside : Said) × IsChangingRow session chains beside (W.state world.old) change.old }
     ensures { StepsChange session change.old (W.state world.old) (W.state world.new) (doing_now change.old change.new result) result }
 {
     let is_told = is_told(change);
@@ -88,7 +89,7 @@ fn step_change<W: EngineWorld>(
 
 /// Gives a change up, as one is that finds no memory. It leaves the indexes of its table.
 pub fn drop_change<W: EngineWorld>(world: &mut W, session: u32, change: RowChange) -> Doing
-    requires changing { (chains : Chains) × IsChangingRow session chains (W.state world.old) change }
+    requires changing { (chains : Chains) × (beside : Said) × IsChangingRow session chains beside (W.state world.old) change }
     requires untold { is_told change ≡ false }
     ensures { StepsChange session change (W.state world.old) (W.state world.new) result Changed.NoMemory }
 {
@@ -139,7 +140,7 @@ fn table_of(change: &RowChange) -> u8
 /// Leaves all indexes of a table.
 fn leave_table<W: EngineWorld>(world: &mut W, session: u32, table: u8)
     requires { (schema : Schema) × (slice_get (W.state world.old).schemas table ≡ Some schema) × (length schema.keys < 5) }
-    ensures leaves { LeavesIndexes session (W.state world.old) (W.state world.new) }
+    ensures leaves { MovesPlaces session (W.state world.old) (W.state world.new) }
     ensures gone { LeavesTable session table (W.state world.old) (W.state world.new) }
 {
     let keys = world.tables().as_slice()[table as usize].keys.len() as u8;
@@ -177,32 +178,31 @@ fn drop_newest<W: EngineWorld>(world: &mut W, session: u32)
 }
 
 /// Makes one step by which the session's newest change is taken back. After the last one the history tells it, and one older
-/// version more was dropped. Nothing hinders it: the buffers have room, and nobody else is awaited.
+/// version more was dropped. Nothing hinders it: the session's buffers have room, and nobody else is awaited.
 pub fn take_newest_back<W: EngineWorld>(
     world: &mut W,
     session: u32,
     desks: &mut Vec<Desk>,
     cuts: &mut u64,
-    undo: &UndoRoom,
     record: &mut RecordRoom,
-    room: &mut WorkRoom,
 ) -> Undone
-    requires held { (writer : Option ℕ) × IsHeld (W.state world.old) writer desks.old.items cuts.old undo.now room.old }
+    requires kept { (writer : Option ℕ) × IsKept (store_of (W.state world.old) writer desks.old.items cuts.old) }
     requires joined { session < length desks.old.items }
     requires busy { doing_at session desks.old.items ≡ Doing.Undoing }
-    requires awaits { AwaitsOnly session undo.now.table (W.state world.old) }
-    ensures held { (writer : Option ℕ) → IsHeld (W.state world.old) writer desks.old.items cuts.old undo.now room.old
-        → IsHeld (W.state world.new) writer desks.new.items cuts.new undo.now room.new }
-    ensures takes { (writer : Option ℕ) → IsHeld (W.state world.old) writer desks.old.items cuts.old undo.now room.old
-        → TakesBackIn session (length (own session (W.state world.old).past) - 1) (lists_held (W.state world.old) writer desks.old.items undo.now room.old) (lists_held (W.state world.new) writer desks.new.items undo.now room.new) result }
-    ensures awaits { AwaitsAfter session undo.now.table (W.state world.new) desks.old.items desks.new.items result }
+    ensures kept { (writer : Option ℕ) → IsKept (store_of (W.state world.old) writer desks.old.items cuts.old)
+        → IsKept (store_of (W.state world.new) writer desks.new.items cuts.new) }
+    ensures takes { (writer : Option ℕ) → IsKept (store_of (W.state world.old) writer desks.old.items cuts.old)
+        → TakesBackIn session (length (own session (W.state world.old).past) - 1) (lists_of (store_of (W.state world.old) writer desks.old.items cuts.old))
+        (lists_of (store_of (W.state world.new) writer desks.new.items cuts.new)) result }
 {
-    match record.put_back(world, session, undo, room) {
+    let desk = &mut desks[session as usize];
+    let table = desk.undo.table;
+    match record.put_back(world, session, &desk.undo, &mut desk.room) {
         Move::Done => {
             drop_newest(world, session);
             give_doing(desks, session, Doing::Nothing);
             is_short(world);
-            leave_table(world, session, undo.table);
+            leave_table(world, session, table);
             *cuts += 1;
             Undone::Undone
         }

@@ -10,7 +10,8 @@ pub returns-in-Done : goal.returns-in-Done
 returns-in-Done c = record {
   rows = taken_rows _ (world_of c.args.world.now) (world_of c.loop.world) (world_of c.advance.new.world) c.loop.change c.loop.invariant
       (λ chains. c.in-Done.ensures.changes chains (what_is_there chains));
-  awaits = same_table _ (world_of c.args.world.now) (world_of c.loop.world) (world_of c.advance.new.world) c.loop.change c.loop.invariant c.in-Done.ensures.awaits;
+  awaits = same_table _ (world_of c.args.world.now) (world_of c.loop.world) (world_of c.advance.new.world) c.loop.change c.loop.invariant
+      c.in-Done.ensures.awaits;
   rest = taken_rest _ (world_of c.args.world.now) (world_of c.loop.world) (world_of c.advance.new.world) c.loop.change c.loop.invariant
       (λ chains. c.in-Done.ensures.changes chains (what_is_there chains));
   later = taken_later _ (world_of c.args.world.now) (world_of c.loop.world) (world_of c.advance.new.world) c.loop.change c.loop.invariant

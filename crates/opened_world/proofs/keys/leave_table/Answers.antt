@@ -1,7 +1,10 @@
 use Rattle.std.proofs.Common.{◌+◌, ◌≤◌, length, arith}
 use Rattle.list_world.specs.Parts.{world_of}
-use Rattle.law_held_steps.proofs.Places.{one_more_below, all_gone}
+use Rattle.law_held_steps.proofs.Places.{none_below, one_more_below, all_gone}
 use Rattle.opened_world.proofs.keys.leave_table.Goals as goal
+
+pub loop-which-init : goal.loop-which-init
+loop-which-init c = none_below 0 c.args.table (world_of c.args.world.now)
 
 pub loop-which-preserved : goal.loop-which-preserved
 loop-which-preserved c =

@@ -1,5 +1,5 @@
 use Rattle.row_search.specs.declared.sight.Sight.TheVariants.{Newest}
-use Rattle.law_held_steps.proofs.AtOnce.{reading_begins, reading_steps, reading_goes_on, reading_nears, reading_waits, reading_ends}
+use Rattle.law_held_steps.proofs.Stepping.{reading_begins, reading_steps, reading_goes_on, reading_nears, reading_waits, reading_ends}
 use Rattle.world_lists.proofs.reading.newest_rows.Goals as goal
 use Rattle.law_held_steps.proofs.{Stepping.new_search, Places.moves_then}
 

@@ -1,8 +1,11 @@
 use Rattle.std.proofs.Common.{◌≡◌, ◌+◌, ◌≤◌, length, sym, ap, subst, arith}
 use Rattle.inno_types.specs.declared.value.Schema.{Schema}
-use Rattle.law_held_steps.proofs.Left.{one_more_below, all_gone}
+use Rattle.law_held_steps.proofs.Places.{none_below, one_more_below, all_gone}
 use Rattle.world_lists.proofs.Changing.{one_there, item_of}
 use Rattle.world_lists.proofs.undoing.leave_table.Goals as goal
+
+pub loop-which-init : goal.loop-which-init
+loop-which-init g c = none_below c.args.session c.args.table (g.W.World.state c.args.world.now)
 
 pub loop-which-preserved : goal.loop-which-preserved
 loop-which-preserved g c =

@@ -1,4 +1,4 @@
-use Rattle.law_held_steps.proofs.Left.{LeftBelow}
+use Rattle.law_held_steps.proofs.Places.{LeftBelow}
 use Rattle.world_lists.proofs.undoing.leave_table.Given as goal
 
 -- those before this one are left

@@ -1,7 +1,7 @@
 use Rattle.std.proofs.Common.{refl, ap}
 use Rattle.row_changes.specs.declared.reached.Reached.TheVariants.{Went, Done, Hindered}
 use Rattle.row_changes.specs.InPlace.{reached_at}
-use Rattle.law_held_steps.proofs.Left.{none_left}
+use Rattle.law_held_steps.proofs.Places.{none_moves}
 use Rattle.world_lists.proofs.Changing.{table_left, table_over, gone_by, step_of, answer_over, answer_hindered, lies_there}
 use Rattle.world_lists.proofs.undoing.step_change.Goals as goal
 
@@ -18,7 +18,7 @@ leave_table-requires-in-Hindered g c =
 pub returns-in-Went : goal.returns-in-Went
 returns-in-Went g c =
     let answer_is = c.answer_for.ensures c.args.change.now c.is_told-is_told.ensures in
-    step_of c.args.change.now (Went c.advance.new.self) c.advance.ensures.awaits (none_left c.args.session _) (ap (reached_at c.advance.new.self) c.in-Went.is)
+    step_of c.args.change.now (Went c.advance.new.self) c.advance.ensures.awaits none_moves (ap (reached_at c.advance.new.self) c.in-Went.is)
     c.advance.ensures.changes (record {}) (lies_there c.args.change.now c.advance.new.self answer_is) answer_is
 
 pub returns-in-Done : goal.returns-in-Done

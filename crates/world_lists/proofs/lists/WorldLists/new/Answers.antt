@@ -1,19 +1,17 @@
 use Rattle.std.proofs.Common.{List, None, refl, sym, ap, subst}
-use Rattle.law_held_steps.proofs.Tables.{first_held}
-use Rattle.world_lists.proofs.Awaiting.{awaits_of_nobody}
-use Rattle.law_held_steps.specs.SeenEntries.{settings_of}
+use Rattle.law_held_steps.proofs.Items.{first_held}
+use Rattle.world_lists.specs.Between.{store_of}
+use Rattle.world_lists.proofs.Calls.{awaits_of_nobody}
+use Rattle.law_held_steps.specs.Undoing.{settings_of}
 use Rattle.world_lists.proofs.lists.WorldLists.new.Goals as goal
 use Rattle.desks.specs.{declared.desk.Desk.Desk, Holding.IsHeld}
 
 pub invariant_of-result : goal.invariant_of-result
 invariant_of-result g c =
     record {
-      held =
-          subst (λ (desks : List Desk). IsHeld (g.W.World.state c.args.world) None desks 0 c.in_ok-new.field-0 c.in_ok-new-3.field-0) (sym c.new.ensures.items)
-          (first_held (g.W.World.state c.args.world) c.in_ok-new.field-0 c.in_ok-new-3.field-0 c.requires.fresh c.in_ok-new-3.ensures.whole
-          c.in_ok-new-3.ensures.stage);
-      record_room = c.in_ok-new.ensures;
-      awaits = awaits_of_nobody (g.W.World.state c.args.world) None _ _ c.requires.nobody;
+      held = subst (λ (desks : List Desk). IsHeld (store_of (g.W.World.state c.args.world) None desks 0)) (sym c.new.ensures.items)
+          (first_held (g.W.World.state c.args.world) c.requires.fresh);
+      awaits = awaits_of_nobody _ c.requires.nobody;
     }
 
 pub returns-clause-first : goal.returns-clause-first

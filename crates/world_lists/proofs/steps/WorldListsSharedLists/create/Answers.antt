@@ -1,6 +1,5 @@
-use Rattle.world_lists.proofs.Calls.{its_work}
-use Rattle.world_lists.proofs.Tabled.{has_txn, has_id, few_ids, table_kept, table_adds, table_unset, table_rows}
 use Rattle.world_lists.proofs.steps.WorldListsSharedLists.create.Goals as goal
+use Rattle.world_lists.proofs.{Calls.its_work, Made.has_txn, Made.has_id, Made.few_ids, Made.table_kept, Made.table_adds, Made.table_unset, Made.table_rows}
 
 pub add_table-requires-clause-may : goal.add_table-requires-clause-may
 add_table-requires-clause-may g c = its_work c.args.session c.self.invariant c.self.view_is c.requires.joined c.requires.may.0

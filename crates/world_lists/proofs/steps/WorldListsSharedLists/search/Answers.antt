@@ -1,3 +1,5 @@
+use Rattle.world_lists.proofs.Calls.{still_there}
+use Rattle.desks.specs.declared.desk.Doing.TheVariants.{Nothing}
 use Rattle.world_lists.proofs.Searching.{may_step_now, went_kept, went_seen, went_nears, ended_kept, ended_seen, hindered_kept, hindered_seen}
 use Rattle.world_lists.proofs.steps.WorldListsSharedLists.search.Goals as goal
 
@@ -10,6 +12,9 @@ pub advance-requires-clause-table : goal.advance-requires-clause-table
 advance-requires-clause-table g c =
     (may_step_now c.args.session c.self.invariant c.self.view_is c.in-Searching.ensures.was c.take_up.ensures.as_it_was
     c.take_up.ensures.anew (g.met.W.EngineWorld.tells c.self.inside.world).told).table
+
+pub give_doing-requires : goal.give_doing-requires
+give_doing-requires g c = still_there c.args.session c.self.invariant c.self.view_is Nothing c.take_doing.ensures.is c.requires.joined
 
 pub invariant_of-self : goal.invariant_of-self
 invariant_of-self g c =

@@ -9,7 +9,8 @@ pub invariant_of-self-2 : goal.invariant_of-self-2
 invariant_of-self-2 g c =
     started_kept c.args.session c.self.invariant c.self.view_is c.requires.joined _
     (ap (λ n. n + 1) (desk_started c.args.session c.self.invariant c.self.view_is c.requires.joined c.index.ensures)) c.args.item c.in_ok-start.ensures.ok
-    (desks_started c.args.session c.self.invariant c.self.view_is c.requires.joined c.index.ensures c.index_mut.ensures.value)
+    (desks_started c.args.session c.self.invariant c.self.view_is c.requires.joined c.index_mut.ensures.value (desk_started c.args.session c.self.invariant
+    c.self.view_is c.requires.joined c.index.ensures))
     c.requires.at_rest (g.met.W.EngineWorld.tells c.self.inside.world).told c.requires.idle c.is_short.ensures.few
 
 pub returns : goal.returns
@@ -17,5 +18,6 @@ returns g c =
     let shows =
     started_shown c.args.session c.self.invariant c.self.view_is c.requires.joined _
     (ap (λ n. n + 1) (desk_started c.args.session c.self.invariant c.self.view_is c.requires.joined c.index.ensures)) c.args.item c.in_ok-start.ensures.ok
-    (desks_started c.args.session c.self.invariant c.self.view_is c.requires.joined c.index.ensures c.index_mut.ensures.value) in
+    (desks_started c.args.session c.self.invariant c.self.view_is c.requires.joined c.index_mut.ensures.value (desk_started c.args.session c.self.invariant
+    c.self.view_is c.requires.joined c.index.ensures)) in
     record { ok = shows.state; err = record {}; settings = shows.settings; rows = shows.rows }

@@ -1,6 +1,19 @@
 use Rattle.std.proofs.Common.{refl, sym, ◌∙◌}
 use Rattle.world_lists.proofs.steps.WorldListsSharedLists.stop_change.Goals as goal
-use Rattle.world_lists.proofs.{Changing.step_kept, Changing.step_shown, Changing.step_stops, Changing.none_entered, Searching.desks_given}
+use Rattle.desks.specs.declared.desk.Doing.TheVariants.{Nothing}
+use Rattle.world_lists.proofs.{Changing.its_change, Changing.its_untold, Changing.step_kept, Changing.step_shown, Changing.step_stops}
+use Rattle.world_lists.proofs.{Changing.none_entered, Calls.still_there, Searching.desks_given}
+
+pub drop_change-doing-requires-clause-changing : goal.drop_change-doing-requires-clause-changing
+drop_change-doing-requires-clause-changing g c =
+    its_change c.args.session c.self.invariant c.self.view_is c.requires.locked (sym c.take_doing-doing.ensures.was ∙ c.in-Changing.is)
+
+pub drop_change-doing-requires-clause-untold : goal.drop_change-doing-requires-clause-untold
+drop_change-doing-requires-clause-untold g c =
+    its_untold c.args.session c.self.invariant c.self.view_is c.requires.locked (sym c.take_doing-doing.ensures.was ∙ c.in-Changing.is) c.requires.asked.1
+
+pub give_doing-requires : goal.give_doing-requires
+give_doing-requires g c = still_there c.args.session c.self.invariant c.self.view_is Nothing c.take_doing-doing.ensures.is c.requires.joined
 
 pub invariant_of-self : goal.invariant_of-self
 invariant_of-self g c =
