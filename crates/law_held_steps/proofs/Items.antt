@@ -338,7 +338,7 @@ module _ {store : Store} (held : IsHeld store) (t : ℕ) (rests : doing_at t sto
         entered_by held rests told (set_here old.sessions t session after there) (record { indexes = refl; versions = refl; schemas = refl })
         (same_writer (others after) (held.rooms t)) (viewed_agrees held.chains old t session work held.agrees has_work few)
         (inr (View t, eq-eqb t t refl, refl)) held.count held.few held.fits
-            (λ w is_w. same_log has_work (ap (λ (x : Work). x.log) (sym (some_same seen w is_w))) refl)
+        (λ w is_w. same_log has_work (ap (λ (x : Work). x.log) (sym (some_same seen w is_w))) refl)
         (held.has_room.replies t session there) (λ waits. absurd (waits_not t (View t ∷ of_item t old.past) old.past waits refl))
         (λ w is_w. ap (λ (x : Work). x.can_end) (sym (some_same seen w is_w)) ∙ held.has_room.ends t session work has_work) (held.started t)
         (held.writes.opened t) (held.writes.clean t)
@@ -364,7 +364,7 @@ module _ {store : Store} (held : IsHeld store) (t : ℕ) (rests : doing_at t sto
           works = works_by t old.sessions (change_txn work.txn f old.sessions) there here refl (saved_else f);
           count = length-map old.sessions (λ x. of_txn work.txn f x x.work);
         })) (inl refl) held.count held.few held.fits (λ w is_w. same_log (was w is_w) refl refl) (held.has_room.replies t session there)
-            (held.has_room.acks t session there)
+        (held.has_room.acks t session there)
         (λ w is_w. held.has_room.ends t session w (was w is_w)) (held.started t) (held.writes.opened t) (held.writes.clean t)
 
 -- ---- the session's open transaction ends, and it may write no longer
@@ -393,7 +393,7 @@ module _ {store : Store} (held : IsHeld store) (t : ℕ) (rests : doing_at t sto
       is.session after there) (record { indexes = refl; versions = refl; schemas = refl }) (closed_desks (λ u differ. set_other old.sessions t u after differ)
       (held.rooms t)) (subst (Agrees held.chains) is.rest (committed_agrees held.chains old new t held.agrees is few))
       (inr (Committed t, eq-eqb t t refl, refl)) held.count held.few held.fits (λ w is_w. absurd (cc)) (held.has_room.replies t is.session there)
-          (λ waits. refl)
+      (λ waits. refl)
       (λ w is_w. absurd (cc)) (held.started t) (λ mine. absurd (writes_no_more store.writer t mine)) (λ other. own_then))
 
   pub rolled_back_held : {new : WorldState} → own t store.world.past ≡ [] → IsRolledBack t store.world new → IsHeld (then_closed new)
@@ -461,9 +461,9 @@ module _ {store : Store} (held : IsHeld store) (told : IsTold store.world) (name
       (length-append store.desks (desk ∷ []) ∙ ap (λ n. n + 1) held.count ∙ sym (length-append store.world.names (name ∷ [])))
       (omega (arith, length-append store.world.names (name ∷ []), room_left)) held.fits
       (λ work is. absurd (cc))
-          (λ busy. absurd (no_item (owed_by_txn (level t store.world.past) (length (own t store.world.past)) (awaits_ack (of_item t store.world.past)))
+      (λ busy. absurd (no_item (owed_by_txn (level t store.world.past) (length (own t store.world.past)) (awaits_ack (of_item t store.world.past)))
       (under_way t store.world.past) stranger busy))
-          (λ waits. absurd (no_ack (level t store.world.past) (length (own t store.world.past)) (awaits_ack (of_item t store.world.past))
+      (λ waits. absurd (no_ack (level t store.world.past) (length (own t store.world.past)) (awaits_ack (of_item t store.world.past))
       (owed_by_item (under_way t store.world.past)) stranger waits)) (λ work is. absurd (cc))
       (held.started t ∙ ap started_in (behind store.desks) ∙ sym (ap started_in at_last ∙ fresh.started_is)) (held.writes.opened t) (held.writes.clean t)
 

@@ -156,7 +156,7 @@ module _ (chains : Chains) (place : Place) (undo : Undo) (schema : Schema) (old 
   walks_near : (stage next : Stage) → WalksOn schema undo new stage next
       → StageHolds chains (what_is_there chains) place undo schema (rows_of old) bytes stage
       → StageHolds chains (what_is_there chains) place undo schema (rows_of new) read next
-          → left_at keys most new.versions.kept_at next < left_at keys most new.versions.kept_at stage
+      → left_at keys most new.versions.kept_at next < left_at keys most new.versions.kept_at stage
   walks_near (Walk which pointer) (Walk other behind) walks was now =
       let walked : HasWalked schema undo.key old.versions.kept_at which pointer was.0 (versions_before chains place) = was.3 in
       let walking : HasWalked schema undo.key new.versions.kept_at other behind now.0 (versions_before chains place) = now.3 in
@@ -648,7 +648,7 @@ module _ (s : ℕ) {store : Store} (held : IsHeld store) (busy : doing_at s stor
         rows_now : HasRows after new
         rows_now =
             has_rows_left cut new entry_leaves after
-                (rows_cut s mid cut back_to.logged last.log last.before to_cut back after (rows_then held.chains after source mid
+            (rows_cut s mid cut back_to.logged last.log last.before to_cut back after (rows_then held.chains after source mid
             back_to.logged last.log last.change last.before back_to.place room_was next (last_log held.logs last) last.place_is putting done_by pops))
 
         cut_now : HasCut s last.log last.before cut
@@ -674,7 +674,7 @@ module _ (s : ℕ) {store : Store} (held : IsHeld store) (busy : doing_at s stor
             let log_is : work_now.log ≡ last.log =
             ap (λ (w : Work). w.log) (one_work s session_cut cut_now.session work_cut cut_now.work cut has_work_cut cut_now.has_work) ∙ cut_now.log_is in
             cut_again s last.log last.before new
-                (cut_left s cut new last.log last.before session_now work_now (rows_leave cut new entry_leaves) left_logs cut_now
+            (cut_left s cut new last.log last.before session_now work_now (rows_leave cut new entry_leaves) left_logs cut_now
             has_work_now log_is) (ap (own s) past_now ∙ own_undone s keep last.change last.before source.past last.own_is (omega (arith, keep_is, own_length)))
 
         -- the session has nothing to do any more, and one older version more was dropped

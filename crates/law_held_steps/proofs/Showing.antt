@@ -182,7 +182,7 @@ task_by : (state : WorldState) {schemas : List Schema} (desk : Option Desk) (doi
     → state.schemas ≡ schemas → task_at state desk ≡ shown schemas 0 doing
 task_by state desk doing is not schemas =
     ap (shown state.schemas (left_in state desk)) is ∙ ap (λ (x : List Schema). shown x (left_in state desk) doing) schemas ∙
-        undoes_not _ (left_in state desk) doing not
+    undoes_not _ (left_in state desk) doing not
   where
     undoes_not : (x : List Schema) (left : ℕ) (d : Doing) → is_undoing d ≡ false → shown x left d ≡ shown x 0 d
     undoes_not x left Undoing none = absurd (cc)
@@ -210,7 +210,7 @@ module _ {s : ℕ} {store : Store} {new : WorldState} (held : IsHeld store) (min
       → IsNow past s task store.writer (lists_of store).state (lists_of (then_does doing)).state
   now_shown doing not past_is task_is =
       shows_now store (then_does doing) refl mine held.quiet (given s doing store.desks (there s store.desks within).1).others leaves.names
-          leaves.schemas past_is
+      leaves.schemas past_is
       (mine_shown doing not ∙ task_is)
 
   module _ {change : RowChange} (at : doing_at s store.desks ≡ Changing change) where

@@ -283,7 +283,7 @@ module _ {store : Store} (held : IsHeld store) (told : IsTold store.world) (s : 
       let columns = columns_of held.chains some.0 store.world scan.table some.1 there in
       ⊎_elim (λ same. shows_coded schema scan store.world held.chains told there columns le (quiet_rows_at held.chains store.world w (desk_at w store.desks)
       (ap (λ (n : ℕ). is_quiet_doing (doing_at n store.desks)) (sym same) ∙ searching) rows told))
-          (λ differs. shows_other_at store held.agrees held.logs told s is
+      (λ differs. shows_other_at store held.agrees held.logs told s is
       differs scan there columns le holds (desk_at w store.desks) rows) (cases_eq s w)
 
   pub shows_held : ShowsRows schema scan store.world (in_table scan.table held.chains)
@@ -617,10 +617,10 @@ module _ {store : Store} (table : ℕ) (plan : Plan) (schema : Schema) (held : I
         → AreRowsSeen table by store.world.past w (commits store.world.past) only_rows
     seen_by by are w alone other is =
         found_newest held.chains store.world table schema store.world.versions.kept_at (pairs_of store.world _) held.agrees
-            (are.readable.coded.clustered.tables table
+        (are.readable.coded.clustered.tables table
         schema are.readable.there) w alone by.which (λ row. is_within by.range (index_key schema by.which row)) rows are.found are.rise
         ∙ ap (λ (t : Schema).
-            rows_in_range by t (rows_of table (changed (with_all_tables store.world.past) (seen store.world.past w (commits store.world.past)))))
+        rows_in_range by t (rows_of table (changed (with_all_tables store.world.past) (seen store.world.past w (commits store.world.past)))))
         (some_same schema other (sym are.readable.there ∙ (ap (λ (tables : List Schema). slice_get tables table) held.agrees.lists.tables ∙ is)))
 
     newest_by : (quiet : Bool) → AreRead held.chains table (plan_read quiet plan) schema store.world rows → (w : ℕ)
