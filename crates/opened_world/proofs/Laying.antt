@@ -45,8 +45,8 @@ laid_new state new =
       chains = λ place. [];
       versions = λ place. sym (ap version_of (get-empty place_cmp (in_model place)));
       coded =
-          λ told. subst (λ schemas. AreCoded schemas (pairs_of state) state.versions.kept_at []) (sym new.schemas)
-          (no_tables (pairs_of state) state.versions.kept_at [] (λ place. refl));
+          λ told. subst (λ schemas. AreCoded schemas (pairs_of state) state.versions.kept_at (λ place. [])) (sym new.schemas)
+          (no_tables (pairs_of state) state.versions.kept_at (λ place. []) (λ place. refl));
       schemas = new.schemas;
       names = new.names;
       past = new.past;
