@@ -1,5 +1,5 @@
 -- The rows of a table as a world shows them, and the keys of those that a reader sees.
-use Rattle.std.proofs.Common.{◌≡◌, ◌∙◌, sym, ap, subst, refl, ℕ, zero, suc, ◌+◌, ◌≤◌, Bool, true, false, cond, List, ◌∷◌, length, Option, None, Some}
+use Rattle.std.proofs.Common.{◌≡◌, ◌⊎◌, inl, inr, ◌∙◌, sym, ap, subst, refl, ℕ, zero, suc, ◌+◌, ◌≤◌, true, false, cond, List, ◌∷◌, length, Option, None, Some}
 use Rattle.std.proofs.Common.{slice_get, arith}
 use Rattle.std.specs.Prelude.{IsSome}
 use Rattle.std.specs.List.{list_any}
@@ -12,7 +12,8 @@ use Rattle.inno_types.specs.{declared.value.Value.Value, declared.value.Key.Key,
 use Rattle.row_versions.specs.{declared.place.Place.Place, declared.version.Version.Version}
 use Rattle.law_stored_rows.specs.{Edits.clustered_index, Edits.key_index, Entries.value_in, Entries.has_value}
 use Rattle.world.specs.{State.WorldState, State.index_of, Told.IsTold, Told.pairs_in, Told.pairs_of}
-use Rattle.row_search.specs.{declared.scan.Scan.Scan, Sights.sees_by, Sights.rows_seen}
+use Rattle.row_search.specs.{declared.scan.Scan.Scan, declared.sight.Sight.Sight, Sights.sees_by, Sights.rows_seen}
+use Rattle.std.proofs.lemmas.Bool.{cases_Bool}
 use Rattle.row_search.proofs.{Keys.key_there_at, Others.in_clustered, Others.in_keyed, Others.seen_among}
 
 told_pairs : (found : Option (List Pair)) → IsSome found → found ≡ Some (pairs_in found)
@@ -24,6 +25,28 @@ first_index table = omega arith
 
 one_more : (n : ℕ) → suc n ≡ 1 + n
 one_more n = omega arith
+
+-- ---- what keys say of a place while a change of it is under way
+
+-- Each key tells of all versions of the place but the newest, which the reader doesn't see.
+pub record IsUnseen (chains : Chains) (said : Said) (sight : Sight) (place : Place) : Type 0 where
+  pub version : Version
+  pub others : List Version
+  pub newest_is : versions_at place chains ≡ version ∷ others
+  pub tells : TellsOfOlder place chains said
+  pub unseen : sees_by sight version.writer ≡ false
+
+-- The keys say what is there, or the reader doesn't see what they lack.
+abbrev pub SaysOrUnseen : Chains → Said → Sight → Place → Type 0
+SaysOrUnseen chains said sight place = ((which : ℕ) → said place.table which place.key ≡ versions_at place chains) ⊎ IsUnseen chains said sight place
+
+-- so it is of each place, where they lag at this one alone
+pub lags_at_one : {chains : Chains} {said : Said} {sight : Sight} {place : Place} → LagAt place chains said → IsUnseen chains said sight place
+    → (other : Place) → SaysOrUnseen chains said sight other
+lags_at_one {chains} {said} {sight} {place} lag unseen other = elim (cases_Bool (is_same_place place other)) [
+  | inl same ↦ subst (SaysOrUnseen chains said sight) (same_place place other same) (inr unseen)
+  | inr apart ↦ inl (λ which. lag other.table which other.key apart)
+]
 
 module _ (state : WorldState) (chains : Chains) (said : Said) (told : IsTold state)
     (coded : AreCodedAs state.schemas (pairs_of state) state.versions.kept_at chains said) where
@@ -90,36 +113,25 @@ module _ (state : WorldState) (chains : Chains) (said : Said) (told : IsTold sta
         let key = key_there_at schema at le in
         shows_keyed at key.0 (is ∙ one_more at) key.1 (tells at key.0.column)
 
-    -- all but the newest version of one place, which the reader doesn't see
-    module _ (place : Place) (version : Version) (others : List Version) (lag : LagAt place chains said) (tells : TellsOfOlder place chains said)
-        (newest_is : versions_at place chains ≡ version ∷ others) (unseen : sees_by scan.sight version.writer ≡ false) where
-      tells_of_seen : (at column : ℕ) → TellsOfSeen at column
-      tells_of_seen at column value row seen = go (is_same_place place (record { table = scan.table; key = value })) refl where
-        go : (b : Bool) → is_same_place place (record { table = scan.table; key = value }) ≡ b
-            → list_any (λ (version : Version). has_value column (value_in column row) version.row) (said scan.table at value) ≡ true
-        go false apart =
-            ap (list_any (λ (version : Version). has_value column (value_in column row) version.row)) (lag scan.table at value apart)
-            ∙ seen_among column scan.sight (in_table scan.table chains value) row seen
-        go true same =
-            let at_place : place ≡ record { table = scan.table; key = value } = same_place place (record { table = scan.table; key = value }) same in
-            let seen_here : first_seen (sees_by scan.sight) (versions_at place chains) ≡ Some row =
-            ap (λ (p : Place). first_seen (sees_by scan.sight) (versions_at p chains)) at_place ∙ seen in
-            let seen_older : first_seen (sees_by scan.sight) others ≡ Some row
-            =
-            sym (ap (λ b. cond b version.row (first_seen (sees_by scan.sight) others)) unseen) ∙
-            (sym (ap (first_seen (sees_by scan.sight)) newest_is) ∙ seen_here) in
-            let among : list_any (λ (version : Version). has_value column (value_in column row) version.row) (older (versions_at place chains)) ≡ true
-            =
-            ap (λ (versions : List Version). list_any (λ (version : Version). has_value column (value_in column row) version.row) (older versions))
-            newest_is ∙ seen_among column scan.sight others row seen_older in
-            subst (λ (p : Place). list_any (λ (version : Version). has_value column (value_in column row) version.row) (said p.table at p.key) ≡ true)
-            at_place (tells at column (value_in column row) among)
+    -- Of each place the keys say what is there, or what the reader sees.
+    tells_of_seen : ((place : Place) → SaysOrUnseen chains said scan.sight place) → (at column : ℕ) → TellsOfSeen at column
+    tells_of_seen each at column value row seen = elim (each (record { table = scan.table; key = value })) [
+      | inl says ↦
+          ap (list_any (λ (version : Version). has_value column (value_in column row) version.row)) (says at)
+          ∙ seen_among column scan.sight (in_table scan.table chains value) row seen
+      | inr lag ↦
+          let seen_older : first_seen (sees_by scan.sight) lag.others ≡ Some row
+          =
+          sym (ap (λ b. cond b lag.version.row (first_seen (sees_by scan.sight) lag.others)) lag.unseen) ∙
+          (sym (ap (first_seen (sees_by scan.sight)) lag.newest_is) ∙ seen) in
+          lag.tells at column (value_in column row)
+          (ap (λ (versions : List Version). list_any (λ (version : Version). has_value column (value_in column row) version.row) (older versions))
+          lag.newest_is ∙ seen_among column scan.sight lag.others row seen_older)
+    ]
 
-    pub shows_lagging : scan.which ≤ length schema.keys → (place : Place) (version : Version) (others : List Version) → LagAt place chains said
-        → TellsOfOlder place chains said → versions_at place chains ≡ version ∷ others → sees_by scan.sight version.writer ≡ false
+    pub shows_lagging : scan.which ≤ length schema.keys → ((place : Place) → SaysOrUnseen chains said scan.sight place)
         → ShowsRows schema scan state (in_table scan.table chains)
-    shows_lagging le place version others lag tells newest_is unseen =
-        shows_all scan.which refl le (tells_of_seen place version others lag tells newest_is unseen)
+    shows_lagging le each = shows_all scan.which refl le (tells_of_seen each)
 
 pub shows_coded : (schema : Schema) (scan : Scan) (state : WorldState) (chains : Chains) → IsTold state → slice_get state.schemas scan.table ≡ Some schema
     → HasItsColumns schema → scan.which ≤ length schema.keys → AreCoded state.schemas (pairs_of state) state.versions.kept_at chains

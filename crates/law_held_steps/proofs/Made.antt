@@ -14,7 +14,8 @@ use Rattle.law_past_agreement.specs.Order.{created}
 use Rattle.desks.specs.Desks.{Store, desk_at, doing_in, doing_at, started_in, started_at, with_doing, is_quiet_doing, is_undoing, HasRooms}
 use Rattle.desks.specs.{Holding.IsHeld, Holding.RowsHeld, Holding.SearchHeld, Holding.AreFew, Holding.IsLastOf, Holding.IsLastIfTold, declared.desk.Desk.Desk}
 use Rattle.desks.specs.{declared.desk.Doing.Doing, declared.desk.Doing.TheVariants.Nothing, declared.desk.Doing.TheVariants.Changing, Undoing.keys_if}
-use Rattle.row_changes.proofs.Alone.{alone_rows}
+use Rattle.row_changes.proofs.Alone.{alone_rows, alone_over, keys_alone}
+use Rattle.law_stored_rows.specs.Tables.{Said, what_is_there}
 use Rattle.law_held_steps.proofs.Keeping.{open_work, open_joined, goes_same, goes_changed, leaves_lists, last_of_kept, keeps}
 use Rattle.law_held_steps.proofs.{Desks.given, Desks.there, Desks.started_still, Desks.rooms_then, Desks.changes_at_a_desk, AnyStep.each, AnyStep.quiet_rows_at}
 use Rattle.law_held_steps.proofs.{AnyStep.rows_by_writer, Places.search_as, Putting.rows_mine, Putting.changing_rows, Putting.alone_if}
@@ -29,7 +30,8 @@ use Rattle.law_held_steps.specs.{Making.MakesChange}
 use Rattle.inno_model.specs.{Past.IsOpen, Past.own, Past.started, declared.event.Event.TheVariants.Changed}
 use Rattle.row_versions.specs.Chains.{Chains, versions_at, is_same_place, Pushes}
 use Rattle.row_versions.specs.{declared.place.Place.Place, declared.version.Version.Version}
-use Rattle.law_logged_changes.specs.{GoingOn.KeepsBeside, GoingOn.StaysAgreed, GoingOn.EntersAgreed, GoingOn.EndsAgreed, Logs.LogsAgree, Logs.IsAlone}
+use Rattle.law_logged_changes.specs.{GoingOn.KeepsBeside, GoingOn.StaysAgreed, GoingOn.EntersAgreed, GoingOn.EndsAgreed, GoingOn.GoesOnAgreed}
+use Rattle.law_logged_changes.specs.{GoingOn.IsAloneIn, Logs.LogsAgree}
 
 some_there : (found : Option Schema) (P : Schema → Type 0) → IsSomeAnd found P → (schema : Schema) × (found ≡ Some schema) × P schema
 some_there None P fits = absurd fits
@@ -166,13 +168,22 @@ module _ {s : ℕ} {store : Store} {new : WorldState} (held : IsHeld store) (min
   abbrev old : WorldState
   old = store.world
 
+  -- of all places the keys say what is there
+  abbrev there_now : Said
+  there_now = what_is_there held.chains
+
   -- nobody else has changes
-  alone : IsAlone s old
-  alone = alone_if held mine
+  alone : (change : RowChange) → IsAloneIn s old change
+  alone (Record change key after) = λ schema found. alone_if held mine (place_of schema change)
+  alone (Keys change) = record {}
 
   logs_now : (change : RowChange) (reached : Reached RowChange) → IsChangingRowAlone s held.chains old change
       → ChangesRowAlone s held.chains old new change reached → LogsAgree new
-  logs_now change reached p c = row_all s held.chains old new change reached p c alone held.logs
+  logs_now change reached p c = row_all s held.chains there_now old new change reached p c (alone change) held.logs
+
+  goes : (change : RowChange) (reached : Reached RowChange) → IsChangingRowAlone s held.chains old change
+      → ChangesRowAlone s held.chains old new change reached → GoesOnAgreed s held.chains there_now old new change reached
+  goes change reached p c = goes_on s held.chains there_now old new change reached held.agrees (alone change) p c told few
 
   -- where nothing is added
   still : (change : RowChange) (reached : Reached RowChange) (beside : KeepsBeside s old new) → IsChangingRowAlone s held.chains old change
@@ -195,7 +206,8 @@ module _ {s : ℕ} {store : Store} {new : WorldState} (held : IsHeld store) (min
   last_logged change key after next row c same =
       let p = row.0 in
       let logged =
-      change_logged s held.chains old new change key next.before after p.session p.work row c.0.0 p.has_work (held.logs.each s p.session p.work p.has_work) in
+      change_logged s held.chains there_now old new change key next.before after row c.0.0 p.session p.work p.has_work
+      (held.logs.each s p.session p.work p.has_work) in
       record {
         logged = logged.logged;
         place = place_of p.schema change;
@@ -218,8 +230,8 @@ module _ {s : ℕ} {store : Store} {new : WorldState} (held : IsHeld store) (min
   pub makes : (change : RowChange) (reached : Reached RowChange) → IsChangingRowAlone s held.chains old change → IsLastIfTold old s change
       → ChangesRowAlone s held.chains old new change reached → MakesChange s store new change reached
   makes (Record change key after) (Went (Record next key' after')) row last c =
-      let a : StaysAgreed s held.chains old new (Record next key' after') =
-      goes_on s held.chains old new (Record change key after) (Went (Record next key' after')) held.agrees alone row c told few in
+      let a : StaysAgreed s held.chains there_now old new (Record next key' after') =
+      goes (Record change key after) (Went (Record next key' after')) row c in
       let p = row.0 in
       still (Record change key after) (Went (Record next key' after')) a.beside row c a.past a.agrees refl (λ desk. (a.changing, record {})) (record {
         adds = record { past = a.past; rows = a.rows };
@@ -229,8 +241,8 @@ module _ {s : ℕ} {store : Store} {new : WorldState} (held : IsHeld store) (min
             (c.1 p.schema p.table.there);
       })
   makes (Record change key after) (Went (Keys next)) row last c =
-      let a : EntersAgreed s held.chains old new change next =
-      goes_on s held.chains old new (Record change key after) (Went (Keys next)) held.agrees alone row c told few in
+      let a : EntersAgreed s held.chains there_now old new change next = goes (Record change key after) (Went (Keys next)) row c in
+      let changing = keys_alone s held.chains a.after old new change key after next row c a.pushes in
       let p = row.0 in
       let entry = change_of change.table change.edit in
       let fits : FitsThen (Changed s entry ∷ old.past) = (
@@ -242,7 +254,7 @@ module _ {s : ℕ} {store : Store} {new : WorldState} (held : IsHeld store) (min
       record {
         held =
             keeps held mine a.beside (goes_changed a.past) a.agrees was (Changing (Keys next)) within not refl (subst FitsThen (sym a.past) fits)
-            (logs_now (Record change key after) (Went (Keys next)) row c) (λ desk. (a.changing, last_logged change key after next row c a.beside.schemas))
+            (logs_now (Record change key after) (Went (Keys next)) row c) (λ desk. (changing, last_logged change key after next row c a.beside.schemas))
             (λ place. let pushed = pushed_short held.chains a.after _ _ (length old.past + 2 ^ 62) a.pushes.pushes held.short
             place in omega (arith, longer, pushed));
         leaves = leaves_lists held mine a.beside;
@@ -250,14 +262,14 @@ module _ {s : ℕ} {store : Store} {new : WorldState} (held : IsHeld store) (min
       }
   makes (Record change key after) Done row last c = absurd c
   makes (Record change key after) (Hindered same why) row last c =
-      let given = goes_on s held.chains old new (Record change key after) (Hindered same why) held.agrees alone row c told few in
-      let a : StaysAgreed s held.chains old new same = given.1 in
+      let given = goes (Record change key after) (Hindered same why) row c in
+      let a : StaysAgreed s held.chains there_now old new same = given.1 in
       let p : IsChangingRowAlone s held.chains new (Record change key after) = subst (IsChangingRowAlone s held.chains new) c.0 a.changing in
       still (Record change key after) (Hindered same why) a.beside row c a.past a.agrees refl
       (λ desk. alone_rows s held.chains new change key after p) (record { past = a.past; rows = a.rows }, c.0)
   makes (Keys change) (Went (Record next key after)) row last c = absurd c.0
   makes (Keys change) (Went (Keys next)) row last c =
-      let a : StaysAgreed s held.chains old new (Keys next) = goes_on s held.chains old new (Keys change) (Went (Keys next)) held.agrees alone row c told few in
+      let a : StaysAgreed s held.chains there_now old new (Keys next) = goes (Keys change) (Went (Keys next)) row c in
       let p = row in
       still (Keys change) (Went (Keys next)) a.beside row c a.past a.agrees refl
       (λ desk. (a.changing, last_of_kept held mine a.beside next a.past c.0.table_is c.0.key_is last)) (record {
@@ -266,11 +278,11 @@ module _ {s : ℕ} {store : Store} {new : WorldState} (held : IsHeld store) (min
         nears = nears_by old new (Keys change) (Keys next) p.schema a.beside.schemas c.0.table_is p.table.there (c.1 p.schema p.table.there);
       })
   makes (Keys change) Done row last c =
-      let a : EndsAgreed s held.chains old new = goes_on s held.chains old new (Keys change) Done held.agrees alone row c told few in
-      still (Keys change) Done a.beside row c a.past a.agrees refl (λ desk. a.coded) (record { past = a.past; rows = a.rows }, refl)
+      let a : EndsAgreed s held.chains there_now old new (Keys change) = goes (Keys change) Done row c in
+      still (Keys change) Done a.beside row c a.past a.agrees refl (λ desk. alone_over s held.chains old new change row c) (record { past = a.past; rows = a.rows }, refl)
   makes (Keys change) (Hindered same why) row last c =
-      let given = goes_on s held.chains old new (Keys change) (Hindered same why) held.agrees alone row c told few in
-      let a : StaysAgreed s held.chains old new same = given.1 in
+      let given = goes (Keys change) (Hindered same why) row c in
+      let a : StaysAgreed s held.chains there_now old new same = given.1 in
       let p : IsChangingRowAlone s held.chains new (Keys change) = subst (IsChangingRowAlone s held.chains new) c.0 a.changing in
       still (Keys change) (Hindered same why) a.beside row c a.past a.agrees refl
       (λ desk. record { change = change; changing = p; newest = last_of_kept held mine a.beside change a.past refl refl last })

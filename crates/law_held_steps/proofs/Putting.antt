@@ -7,7 +7,7 @@ use Rattle.std.proofs.Common.{Bool, ◌+◌, ◌*◌, ◌^◌, ◌<◌, inl, inr
 use Rattle.std.proofs.{lemmas.Bool.cases_eq, lemmas.Bool.Decides.nat_tests, lemmas.List.length-set, lemmas.List.set-set}
 use Rattle.world.specs.State.{WorldState, Logged, Session, Work, HasWork, IsSession, standing_of}
 use Rattle.world.specs.Undoing.{read_into, ReadsLast, newest, IsRead, HoldsRecord, IsCutBack}
-use Rattle.world.specs.{Told.IsTold, Told.TellsTogether, Told.LeavesRows, declared.undo_room.UndoRoom.UndoRoom, Memory.IsInMemory, Sessions.undone_added}
+use Rattle.world.specs.{Told.IsTold, Told.pairs_of, Told.TellsTogether, Told.LeavesRows, declared.undo_room.UndoRoom.UndoRoom, Memory.IsInMemory, Sessions.undone_added}
 use Rattle.desks.specs.Holding.{RowsHeld, RowsHeldAt, RowsHeldBy, IsLast, IsLastIfTold, IsLagging, SearchHeld, IsHeld, IsGoingBack, WriterAgrees}
 use Rattle.desks.specs.Undoing.{left_at, keys_if, undo_left_in, most_versions, left_in}
 use Rattle.desks.specs.declared.desk.Doing.TheVariants.{Nothing, Changing, Lagging, Undoing}
@@ -16,27 +16,30 @@ use Rattle.desks.specs.{Shown.shown, Shown.task_at, Shown.lists_of, declared.des
 use Rattle.law_logged_changes.proofs.Leaving.{own_beside, agrees_beside, step_all, step_beside, logs_beside, work_beside, work_again, rows_leave, all_left}
 use Rattle.law_logged_changes.proofs.Leaving.{cut_left, cut_again, has_rows_left}
 use Rattle.law_logged_changes.proofs.Beginning.{tells_of_it, begins_settled, begins_lagging}
-use Rattle.law_logged_changes.proofs.{TakenBack.rows_then, TakenBack.to_cut_by_history, Cutting.rows_cut, Cutting.has_cut}
+use Rattle.law_logged_changes.proofs.{TakenBack.taken as taken_back, TakenBack.to_cut_by_history, Cutting.rows_as_cut, Cutting.has_cut}
 use Rattle.law_held_steps.proofs.AnyStep.{some_same, last_left, held_beside, rows_left, last_log, rows_by_writer, waits_not, held_after}
 use Rattle.law_held_steps.proofs.{Desks.IsGiven, Desks.is_given, Desks.given_then, Keeping.open_work, Showing.settings_same, Showing.shows_now}
 use Rattle.undo_apply.specs.Stages.{Stops, StopsAt, IsPuttingBack, GoesOn, IsHindered, IsDone, PutsBack, StageHolds, WalksOn}
 use Rattle.undo_apply.specs.{declared.work_room.Stage.Stage, Rooms.IsWhole, Rooms.steps_left, declared.work_room.WorkRoom.WorkRoom}
 use Rattle.undo_apply.specs.{declared.work_room.Stage.TheVariants.Walk, declared.work_room.Stage.TheVariants.Find, Told.rows_of, Standing.versions_before}
-use Rattle.undo_apply.specs.{Standing.HasWalked}
+use Rattle.undo_apply.specs.Standing.{HasWalked, IsTakenBack, said_but}
+use Rattle.undo_apply.proofs.Taken.{as_all}
 use Rattle.law_held_steps.specs.Undoing.{HasPutBack, HasLast, IsReady, TakesBackIn}
 use Rattle.row_versions.specs.Chains.{Chains, older, versions_at, with_versions, is_same_place, Pops}
 use Rattle.row_versions.specs.{declared.place.Place.Place, declared.version.Version.Version, declared.kept.Kept.Kept, Versions.Stays}
-use Rattle.law_past_agreement.specs.{Order.IsOfRow, Order.IsUndoable, Order.MayCome, Rows.place_in}
-use Rattle.law_logged_changes.specs.{Logs.IsAlone, Logs.LogsAgree, Logs.IsLogOf, Steps.ChangesPairsAlone, Steps.LeavesLogs, Steps.IsToCut, Steps.HasCut}
+use Rattle.law_past_agreement.specs.{Order.IsOfRow, Order.IsUndoable, Order.MayCome, Rows.place_in, Rows.is_at}
+use Rattle.law_logged_changes.specs.{Logs.IsAloneAt, Logs.LogsAgree, Logs.IsLogOf, Steps.ChangesPairsAlone, Steps.LeavesLogs, Steps.IsToCut, Steps.HasCut}
 use Rattle.inno_model.specs.Past.{own, is_of, started, under_way, of_item, awaits_ack, level}
 use Rattle.inno_model.specs.{declared.event.Event.Event, declared.event.Event.TheVariants.Undone}
 use Rattle.shared_lists.specs.{Tasks.Task, Tasks.MayTakeBack, Tasks.undo_to_go, Fitting.FitsThen, State.task_of, State.Turns}
 use Rattle.inno_types.specs.declared.value.Schema.{Schema}
 use Rattle.world.proofs.Memory.{no_pages}
 use Rattle.law_stored_rows.specs.{Records.LeadTo, Tables.Said, Tables.what_is_there}
+use Rattle.law_stored_rows.proofs.Tables.{popped_elsewhere}
+use Rattle.row_changes.proofs.Telling.{rows_beside}
 use Rattle.desks.proofs.{Counting.versions_most, Counting.versions_are, Showing.task_is}
 use Rattle.row_changes.specs.{Awaited.IsAwaitedAlone, Told.HasRows, Rows.IsChangingRowAlone, declared.row_change.RowChange.RowChange}
-use Rattle.std.specs.Prelude.{is_some, slice_set}
+use Rattle.std.specs.{Prelude.is_some, Prelude.slice_set, List.list_any}
 use Rattle.store_api.specs.{declared.answers.Undo.Undo, declared.moves.Move.Move, declared.moves.Move.TheVariants.Done, declared.moves.Move.TheVariants.Step}
 use Rattle.inno_db.specs.{declared.change.Change.Change, declared.change.Change.TheVariants.Create}
 use Rattle.undo_apply.proofs.{Hindrances.never_hindered, Telling.leaves_told, Columns.few_keys}
@@ -48,8 +51,11 @@ use Rattle.law_world_agreement.specs.{Agreement.Agrees, Steps.IsTakenBackBy}
 use Rattle.law_world_agreement.proofs.{Opening.set_here, Opening.set_other, Changing.one_session, Changing.one_work, Entries.taken_back_agrees}
 
 -- nobody else has changes
-pub alone_if : {s : ℕ} {store : Store} → IsHeld store → store.writer ≡ Some s → IsAlone s store.world
-alone_if {s} held mine u differs = held.writes.clean u (λ is. differs (some_same u s (sym is ∙ mine)))
+pub others_clean : {s : ℕ} {store : Store} → IsHeld store → store.writer ≡ Some s → (u : ℕ) → u ≢ s → own u store.world.past ≡ []
+others_clean {s} held mine u differs = held.writes.clean u (λ is. differs (some_same u s (sym is ∙ mine)))
+
+pub alone_if : {s : ℕ} {store : Store} → IsHeld store → store.writer ≡ Some s → (place : Place) → IsAloneAt place s store.world
+alone_if {store = store} held mine place u differs = ap (list_any (is_at store.world.schemas place)) (others_clean held mine u differs)
 
 pub older_fewer : (versions : List Version) → length (older versions) ≤ length versions
 older_fewer [] = omega arith
@@ -261,7 +267,8 @@ module _ (chains : Chains) (state : WorldState) (s : ℕ) (room : WorkRoom) (rea
     settled : HasRows chains state → IsGoingBack chains state s read room
     settled coded =
         let log = last_log agree last in
-        going_if logged place last (begins_settled chains state logged last.log last.change last.before place room log last.place_is coded whole anew)
+        going_if logged place last (begins_settled chains state logged last.log last.change last.before place room log last.place_is
+        (rows_beside chains place state coded) whole anew)
 
     lagging : IsLagging chains state s → IsGoingBack chains state s read room
     lagging rows =
@@ -388,7 +395,7 @@ module _ (s : ℕ) {store : Store} (held : IsHeld store) where
           never_hindered s old new memory alone held.chains (what_is_there held.chains) going.place (read_into undo) room next answer answers
 
       pub rest_beside : ChangesPairsAlone old new
-      rest_beside = step_beside held.chains going.place s (read_into undo) room next old new answer answers
+      rest_beside = step_beside held.chains (what_is_there held.chains) going.place s (read_into undo) room next old new answer answers
 
       module _ (not_done : answer ≢ Done) where
         still_putting : StaysPutting held.chains going.place (read_into undo) next old new
@@ -398,7 +405,7 @@ module _ (s : ℕ) {store : Store} (held : IsHeld store) where
         held_on memory later =
             let stays = still_putting in
             held_given s held mine stays.leaves memory.told later.told (is_given s (λ d. record d { room = next }) store.desks goes_back.at refl)
-            (undoing_rows stays) (step_all held.chains going.place s (read_into undo) room next old new answer answers not_done held.logs)
+            (undoing_rows stays) (step_all held.chains (what_is_there held.chains) going.place s (read_into undo) room next old new answer answers not_done held.logs)
             (subst (λ doing. SearchHeld held.chains (record store { world = new; desks = with_room s next store.desks }) s doing) (sym is_busy) (record {}))
             (record {
               record_room = (held.rooms s desk goes_back.at).record_room;
@@ -631,13 +638,10 @@ module _ (s : ℕ) {store : Store} (held : IsHeld store) (busy : doing_at s stor
         done_by : IsDone held.chains (what_is_there held.chains) back_to.place back_to.logged.undo room_was next source mid
         done_by = subst (λ (u : Undo). IsDone held.chains (what_is_there held.chains) back_to.place u room_was next source mid) back_to.undo_is done
 
-        alone : IsAlone s source
-        alone = alone_if held by_me
-
         to_cut : IsToCut s back_to.logged last.log last.before mid
         to_cut =
-            to_cut_by_history s held.chains after source mid last.session last.work back_to.logged last.log last.change last.before back_to.place room_was next
-            held.logs alone last.has_work last.log_is last.own_is last.place_is putting done_by pops
+            to_cut_by_history s held.chains after (what_is_there held.chains) source mid last.session last.work back_to.logged last.log last.change last.before
+            back_to.place room_was next held.logs (alone_if held by_me back_to.place) last.has_work last.log_is last.own_is last.place_is putting done_by pops
 
         -- the entry of the history leaves pairs and kept versions
         entry_leaves : LeavesRows cut new
@@ -645,14 +649,21 @@ module _ (s : ℕ) {store : Store} (held : IsHeld store) (busy : doing_at s stor
             subst (LeavesRows cut) (sym new_is)
             (record { schemas = refl; pairs = λ index. same_pairs (cut.indexes index).pairs; versions = same_versions cut.versions })
 
+        taken_then : IsTold mid → IsTakenBack after (what_is_there held.chains) back_to.place back_to.logged.undo (rows_of mid)
+        taken_then =
+            taken_back held.chains after (what_is_there held.chains) source mid back_to.logged last.log last.change last.before back_to.place room_was next
+            (last_log held.logs last) last.place_is putting done_by pops
+
         rows_now : HasRows after new
         rows_now =
             has_rows_left cut new entry_leaves after
-            (rows_cut s mid cut back_to.logged last.log last.before to_cut back after (rows_then held.chains after source mid
-            back_to.logged last.log last.change last.before back_to.place room_was next (last_log held.logs last) last.place_is putting done_by pops))
+            (λ told. as_all cut.schemas (pairs_of cut) cut.versions.kept_at after (what_is_there held.chains) back_to.place
+            (rows_as_cut s mid cut back_to.logged last.log last.before to_cut back after (said_but (what_is_there held.chains) back_to.place (λ which. versions_at back_to.place after))
+            (λ at. (taken_then at).all) told)
+            (λ table which value apart. popped_elsewhere held.chains after back_to.place pops (record { table = table; key = value }) apart))
 
         cut_now : HasCut s last.log last.before cut
-        cut_now = has_cut s mid cut back_to.logged last.log last.before to_cut back (λ t differs. own_beside t source mid left_all.rest ∙ alone t differs)
+        cut_now = has_cut s mid cut back_to.logged last.log last.before to_cut back
 
         not_of : (t : ℕ) → t ≢ s → is_of t (Undone s keep) ≡ false
         not_of t differs = grind (arith, nat_tests, differs)

@@ -1,31 +1,32 @@
 -- Searches in a held store. It shows its rows to each that is under way: where keys lag behind the newest change of a session, other
 -- readers by a view don't see that change. A search begins, goes on, ends or is given up.
-use Rattle.inno_db.specs.declared.change.Change.TheVariants as changes
 use Rattle.std.proofs.Common.{◌≡◌, ◌≢◌, inl, inr, ℕ, ◌<◌, Bool, true, false, cond, List, [], ◌∷◌, ◌++◌, Option, Some, refl, sym, ap, subst, ◌∙◌, arith, length}
 use Rattle.std.proofs.Common.{slice_get, ◌⊎◌, ⊎_elim, None, eq-eqb, ◌≤◌, map}
 use Rattle.std.proofs.{lemmas.Bool.cases_lt, lemmas.Bool.false≢true, lemmas.Bool.cases_eq, lemmas.Bool.Decides.nat_tests, lemmas.Bool.Decides.eqb_tells}
 use Rattle.std.specs.Prelude.{is_some, option_map, ◌||◌, ◌≤◌, ◌==◌, ◌-◌, filter, ◌<◌}
 use Rattle.std.specs.List.{list_any}
 use Rattle.inno_model.specs.Past.{own, IsOpen, view_of, commits, changed}
-use Rattle.law_stored_rows.proofs.Values.{place_itself, same_place, one_key}
+use Rattle.law_stored_rows.proofs.Values.{place_itself, one_key}
+use Rattle.undo_apply.specs.{Told.rows_of as told_rows, Standing.IsTakenBack}
+use Rattle.undo_apply.proofs.Taken.{whole_yet}
 use Rattle.desks.specs.Holding.{IsLast, IsOwnView, IsLastOf, RowsHeld, RowsHeldAt, RowsHeldBy, SightHolds, IsHeld, FindsSince, IsSearchHeld, SearchHeld}
 use Rattle.desks.specs.declared.desk.Doing.TheVariants.{Nothing, Searching, Changing, Lagging, Undoing}
 use Rattle.desks.specs.Desks.{Store, desk_at, doing_at, is_quiet_doing, is_quiet, with_doing}
 use Rattle.desks.specs.Searching.{keys_left, places_in}
 use Rattle.desks.specs.{declared.desk.Desk.Desk, declared.desk.Doing.Doing, declared.desk.TableSearch.TableSearch, Shown.reading_of}
-use Rattle.law_stored_rows.specs.Tables.{Said, HasItsColumns, AreCodedAs, LagAt, in_table, what_is_there, AreCoded}
+use Rattle.law_stored_rows.specs.Tables.{Said, HasItsColumns, in_table, what_is_there, AreCoded}
 use Rattle.law_held_steps.proofs.Places.{none_moves, held_stays, moves_then, moves_in_one, moves_nothing, leaving_moves, moves_leave, moves_told}
 use Rattle.law_held_steps.proofs.Nearing.{IsLess, keys_before, visit_before, keys_anew, steps_nearer, still_nearer, anew_nearer, nearer_in}
-use Rattle.law_held_steps.proofs.{AnyStep.some_same, AnyStep.last_log, AnyStep.quiet_rows_at, Keeping.open_work, Putting.alone_if}
-use Rattle.law_found_rows.proofs.{Showing.shows_coded, Showing.shows_lagging, Showing.holds_table, Showing.shows_clustered, Finding.begins}
+use Rattle.law_held_steps.proofs.{AnyStep.some_same, AnyStep.last_log, AnyStep.quiet_rows_at, Keeping.open_work, Putting.others_clean}
+use Rattle.law_found_rows.proofs.{Showing.shows_coded, Showing.shows_lagging, Showing.lags_at_one, Showing.holds_table, Showing.shows_clustered, Finding.begins}
 use Rattle.law_found_rows.proofs.{Finding.may_come_anew, Finding.goes_on, Finding.waits_on, Databases.found_by_view, Databases.found_newest}
-use Rattle.row_versions.specs.Chains.{Chains, versions_at, sees, is_same_place}
+use Rattle.row_versions.specs.Chains.{Chains, versions_at, sees}
 use Rattle.row_versions.specs.{declared.place.Place.Place, declared.version.Version.Version}
 use Rattle.law_past_agreement.specs.Rows.{is_at, is_place, row_of, row_opened, seen}
 use Rattle.law_past_agreement.specs.{Agreement.AreVersionsBy, Agreement.ViewAgrees, Agreement.versions_of, Ids.id_of, DatabaseTables.with_all_tables}
 use Rattle.world.specs.State.{WorldState, Logged, Session, Work, Seen, HasWork, id_of as work_id, standing_of, index_of}
 use Rattle.world.specs.{Told.IsTold, Told.pairs_of, Undoing.read_into, Sessions.IsShown, Indexes.Calls}
-use Rattle.law_logged_changes.specs.{Logs.records_of, Logs.Stands, Logs.LogsAgree, Lagging.LagsAt, Lagging.LagsSomewhere}
+use Rattle.law_logged_changes.specs.{Logs.records_of, Logs.Stands, Logs.LogsAgree, Lagging.LagsAt}
 use Rattle.row_search.specs.{Searches.BeginsWithNothing, Searches.MayBegin, Searches.IsSearching, Searches.place_in, Steps.IsSameScan, Steps.GoesOn}
 use Rattle.row_search.specs.{Steps.Waits, Steps.Ends, declared.scan.Scan.Scan, Sights.sees_by, Sights.rows_seen, Tables.ShowsRows, Tables.most_versions}
 use Rattle.row_search.specs.{declared.sight.Sight.Sight, declared.sight.Sight.TheVariants.View, declared.sight.Sight.TheVariants.Newest}
@@ -148,47 +149,25 @@ module _ {state : WorldState} (logs : LogsAgree state) {w : ℕ} {logged : Logge
 
 -- ---- what is shown while keys lag
 
-module _ {schema : Schema} (scan : Scan) {state : WorldState} {chains : Chains} {said : Said} (told : IsTold state)
-    (there : slice_get state.schemas scan.table ≡ Some schema) (columns : HasItsColumns schema) (le : scan.which ≤ length schema.keys)
-    (coded : AreCodedAs state.schemas (pairs_of state) state.versions.kept_at chains said) where
-  -- at two places at most, and not at the same: then nowhere
-  nowhere : (place other : Place) → LagAt place chains said → LagAt other chains said → is_same_place place other ≡ false → said ≡ what_is_there chains
-  nowhere place other here elsewhere apart = λ i table which value. each table which value i where
-    each : (table which : ℕ) (value : Value) → said table which value ≡ what_is_there chains table which value
-    each table which value = go (is_same_place other (record { table = table; key = value })) refl where
-      go : (b : Bool) → is_same_place other (record { table = table; key = value }) ≡ b → said table which value ≡ what_is_there chains table which value
-      go false differs = elsewhere table which value differs
-      go true same = here table which value (ap (is_same_place place) (sym (same_place other (record { table = table; key = value }) same)) ∙ apart)
-
-  shows_at : (place : Place) {version : Version} {others : List Version} → LagAt place chains said → versions_at place chains ≡ version ∷ others → sees_by
-      scan.sight version.writer ≡ false → LagsSomewhere chains said → ShowsRows schema scan state (in_table scan.table chains)
-  shows_at place {version} {others} lag versions unseen known = go (is_same_place place known.place) refl where
-    go : (b : Bool) → is_same_place place known.place ≡ b → ShowsRows schema scan state (in_table scan.table chains)
-    go true same =
-        let at : place ≡ known.place = same_place place known.place same in
-        shows_lagging state chains said told coded schema scan there columns le known.place version others known.lag known.tells
-        (ap (λ (p : Place). versions_at p chains) (sym at) ∙ versions) unseen
-    go false apart =
-        shows_coded schema scan state chains told there columns le
-        (subst (AreCodedAs state.schemas (pairs_of state) state.versions.kept_at chains) (nowhere place known.place lag known.lag apart) coded)
-
 pub shows_changing : {schema : Schema} (scan : Scan) {state : WorldState} {chains : Chains} {change : KeysChange}
     (p : IsChangingKeys chains (what_is_there chains) state change)
     → IsTold state → slice_get state.schemas scan.table ≡ Some schema → HasItsColumns schema → scan.which ≤ length schema.keys
     → sees_by scan.sight p.pushed.version.writer ≡ false → ShowsRows schema scan state (in_table scan.table chains)
-shows_changing scan {chains} {change} p told there columns le unseen =
+shows_changing {schema} scan {state} {chains} {change} p told there columns le unseen =
     let rows = p.rows told in
-    shows_at scan told there columns le rows.1 (record { table = change.table; key = p.value }) rows.2.lag p.pushed.versions unseen
-    (lags chains (record { table = change.table; key = p.value }) change.which change.put change.before p.older rows.0 p.pushed.version p.pushed.versions
-    rows.2)
+    let pushed = p.pushed in
+    shows_lagging state chains rows.0 told rows.1 schema scan there columns le (lags_at_one rows.2.lag
+    (record
+    { version = pushed.version; others = p.older; newest_is = pushed.versions; tells = lags change.put change.before pushed.version pushed.versions rows.2; unseen = unseen }))
 
 abbrev pub HasSome : Chains → WorldState → Type 0
 HasSome chains state = (said : Said) × AreRowsAs chains said state
 
 module _ (chains : Chains) {state : WorldState} (told : IsTold state) where
-  going_rows : (place : Place) → LagsAt place chains state ⊎ AreCoded state.schemas (pairs_of state) state.versions.kept_at chains → HasSome chains state
-  going_rows place (inl lags) = (lags.said, lags.coded)
-  going_rows place (inr coded) = (what_is_there chains, coded)
+  going_rows : {beside : Said} {place : Place} {undo : Undo} → LagsAt place chains beside state ⊎ IsTakenBack chains beside place undo (told_rows state)
+      → HasSome chains state
+  going_rows (inl lags) = (lags.said, lags.coded)
+  going_rows (inr back) = (_, back.all)
 
   rows_of_some : (w : ℕ) (undo : Undo) (room : WorkRoom) (doing : Doing) → RowsHeld chains state w undo room doing → HasSome chains state
   rows_of_some w undo room Nothing rows = (what_is_there chains, rows told)
@@ -196,7 +175,7 @@ module _ (chains : Chains) {state : WorldState} (told : IsTold state) where
   rows_of_some w undo room (Changing (Record change key after)) rows = (what_is_there chains, alone_rows w chains state change key after rows.0 told)
   rows_of_some w undo room (Changing (Keys change)) rows = let so = rows.0.rows told in (so.0, so.1)
   rows_of_some w undo room Lagging rows = let so = rows.changing.rows told in (so.0, so.1)
-  rows_of_some w undo room Undoing rows = going_rows rows.place (lags_while chains rows.place undo room state rows.putting told)
+  rows_of_some w undo room Undoing rows = going_rows (lags_while chains (what_is_there chains) rows.place undo room state rows.putting told)
 
   some_rows_at : (w : ℕ) (desk : Option Desk) → RowsHeldAt chains state w desk → HasSome chains state
   some_rows_at w None rows = (what_is_there chains, rows told)
@@ -248,13 +227,15 @@ module _ {chains : Chains} (store : Store) (agrees : Agrees chains store.world) 
       shows_changing scan p told there columns le (ap (λ (version : Version). sees_by scan.sight version.writer) one ∙ (ap (sees_by scan.sight) by.writer_is
       ∙ unseen scan.sight holds own.logged own.place own.last))
 
-  shows_back : {logged : Logged} {place : Place} → IsLast state w logged place → LagsAt place chains state ⊎ AreCoded
-      state.schemas (pairs_of state) state.versions.kept_at chains → ShowsRows schema scan state (in_table scan.table chains)
-  shows_back {logged} {place} last (inr coded) = shows_coded schema scan state chains told there columns le coded
-  shows_back {logged} {place} last (inl lags) =
+  shows_back : {logged : Logged} {place : Place} {undo : Undo} → IsLast state w logged place → LagsAt place chains (what_is_there chains) state ⊎ IsTakenBack
+      chains (what_is_there chains) place undo (told_rows state) → ShowsRows schema scan state (in_table scan.table chains)
+  shows_back {place = place} {undo = undo} last (inr back) =
+      shows_coded schema scan state chains told there columns le (whole_yet chains place undo (told_rows state) back)
+  shows_back {logged} {place} last (inl lag) =
       let by : IsWrittenBy chains place (id_of state.past w) = written agrees last in
-      shows_lagging state chains lags.said told lags.coded schema scan there columns le place by.version by.others lags.lag lags.older by.versions
-      (ap (sees_by scan.sight) by.writer_is ∙ unseen scan.sight holds logged place last)
+      let unseen_by_it = ap (sees_by scan.sight) by.writer_is ∙ unseen scan.sight holds logged place last in
+      shows_lagging state chains lag.said told lag.coded schema scan there columns le (lags_at_one lag.lag
+      (record { version = by.version; others = by.others; newest_is = by.versions; tells = lag.older; unseen = unseen_by_it }))
 
   shows_other : (undo : Undo) (room : WorkRoom) (doing : Doing) → RowsHeld chains state w undo room doing
       → ShowsRows schema scan state (in_table scan.table chains)
@@ -264,7 +245,7 @@ module _ {chains : Chains} (store : Store) (agrees : Agrees chains store.world) 
       shows_coded schema scan state chains told there columns le (alone_rows w chains state change key after rows.0 told)
   shows_other undo room (Changing (Keys change)) rows = shows_keys rows.0 rows.1
   shows_other undo room Lagging rows = shows_keys rows.changing rows.newest
-  shows_other undo room Undoing rows = shows_back rows.last (lags_while chains rows.place undo room state rows.putting told)
+  shows_other undo room Undoing rows = shows_back rows.last (lags_while chains (what_is_there chains) rows.place undo room state rows.putting told)
 
   shows_other_at : (desk : Option Desk) → RowsHeldAt chains state w desk → ShowsRows schema scan state (in_table scan.table chains)
   shows_other_at None rows = shows_coded schema scan state chains told there columns le (rows told)
@@ -459,7 +440,7 @@ module _ {store : Store} (held : IsHeld store) (told : IsTold store.world) (s : 
       scan) found (subst (λ (v : ReadSight). FoundBy (View v is.work.id)) is.same (subst (λ (r : ℕ). FoundBy (View view r)) is.reader_is are)) rise)
   found_in Newest is are rise =
       seen_then (commits now.past) (found_newest held.chains now scan.table on.schema now.versions.kept_at (pairs_of now _) held.agrees
-      (rows.1.clustered.tables scan.table on.schema there) s (alone_if held is) scan.which (lies_in on.schema scan) found are rise)
+      (rows.1.clustered.tables scan.table on.schema there) s (others_clean held is) scan.which (lies_in on.schema scan) found are rise)
 
   pub found_then : SightHolds store s scan.sight → FoundBy scan.sight → RiseByKey found
       → AreFoundBy (reading_of scan.sight) scan.table (plan_of on) now.past s (map (λ (f : FoundRow). f.row) found)

@@ -6,13 +6,16 @@ use Rattle.inno_types.specs.{declared.value.Value.Value, declared.value.Column.C
 use Rattle.inno_db.specs.declared.change.Change.{Change}
 use Rattle.key_codec.specs.Keys.{HasKey, key_code}
 use Rattle.row_versions.specs.{declared.place.Place.Place, declared.version.Version.Version, Chains.Chains, Chains.versions_at, Chains.older}
-use Rattle.law_stored_rows.specs.{Records.shown, Tables.Said, Tables.AreCodedAs, Tables.SayTheSameBut, Tables.what_is_there}
+use Rattle.law_stored_rows.specs.{Records.shown, Tables.Said, Tables.AreCodedAs, Tables.SayTheSameBut, Records.kept_of}
 use Rattle.law_stored_rows.proofs.Values.{one_key}
 use Rattle.law_past_agreement.specs.Rows.{place_in}
 use Rattle.world.specs.{State.WorldState, State.Logged, Told.IsTold, Told.pairs_of}
 use Rattle.row_changes.specs.Keys.{IsChangingKeys, IsPushed, HasRowsSoFar, SaySoFar, gone, said_next}
-use Rattle.row_changes.specs.{declared.entry_put.EntryPut.EntryPut, declared.keys_change.KeysChange.KeysChange, Told.HasRows, Edits.IsKeyAt}
-use Rattle.undo_apply.specs.Standing.{TellsOf, IsNewest, versions_before, IsLagging, IsUnderWay}
+use Rattle.row_changes.specs.{declared.entry_put.EntryPut.EntryPut, declared.keys_change.KeysChange.KeysChange, Told.HasRowsBeside, Edits.IsKeyAt}
+use Rattle.undo_apply.specs.Standing.{TellsOf, IsNewest, LeadsBack, versions_before, IsLagging, IsUnderWay}
+use Rattle.store_api.specs.declared.answers.Undo.{Undo}
+use Rattle.row_versions.specs.declared.kept.Kept.{Kept}
+use Rattle.law_stored_rows.proofs.KeptRows.{found_of}
 use Rattle.undo_apply.specs.{declared.work_room.WorkRoom.WorkRoom, declared.work_room.Stage.Stage, declared.work_room.Stage.TheVariants.Find, Rooms.IsWhole}
 use Rattle.undo_apply.specs.{Told.rows_of, Stages.FitsKeys, Stages.StageHolds, Stages.IsPuttingBack}
 use Rattle.undo_apply.proofs.{Columns.newest_read, Taken.as_but}
@@ -26,10 +29,16 @@ at table value = record { table = table; key = value }
 
 -- ---- the newest record
 
+-- what is kept of the row is kept
+led_back : (undo : Undo) (kept : ℕ → Option Kept) (pointer : ℕ) → LeadsBack undo (kept_of kept undo.table undo.key) pointer → LeadsBack undo kept pointer
+led_back undo kept pointer (inl new) = inl new
+led_back undo kept pointer (inr (kind, leads, former, there, bytes)) =
+    inr (kind, leads, former, found_of kept undo.table undo.key pointer former there, bytes)
+
 module _ (chains : Chains) (state : WorldState) (logged : Logged) (place : Place) (schema : Schema) (tells : TellsOf logged.undo schema place state.schemas)
     (has : HasRecord schema (records_of state) state.versions.kept_at logged) where
   pub newest_is : IsNewest logged.undo schema (pairs_of state) state.versions.kept_at has.bytes has.coded
-  newest_is = record { there = has.there; code_is = has.code_is; before = has.before }
+  newest_is = record { there = has.there; code_is = has.code_is; before = led_back logged.undo state.versions.kept_at has.coded.pointer has.before }
 
   versions_are : (said : Said) → AreCodedAs state.schemas (pairs_of state) state.versions.kept_at chains said
       → versions_at place chains ≡ shown has.coded ∷ versions_before chains place
@@ -50,10 +59,9 @@ module _ (chains : Chains) (state : WorldState) (logged : Logged) (place : Place
     says = record { first = λ which less. absurd (omega (arith, less)); here = lags 0; others = λ which more. lags which };
   }
 
-  pub way_settled : HasRows chains state → IsTold state → Way (what_is_there chains)
-  way_settled rows told =
-      let said = what_is_there chains in
-      way_from said said (rows told) (λ table which value apart. refl) (λ which. inr (versions_are said (rows told)))
+  pub way_settled : {beside : Said} → HasRowsBeside chains beside place state → IsTold state → Way beside
+  way_settled {beside} rows told =
+      let are = rows told in way_from beside are.0 are.1 are.2 (λ which. inr (are.3 which ∙ versions_are are.0 are.1))
 
   next_lags : (newest : Version) (put : Option EntryPut) (row : Option (List Value)) (before : List Version)
       → IsLagging newest before (said_next put row before)
@@ -62,8 +70,8 @@ module _ (chains : Chains) (state : WorldState) (logged : Logged) (place : Place
   next_lags newest (Some put) (Some row) before = inl (inr (gone, refl, refl))
 
   -- where a change of the place hasn't come to its end, its keys lag too
-  so_far : (said : Said) (done : ℕ) (put : Option EntryPut) (row : Option (List Value)) (before : List Version) → versions_before chains place ≡ before
-      → SaySoFar chains (what_is_there chains) place done (said_next put row before) before said
+  so_far : {beside : Said} (said : Said) (done : ℕ) (put : Option EntryPut) (row : Option (List Value)) (before : List Version) → versions_before chains place ≡ before
+      → SaySoFar chains beside place done (said_next put row before) before said
       → versions_at place chains ≡ shown has.coded ∷ versions_before chains place
       → (which : ℕ) → IsLagging (shown has.coded) (versions_before chains place) (said place.table which place.key)
   so_far said done put row before same says is which =
@@ -72,13 +80,13 @@ module _ (chains : Chains) (state : WorldState) (logged : Logged) (place : Place
       (subst (λ (b : List Version). IsLagging (shown has.coded) b (said_next put row before)) (sym same) (next_lags (shown has.coded) put row before)))
       (λ rest. ⊎_elim (λ less. inr (says.first which less ∙ is)) (λ more. inl (inl (says.later which more ∙ sym same))) rest) (cases_order which done)
 
-  pub way_lagging : (keys : KeysChange) → IsChangingKeys chains (what_is_there chains) state keys → keys.table ≡ logged.undo.table
-      → keys.key ≡ logged.undo.key → IsTold state → Way (what_is_there chains)
-  way_lagging keys is table_is key_is told =
-      let rows = subst (λ (p : Place). HasRowsSoFar chains (what_is_there chains) p keys.which (said_next keys.put keys.before is.older) is.older state)
+  pub way_lagging : {beside : Said} (keys : KeysChange) → IsChangingKeys chains beside state keys → keys.table ≡ logged.undo.table
+      → keys.key ≡ logged.undo.key → IsTold state → Way beside
+  way_lagging {beside} keys is table_is key_is told =
+      let rows = subst (λ (p : Place). HasRowsSoFar chains beside p keys.which (said_next keys.put keys.before is.older) is.older state)
       here is.rows told in
       let pushed = subst (λ (p : Place). IsPushed chains p is.older keys.after) here is.pushed in
-      way_from (what_is_there chains) rows.0 rows.1 rows.2.lag
+      way_from beside rows.0 rows.1 rows.2.lag
       (so_far rows.0 keys.which keys.put keys.before is.older (ap older pushed.versions) rows.2 (versions_are rows.0 rows.1))
     where
       one_schema : is.schema ≡ schema
@@ -120,15 +128,14 @@ module _ (chains : Chains) (state : WorldState) (logged : Logged) (log : List Lo
   pub tells_of_it : TellsOf logged.undo top.schema place state.schemas
   tells_of_it = subst (λ (p : Place). TellsOf logged.undo top.schema p state.schemas) (one_found top.place place top.place_is place_is) top.tells
 
-  pub begins_settled : HasRows chains state → IsWhole room → room.stage ≡ Find
-      → IsPuttingBack chains (what_is_there chains) place logged.undo room state
-  begins_settled rows whole stage =
-      begins chains (what_is_there chains) place room state logged top.schema tells_of_it whole stage
+  pub begins_settled : {beside : Said} → HasRowsBeside chains beside place state → IsWhole room → room.stage ≡ Find
+      → IsPuttingBack chains beside place logged.undo room state
+  begins_settled {beside} rows whole stage =
+      begins chains beside place room state logged top.schema tells_of_it whole stage
       (λ told. let has = top.record_is told in inl (has.bytes, has.coded, way_settled chains state logged place top.schema tells_of_it has rows told))
 
-  pub begins_lagging : (keys : KeysChange) → IsChangingKeys chains (what_is_there chains) state keys → keys.table ≡ logged.undo.table
-      → keys.key ≡ logged.undo.key → IsWhole room → room.stage ≡ Find
-      → IsPuttingBack chains (what_is_there chains) place logged.undo room state
-  begins_lagging keys is table_is key_is whole stage =
-      begins chains (what_is_there chains) place room state logged top.schema tells_of_it whole stage (λ told. let has = top.record_is told in inl
+  pub begins_lagging : {beside : Said} (keys : KeysChange) → IsChangingKeys chains beside state keys → keys.table ≡ logged.undo.table
+      → keys.key ≡ logged.undo.key → IsWhole room → room.stage ≡ Find → IsPuttingBack chains beside place logged.undo room state
+  begins_lagging {beside} keys is table_is key_is whole stage =
+      begins chains beside place room state logged top.schema tells_of_it whole stage (λ told. let has = top.record_is told in inl
       (has.bytes, has.coded, way_lagging chains state logged place top.schema tells_of_it has keys is table_is key_is told))

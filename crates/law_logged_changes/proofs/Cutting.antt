@@ -1,6 +1,6 @@
 -- An undo record goes, and with it what it kept.
-use Rattle.law_logged_changes.specs.{Steps.IsToCut, Steps.HasCut, Steps.IsRowAgain, Logs.records_of, Logs.IsLogOf, Logs.IsAlone}
-use Rattle.law_stored_rows.specs.Tables.{in_table, AreClustered, AreCodedAs, Said, what_is_there}
+use Rattle.law_logged_changes.specs.{Steps.IsToCut, Steps.HasCut, Steps.IsRowAgain, Steps.LeavesOtherRows, Logs.records_of, Logs.IsLogOf}
+use Rattle.law_stored_rows.specs.Tables.{in_table, AreClustered, AreCodedAs, Said}
 use Rattle.law_stored_rows.specs.{Records.IsRecordWith, Records.LeadTo, Records.if_of, Records.kept_of, Edits.clustered_index}
 use Rattle.law_stored_rows.proofs.{KeptRows.others_keep, RowRecords.record_still, RowRecords.one_lead, RowRecords.one_record}
 use Rattle.std.proofs.Common.{◌≡◌, ◌≢◌, ⊎_elim, inl, inr, ℕ, ◌<◌, List, [], ◌∷◌, length, Option, None, Some, refl, sym, ap, subst, ◌∙◌, slice_get, arith}
@@ -13,9 +13,10 @@ use Rattle.key_codec.specs.Keys.{key_code}
 use Rattle.entries.specs.Pairs.{Pair, value_of}
 use Rattle.row_versions.specs.{declared.kept.Kept.Kept, declared.version.Version.Version, Chains.Chains}
 use Rattle.world.specs.{State.WorldState, State.Session, State.Work, State.Logged, State.HasWork, Told.IsTold, Told.pairs_of, Undoing.IsCutBack}
-use Rattle.row_changes.specs.Told.{HasRows, AreRowsAs}
+use Rattle.row_changes.specs.Told.{AreRowsAs}
 use Rattle.row_changes.proofs.{Ids.one_work, Sessions.one_found, Sessions.set_here, Sessions.set_other}
-use Rattle.law_logged_changes.proofs.{Leaving.same_schemas_grow, Leaving.none_yet, Logs.all_of, Logs.all_mapped, Logs.Keeps, Logs.log_on, Logs.here_or_not}
+use Rattle.law_logged_changes.proofs.{Leaving.same_schemas_grow, Leaving.log_beside, Logs.all_of, Logs.all_mapped, Logs.Keeps, Logs.SameRecord, Logs.log_on}
+use Rattle.law_logged_changes.proofs.{Logs.here_or_not}
 
 -- ---- a record without what its row has again
 
@@ -151,9 +152,6 @@ module _ (s : ℕ) (old new : WorldState) (logged : Logged) (older : List Logged
       (λ second. record { clustered = clustered_cut told (cut.may.again (told_before told) second) chains was.clustered; keyed = was.keyed })
       cut.may.kind_is)
 
-  pub rows_cut : (chains : Chains) → HasRows chains old → HasRows chains new
-  rows_cut chains rows = rows_as_cut chains (what_is_there chains) rows
-
   abbrev KeepsOn : Logged → Type 0
   KeepsOn =
       Keeps (IsTold old) (IsTold new) old.schemas new.schemas old.versions.kept_at new.versions.kept_at told_before
@@ -161,9 +159,10 @@ module _ (s : ℕ) (old new : WorldState) (logged : Logged) (older : List Logged
 
   keeps_on : AllByRecursion KeepsOn older
   keeps_on =
-      ⊎_elim (λ first. all_of KeepsOn older (λ l told kind former there. ap (λ (kept : ℕ → Option Kept). kept l.pointer) (all_kept first told) ∙ there))
+      ⊎_elim (λ first. all_of KeepsOn older (λ l told kind former there. ap (λ (kept : ℕ → Option Kept). kept_of kept l.undo.table l.undo.key l.pointer)
+      (all_kept first told) ∙ there))
       (λ second. all_mapped (λ (l : Logged). IsTold new → l.undo.kind ≡ 2 → l.pointer ≢ logged.pointer) KeepsOn older
-      (λ l apart told kind former there. kept_elsewhere told l.pointer (apart told kind) ∙ there)
+      (λ l apart told kind former there. ap (if_of l.undo.table l.undo.key) (kept_elsewhere told l.pointer (apart told kind)) ∙ there)
       (all_under (λ (l : Logged). l.undo.kind ≡ 2 → l.pointer ≢ logged.pointer) (IsTold new) older (λ told. cut.may.elsewhere (told_before told) second)))
       cut.may.kind_is
 
@@ -171,14 +170,31 @@ module _ (s : ℕ) (old new : WorldState) (logged : Logged) (older : List Logged
   log_cut =
       log_on (IsTold old) (IsTold new) old.schemas new.schemas old.versions.kept_at new.versions.kept_at told_before
       (same_schemas_grow old.schemas new.schemas same_schemas) (records_of old) (records_of new) older before
-      (λ told table schema key there. ap (λ (pairs : ℕ → List Pair). value_of key (pairs (clustered_index table))) same_pairs)
+      (all_of (SameRecord (IsTold old) (IsTold new) old.schemas new.schemas old.versions.kept_at new.versions.kept_at told_before
+      (same_schemas_grow old.schemas new.schemas same_schemas) (records_of old) (records_of new)) older
+      (λ l told schema there. ap (λ (pairs : ℕ → List Pair). value_of l.undo.key (pairs (clustered_index l.undo.table))) same_pairs))
       keeps_on cut.logs.mine
+
+  -- what goes was kept as a version of its own row
+  others_left : LeavesOtherRows logged.undo.table logged.undo.key old new
+  others_left = record {
+    schemas = same_schemas;
+    told = told_before;
+    records = λ told other also apart. ap (λ (pairs : ℕ → List Pair). value_of also (pairs (clustered_index other))) same_pairs;
+    kept = λ told other also apart. elim (cut.may.kind_is) [
+      | inl first ↦ λ pointer found is. ap (λ (kept : ℕ → Option Kept). kept_of kept other also pointer) (all_kept first told) ∙ is
+      | inr second ↦
+          let again = cut.may.again (told_before told) second in
+          others_keep old.versions.kept_at new.versions.kept_at logged.pointer logged.undo.table other logged.undo.key also again.leads.0
+          (kept_elsewhere told) again.leads.1.there apart
+    ];
+  }
 
   abbrev session_now : Session
   session_now = record back.session { undo_room = 0; next_pointer = back.next; work = Some (record back.work { log = back.log }) }
 
-  pub has_cut : IsAlone s old → HasCut s older before new
-  has_cut alone = record {
+  pub has_cut : HasCut s older before new
+  has_cut = record {
     session = session_now;
     work = record back.work { log = back.log };
     has_work = record {
@@ -196,6 +212,7 @@ module _ (s : ℕ) (old new : WorldState) (logged : Logged) (older : List Logged
                 ∙ has.session_is;
             work_is = has.work_is;
           } in
-          none_yet u work old new (alone u differs) (ap (own u) same_past ∙ alone u differs) (cut.logs.others u session work differs had);
+          subst (λ (changes : List Change). IsLogOf new work.log changes) (ap (own u) (sym same_past))
+          (log_beside others_left work.log (own u old.past) (cut.alone u session work differs had) (cut.logs.others u session work differs had));
     };
   }

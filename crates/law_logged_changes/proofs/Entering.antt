@@ -3,12 +3,15 @@ use Rattle.row_changes.specs.declared.record_change.RecordReached.TheVariants as
 use Rattle.law_logged_changes.proofs.Leaving.{stay_kept, work_again, agrees_beside}
 use Rattle.std.proofs.Common.{◌≡◌, ⊎_elim, ℕ, ◌^◌, ◌<◌, ◌==◌, Bool, true, false, List, ◌∷◌, length, Option, Some, refl, sym, ap, subst, ◌∙◌, arith}
 use Rattle.std.proofs.{lemmas.Bool.cases_eq, lemmas.Option.slice_get_within}
-use Rattle.std.specs.{Prelude.slice_get, Prelude.IsTrue, Prelude.option_map, List.list_any}
+use Rattle.std.specs.{Prelude.slice_get, Prelude.IsTrue, Prelude.option_map}
 use Rattle.inno_types.specs.{declared.value.Value.Value, declared.value.Schema.Schema}
 use Rattle.store_api.specs.declared.answers.Undo.{Undo}
 use Rattle.row_versions.specs.Chains.{Chains, with_versions, Pushes}
 use Rattle.row_versions.specs.{Versions.Versions, declared.place.Place.Place, declared.version.Version.Version}
-use Rattle.law_past_agreement.specs.{Rows.place_in, Rows.is_at, Rows.row_of, Order.IsOfRow, Order.IsTabled}
+use Rattle.law_past_agreement.specs.{Rows.place_in, Rows.is_place, Rows.is_at, Rows.row_of, Order.IsOfRow, Order.IsTabled}
+use Rattle.law_stored_rows.proofs.Values.{same_place}
+use Rattle.law_stored_rows.specs.Tables.{Said}
+use Rattle.inno_db.specs.declared.change.Change.{Change}
 use Rattle.law_stored_rows.specs.Records.{KeepsMore}
 use Rattle.world.specs.{State.WorldState, State.Session, State.Work, State.HasWork, Indexes.KeepsIf, Told.IsTold}
 use Rattle.law_world_agreement.specs.{Agreement.Agrees, Steps.IsChangedBy, Steps.IsEntered}
@@ -17,12 +20,12 @@ use Rattle.row_changes.specs.{declared.row_edit.RowEdit.RowEdit, declared.row_ed
 use Rattle.row_changes.specs.{declared.row_change.RowChange.TheVariants.Keys, declared.row_change.RowChange.TheVariants.Record}
 use Rattle.row_changes.specs.{declared.record_change.RecordChange.RecordChange, Keys.StaysBesideKeys, declared.keys_change.KeysChange.KeysChange}
 use Rattle.row_changes.specs.{declared.row_change.RowChange.RowChange, Edits.change_of, Edits.rows_put, Asides.StepsAside, declared.reached.Reached.Reached}
-use Rattle.row_changes.specs.{Told.HasRows, Records.Records, Records.IsChangingRecord, Records.ChangesRecord, Records.id_for, Rows.IsChangingRowAlone}
-use Rattle.row_changes.specs.{Rows.row_after, Rows.primary_of, Rows.place_of, Rows.PushesEdit, Rows.ChangesRowAlone, declared.reached.Reached.TheVariants.Went}
+use Rattle.row_changes.specs.{Told.HasRowsAt, Records.Records, Records.IsChangingRecord, Records.ChangesRecord, Records.id_for, Rows.IsChangingRow}
+use Rattle.row_changes.specs.{Rows.row_after, Rows.primary_of, Rows.place_of, Rows.PushesEdit, Rows.ChangesRow, Rows.table_of, declared.reached.Reached.TheVariants.Went}
 use Rattle.row_changes.specs.{declared.reached.Reached.TheVariants.Done, declared.reached.Reached.TheVariants.Hindered}
-use Rattle.row_changes.proofs.{Ids.one_work, Sessions.one_session, Pushed.kept_more, Keying.beside_stay, Alone.keys_alone, Alone.alone_over}
-use Rattle.law_logged_changes.specs.Logs.{IsAlone}
-use Rattle.law_logged_changes.specs.GoingOn.{StaysOpen, KeepsBeside, EntersAgreed, GoesOnAgreed, StaysAgreed, EndsAgreed}
+use Rattle.row_changes.proofs.{Ids.one_work, Sessions.one_session, Pushed.kept_more, Keying.beside_stay}
+use Rattle.law_logged_changes.specs.Logs.{IsAloneAt}
+use Rattle.law_logged_changes.specs.GoingOn.{StaysOpen, KeepsBeside, EntersAgreed, GoesOnAgreed, StaysAgreed, EndsAgreed, IsAloneIn, key_of}
 use Rattle.inno_db.proofs.Keys.{key_in-at}
 
 -- ---- no entry comes
@@ -72,9 +75,9 @@ module _ (s : ℕ) (old new : WorldState) (aside : StepsAside s old new) where
     own = aside_open;
   }
 
-  pub aside_agreed : (chains : Chains) (next : RowChange) → Agrees chains old → IsTold new → IsChangingRowAlone s chains new next
-      → StaysAgreed s chains old new next
-  aside_agreed chains next agrees told changing = record {
+  pub aside_agreed : (chains : Chains) (said : Said) (next : RowChange) → Agrees chains old → IsTold new → IsChangingRow s chains said new next
+      → StaysAgreed s chains said old new next
+  aside_agreed chains said next agrees told changing = record {
     agrees = unentered_agrees chains old new agrees aside_entered;
     changing = changing;
     past = ap (λ (state : WorldState). state.past) aside.rest;
@@ -113,8 +116,8 @@ module _ (s : ℕ) (chains : Chains) (old new : WorldState) (stays : StaysBeside
         };
   }
 
-  pub keys_agreed : (next : RowChange) → IsChangingRowAlone s chains new next → StaysAgreed s chains old new next
-  keys_agreed next changing = record {
+  pub keys_agreed : (said : Said) (next : RowChange) → IsChangingRow s chains said new next → StaysAgreed s chains said old new next
+  keys_agreed said next changing = record {
     agrees = keys_agree;
     changing = changing;
     past = ap (λ (state : WorldState). state.past) stays.rest;
@@ -123,8 +126,9 @@ module _ (s : ℕ) (chains : Chains) (old new : WorldState) (stays : StaysBeside
     beside = keys_beside;
   }
 
-  pub keys_ended : HasRows chains new → EndsAgreed s chains old new
-  keys_ended coded = record {
+  pub keys_ended : (said : Said) (change : RowChange) → HasRowsAt chains said (table_of change) (key_of change) new
+      → EndsAgreed s chains said old new change
+  keys_ended said change coded = record {
     agrees = keys_agree;
     coded = coded;
     past = ap (λ (state : WorldState). state.past) stays.rest;
@@ -156,6 +160,10 @@ of_row table (Remove value) = record {}
 tabled : (tables table : ℕ) (edit : RowEdit) → table < tables → IsTabled tables (change_of table edit)
 tabled tables table (Put row) within = within
 tabled tables table (Remove value) within = within
+
+same_place_of : (schemas : List Schema) (change : Change) (place other : Place) → place_in schemas change ≡ Some place
+    → is_at schemas other change ≡ true → other ≡ place
+same_place_of schemas change place other is at = sym (same_place place other (sym (ap (is_place other) is) ∙ at))
 
 -- ---- the version is kept
 
@@ -220,10 +228,12 @@ module _ (s : ℕ) (chains : Chains) (old new : WorldState) (change : RecordChan
     own = entered_open;
   }
 
-  pub entered : (next : KeysChange) (p : IsChangingRecord s old change) → Agrees chains old → IsAlone s old → length new.past < 2 ^ 63
-      → ((pushed : Chains) → PushesEdit s change old chains pushed → IsChangingRowAlone s pushed new (Keys next)) → EntersAgreed s chains old new change next
-  entered next p agrees alone few keys =
+  pub entered : {said : Said} {next : KeysChange} (p : IsChangingRecord s old change) → Agrees chains old → IsAloneAt (place_of p.schema change) s old
+      → length new.past < 2 ^ 63 → ((pushed : Chains) → PushesEdit s change old chains pushed → IsChangingRow s pushed said new (Keys next))
+      → EntersAgreed s chains said old new change next
+  entered p agrees alone few keys =
       let place = place_of p.schema change in
+      let placed = place_there old.schemas change.table change.edit p.schema p.table.there in
       let version : Version = record { writer = id_for p.work.id old.txns.next; row = row_after change.edit } in
       let after = with_version place version chains in
       let pushed : Pushes chains after place version = λ other. refl in
@@ -240,8 +250,8 @@ module _ (s : ℕ) (chains : Chains) (old new : WorldState) (change : RecordChan
         pushes = push;
         agrees =
             changed_agrees chains after old new s (change_of change.table change.edit) place agrees
-            (λ p at u differs. ap (list_any (is_at old.schemas p)) (alone u differs)) (of_row change.table change.edit)
-            (place_there old.schemas change.table change.edit p.schema p.table.there)
+            (λ other at. rw (same_place_of old.schemas (change_of change.table change.edit) place other placed at) alone) (of_row change.table change.edit)
+            placed
             (tabled (length old.schemas) change.table change.edit (slice_get_within old.schemas change.table p.schema p.table.there)) changed_by pushed'
             (omega (arith, few, ap length changed_by.past));
         changing = keys after push;
@@ -250,32 +260,34 @@ module _ (s : ℕ) (chains : Chains) (old new : WorldState) (change : RecordChan
         beside = entered_beside;
       }
 
-enters : (s : ℕ) (chains : Chains) (old new : WorldState) (change : RecordChange) (next : KeysChange) → IsChangingRecord s old change
-    → ChangesRecord s old new change (records.Recorded next.before) → IsTold new → Agrees chains old → IsAlone s old → length new.past < 2 ^ 63
-    → ((pushed : Chains) → PushesEdit s change old chains pushed → IsChangingRowAlone s pushed new (Keys next)) → EntersAgreed s chains old new change next
+enters : (s : ℕ) (chains : Chains) {said : Said} (old new : WorldState) (change : RecordChange) (next : KeysChange) (p : IsChangingRecord s old change)
+    → ChangesRecord s old new change (records.Recorded next.before) → IsTold new → Agrees chains old → IsAloneAt (place_of p.schema change) s old
+    → length new.past < 2 ^ 63 → ((pushed : Chains) → PushesEdit s change old chains pushed → IsChangingRow s pushed said new (Keys next))
+    → EntersAgreed s chains said old new change next
 enters s chains old new change next p c told agrees alone few keys =
-    ⊎_elim (λ first. entered s chains old new change _ _ first.0.records told next p agrees alone few keys)
-    (λ over. entered s chains old new change _ _ over.1.records told next p agrees alone few keys) c.2
+    ⊎_elim (λ first. entered s chains old new change _ _ first.0.records told p agrees alone few keys)
+    (λ over. entered s chains old new change _ _ over.1.records told p agrees alone few keys) c.2
 
 -- ---- each step
 
-pub goes_on : (s : ℕ) (chains : Chains) (old new : WorldState) (change : RowChange) (reached : Reached RowChange) → Agrees chains old
-    → IsAlone s old → IsChangingRowAlone s chains old change → ChangesRowAlone s chains old new change reached → IsTold new → length new.past < 2 ^ 63
-    → GoesOnAgreed s chains old new change reached
-goes_on s chains old new (Record change key after) (Went (Record next key' after')) agrees alone p c told few =
-    aside_agreed s old new c.0.0.aside chains (Record next key' after') agrees told c.0.1
-goes_on s chains old new (Record change key after) (Went (Keys next)) agrees alone p c told few =
-    enters s chains old new change next p.0 c.0.0 told agrees alone few (λ pushed push. keys_alone s chains pushed old new change key after next p c push)
-goes_on s chains old new (Keys change) (Went (Record next key after)) agrees alone p c told few = absurd c.0
-goes_on s chains old new (Keys change) (Went (Keys next)) agrees alone p c told few = keys_agreed s chains old new c.0.stays agrees told (Keys next) c.0.holds
-goes_on s chains old new (Record change key after) Done agrees alone p c told few = absurd c
-goes_on s chains old new (Keys change) Done agrees alone p c told few =
-    keys_ended s chains old new (beside_stay old new c.0) agrees told (alone_over s chains old new change p c)
-goes_on s chains old new (Record change key after) (Hindered same why) agrees alone p c told few = (
+pub goes_on : (s : ℕ) (chains : Chains) (said : Said) (old new : WorldState) (change : RowChange) (reached : Reached RowChange) → Agrees chains old
+    → IsAloneIn s old change → IsChangingRow s chains said old change → ChangesRow s chains said old new change reached → IsTold new
+    → length new.past < 2 ^ 63 → GoesOnAgreed s chains said old new change reached
+goes_on s chains said old new (Record change key after) (Went (Record next key' after')) agrees alone p c told few =
+    aside_agreed s old new c.0.0.aside chains said (Record next key' after') agrees told c.0.1
+goes_on s chains said old new (Record change key after) (Went (Keys next)) agrees alone p c told few =
+    enters s chains old new change next p.0 c.0.0 told agrees (alone p.0.schema p.0.table.there) few c.0.1
+goes_on s chains said old new (Keys change) (Went (Record next key after)) agrees alone p c told few = absurd c.0
+goes_on s chains said old new (Keys change) (Went (Keys next)) agrees alone p c told few =
+    keys_agreed s chains old new c.0.stays agrees told said (Keys next) c.0.holds
+goes_on s chains said old new (Record change key after) Done agrees alone p c told few = absurd c
+goes_on s chains said old new (Keys change) Done agrees alone p c told few =
+    keys_ended s chains old new (beside_stay old new c.0) agrees told said (Keys change) c.1
+goes_on s chains said old new (Record change key after) (Hindered same why) agrees alone p c told few = (
   c.0,
-  aside_agreed s old new c.2.0 chains same agrees told (subst (IsChangingRowAlone s chains new) (sym c.0) c.1),
+  aside_agreed s old new c.2.0 chains said same agrees told (subst (IsChangingRow s chains said new) (sym c.0) c.1),
 )
-goes_on s chains old new (Keys change) (Hindered same why) agrees alone p c told few = (
+goes_on s chains said old new (Keys change) (Hindered same why) agrees alone p c told few = (
   c.0,
-  keys_agreed s chains old new (beside_stay old new c.2.0) agrees told same (subst (IsChangingRowAlone s chains new) (sym c.0) c.1),
+  keys_agreed s chains old new (beside_stay old new c.2.0) agrees told said same (subst (IsChangingRow s chains said new) (sym c.0) c.1),
 )

@@ -3,19 +3,19 @@ use Rattle.std.proofs.Common.{◌||◌, ◌≡◌, ◌⊎◌, inl, inr, ⊎_elim
 use Rattle.std.proofs.Common.{arith}
 use Rattle.std.proofs.{lemmas.Bool.cases_order, lemmas.Bool.Decides.leb_tells, lemmas.Bool.Decides.eqb_tells}
 use Rattle.row_versions.specs.{Chains.Chains, Chains.versions_at, Chains.older, declared.place.Place.Place, declared.version.Version.Version}
-use Rattle.law_stored_rows.specs.{Tables.AreClustered, Tables.AreCoded, Tables.Said, Tables.what_is_there, Entries.has_value, Records.shown}
+use Rattle.law_stored_rows.specs.{Tables.AreClustered, Tables.Said, Tables.TellsOfOlder, Entries.has_value, Records.shown}
 use Rattle.undo_apply.specs.declared.work_room.Stage.TheVariants.{Find, Key, Walk, Mark, Await, Remove, Unmark, AwaitRecords, Record}
 use Rattle.undo_apply.specs.Standing.{versions_before, said_but, IsLagging, SayBefore, IsUnderWay, IsTakenBack}
 use Rattle.undo_apply.specs.{declared.work_room.WorkRoom.WorkRoom, declared.work_room.Stage.Stage, Told.Rows, Told.rows_of, Stages.StageHolds}
 use Rattle.undo_apply.specs.{Stages.IsPuttingBack}
-use Rattle.undo_apply.proofs.{Taken.says_place, Taken.lags_there, Taken.whole_yet, Columns.lagging_any}
+use Rattle.undo_apply.proofs.{Taken.says_place, Taken.lags_there, Columns.lagging_any}
 use Rattle.row_changes.specs.Keys.{gone, without_row, said_next, SaySoFar}
 use Rattle.row_changes.specs.{declared.entry_put.EntryPut.EntryPut, declared.row_change.RowChange.TheVariants.Record}
 use Rattle.std.specs.List.{list_any}
 use Rattle.inno_types.specs.{declared.value.Value.Value, declared.value.Schema.Schema}
 use Rattle.store_api.specs.{declared.answers.Undo.Undo, declared.answers.Version.Version as Coded}
 use Rattle.world.specs.{State.WorldState, Told.IsTold, Told.pairs_of}
-use Rattle.law_logged_changes.specs.Lagging.{LagsAt, LagsSomewhere}
+use Rattle.law_logged_changes.specs.Lagging.{LagsAt}
 
 -- ---- at whatever stage
 
@@ -68,19 +68,17 @@ said_any newest before said done says which column value some =
     (λ rest. ⊎_elim (λ less. ap (any_of column value) (says.first which less) ∙ some)
     (λ more. lagging_any column value newest before (said which) some (says.others which more)) rest) (cases_order which done)
 
-pub lags_while : (chains : Chains) (place : Place) (undo : Undo) (room : WorkRoom) (state : WorldState)
-    → IsPuttingBack chains (what_is_there chains) place undo room state → IsTold state
-    → LagsAt place chains state ⊎ AreCoded state.schemas (pairs_of state) state.versions.kept_at chains
-lags_while chains place undo room state is told =
+pub lags_while : (chains : Chains) (beside : Said) (place : Place) (undo : Undo) (room : WorkRoom) (state : WorldState)
+    → IsPuttingBack chains beside place undo room state → IsTold state → LagsAt place chains beside state ⊎ IsTakenBack chains beside place undo (rows_of state)
+lags_while chains beside place undo room state is told =
     ⊎_elim (λ lag. inl (record {
-      said = said_but (what_is_there chains) place lag.way.said;
+      said = said_but beside place lag.way.said;
       coded = lag.way.coded_but;
-      lag = lags_there (what_is_there chains) place lag.way.said;
+      lag = lags_there beside place lag.way.said;
       older = λ which column value some.
-          subst (λ (versions : List Version). any_of column value versions ≡ true) (sym (says_place (what_is_there chains) place lag.way.said which))
+          subst (λ (versions : List Version). any_of column value versions ≡ true) (sym (says_place beside place lag.way.said which))
           (said_any (shown lag.coded) (versions_before chains place) lag.way.said lag.done lag.way.says which column value some);
-    })) (λ back. inr (whole_yet chains place undo (rows_of state) back))
-    (at_stage chains place undo is.schema (rows_of state) room.newest.items room.stage (is.holds told))
+    })) (λ back. inr back) (at_stage chains place undo is.schema (rows_of state) room.newest.items room.stage (is.holds told))
 
 -- ---- What keys tell while a change is under way.
 
@@ -106,9 +104,9 @@ next_has : (column : ℕ) (value : Value) (put : Option EntryPut) (before : Opti
 next_has column value None before versions has = has
 next_has column value (Some put) before versions has = without_has column value before versions has
 
-module _ (chains : Chains) (place : Place) (done : ℕ) (put : Option EntryPut) (before : Option (List Value)) (others : List Version) (said : Said)
-    (version : Version) (versions : versions_at place chains ≡ version ∷ others)
-    (so : SaySoFar chains (what_is_there chains) place done (said_next put before others) others said)
+module _ {chains : Chains} {beside : Said} {place : Place} {done : ℕ} (put : Option EntryPut) (before : Option (List Value)) {others : List Version}
+    {said : Said} (version : Version) (versions : versions_at place chains ≡ version ∷ others)
+    (so : SaySoFar chains beside place done (said_next put before others) others said)
   where
     tells_others : (which column : ℕ) (value : Value) → some_has column value others ≡ true → some_has column value (said place.table which place.key) ≡ true
     tells_others which column value has =
@@ -120,11 +118,6 @@ module _ (chains : Chains) (place : Place) (done : ℕ) (put : Option EntryPut) 
         (λ above. ap (some_has column value) (so.later which (let a = apart.1 in let b = above.1 in omega arith)) ∙ has) (leb_tells (suc which) done))
         (eqb_tells which done)
 
-    pub lags : LagsSomewhere chains said
-    lags = record {
-      place = place;
-      lag = so.lag;
-      version = version;
-      versions = versions ∙ ap (λ o. version ∷ o) (sym (ap older versions));
-      tells = λ which column value has. tells_others which column value (ap (some_has column value) (sym (ap older versions)) ∙ has);
-    }
+    -- each key tells of all versions but the newest
+    pub lags : TellsOfOlder place chains said
+    lags which column value has = tells_others which column value (ap (some_has column value) (sym (ap older versions)) ∙ has)

@@ -1,20 +1,22 @@
 -- Steps that change no record leave logs as they are.
 use Rattle.row_changes.specs.declared.entry_put.PutPhase.TheVariants as puts
-use Rattle.law_logged_changes.specs.Logs.{RecordsAt, LogStands, records_of, IsLogOf, LogsAgree, LogsAgreeBut}
-use Rattle.law_logged_changes.specs.Steps.{LeavesRecords, LeavesLog, HasNoLog, LeavesLogs, OfAll, HasCut, MakesTable, ChangesPairsAlone}
+use Rattle.law_logged_changes.specs.Logs.{RecordsAt, LogStands, records_of, IsLogOf, LogsAgree, LogsAgreeBut, IsElsewhere}
+use Rattle.law_logged_changes.specs.Steps.{LeavesRecords, LeavesLog, HasNoLog, LeavesLogs, LeavesOtherRows, OfAll, HasCut, MakesTable, ChangesPairsAlone}
 use Rattle.std.proofs.Common.{Some, ◌≡◌, ◌≢◌, ◌⊎◌, inl, inr, ⊎_elim, ℕ, zero, suc, ◌<◌, List, [], ◌∷◌, ◌++◌, Option, refl, sym, ap, subst, ◌∙◌, slice_get}
 use Rattle.std.proofs.Common.{arith, true, false, None}
 use Rattle.std.proofs.{lemmas.Bool.cases_eq, lemmas.Option.slice_get_within}
 use Rattle.world.specs.{State.WorldState, State.Session, State.Work, State.Logged, State.HasWork, State.IsIndex, Told.pairs_of, Told.IsTold, Told.LeavesRows}
-use Rattle.row_changes.proofs.{Telling.went, Telling.put_told, Telling.told_if, Telling.rows_if, Telling.rows_alone, Ids.one_work, Sessions.one_session}
-use Rattle.row_changes.proofs.{Changing.stage_kept, Changing.told_kept, Alone.alone_rows, Pushed.table_kept, Keying.changing_next}
-use Rattle.law_logged_changes.proofs.{Logs.all_of, Logs.Grows, Logs.Keeps, Logs.log_on, Logs.empty_log, Listed.listed_of}
+use Rattle.row_changes.proofs.{Telling.went, Telling.put_told, Telling.told_if, Telling.rows_if, Ids.one_work, Sessions.one_session}
+use Rattle.row_changes.proofs.{Changing.stage_kept, Changing.told_kept, Pushed.table_kept, Keying.changing_next}
+use Rattle.law_logged_changes.proofs.{Logs.all_of, Logs.all_mapped, Logs.Grows, Logs.Keeps, Logs.SameRecord, Logs.log_on, Listed.listed_of}
+use Rattle.law_stored_rows.proofs.KeptRows.{more_of}
+use Rattle.std.specs.List.{AllByRecursion}
 use Rattle.std.specs.Prelude.{slice_get, IfSome, is_some}
 use Rattle.undo_apply.specs.{Stages.GoesOn, Stages.IsHindered, Stages.IsDone, Stages.PutsBack, declared.work_room.WorkRoom.WorkRoom}
 use Rattle.row_changes.specs.{Keys.IsChangingKeys, Keys.said_next, Keys.HasRowsSoFar, Keys.IsEntering, Asides.StepsAside, Pairs.RowsStay, Pairs.PutsPair}
 use Rattle.row_changes.specs.{declared.entry_put.PutPhase.PutPhase, declared.keys_change.KeysChange.KeysChange, declared.row_change.RowChange.RowChange}
 use Rattle.row_changes.specs.{Entries.PutPhaseHolds, declared.record_change.RecordChange.RecordChange, declared.entry_put.EntryPut.EntryPut, Told.HasRows}
-use Rattle.row_changes.specs.{Told.AreRowsAs, Rows.IsChangingRowAlone, Records.IsChangingRecord, declared.row_change.RowChange.TheVariants.Keys}
+use Rattle.row_changes.specs.{Told.AreRowsAs, Rows.IsChangingRow, Records.IsChangingRecord, declared.row_change.RowChange.TheVariants.Keys}
 use Rattle.row_changes.specs.{declared.row_change.RowChange.TheVariants.Record}
 use Rattle.law_stored_rows.specs.{Records.KeepsMore, Edits.clustered_index, Edits.key_index, Tables.Said, Tables.what_is_there}
 use Rattle.row_versions.specs.{Versions.Stays, declared.kept.Kept.Kept, declared.place.Place.Place, Chains.Chains, declared.version.Version.Version}
@@ -64,9 +66,23 @@ pub log_over : (old new : WorldState) (was is : RecordsAt) (log : List Logged) (
     → (IsTold new → KeepsMore old.versions.kept_at new.versions.kept_at)
     → LogStands (IsTold old) old.schemas was old.versions.kept_at log changes → LogStands (IsTold new) new.schemas is new.versions.kept_at log changes
 log_over old new was is log changes told grows records more =
-    log_on (IsTold old) (IsTold new) old.schemas new.schemas old.versions.kept_at new.versions.kept_at told grows was is log changes records
-    (all_of (Keeps (IsTold old) (IsTold new) old.schemas new.schemas old.versions.kept_at new.versions.kept_at told grows) log
-    (λ logged at kind former there. more at logged.pointer former there))
+    log_on (IsTold old) (IsTold new) old.schemas new.schemas old.versions.kept_at new.versions.kept_at told grows was is log changes
+    (all_of (SameRecord (IsTold old) (IsTold new) old.schemas new.schemas old.versions.kept_at new.versions.kept_at told grows was is) log
+    (λ logged at schema there. records at logged.undo.table schema logged.undo.key there))
+    (all_of (Keeps (IsTold old) (IsTold new) old.schemas new.schemas old.versions.kept_at new.versions.kept_at told grows) log (λ logged at kind.
+    more_of old.versions.kept_at new.versions.kept_at logged.undo.table logged.undo.key (more at) logged.pointer))
+
+-- a log that tells nothing of a row stands as that changes
+pub log_beside : {table : ℕ} {key : List ℕ} {old new : WorldState} → LeavesOtherRows table key old new → (log : List Logged) (changes : List Change)
+    → AllByRecursion (IsElsewhere table key) log → IsLogOf old log changes → IsLogOf new log changes
+log_beside {table} {key} {old} {new} leaves log changes apart =
+    let grows = same_schemas_grow old.schemas new.schemas leaves.schemas in
+    log_on (IsTold old) (IsTold new) old.schemas new.schemas old.versions.kept_at new.versions.kept_at leaves.told grows (records_of old) (records_of new)
+    log changes
+    (all_mapped (IsElsewhere table key) (SameRecord (IsTold old) (IsTold new) old.schemas new.schemas old.versions.kept_at new.versions.kept_at leaves.told grows
+    (records_of old) (records_of new)) log (λ logged other at schema there. leaves.records at logged.undo.table logged.undo.key other) apart)
+    (all_mapped (IsElsewhere table key) (Keeps (IsTold old) (IsTold new) old.schemas new.schemas old.versions.kept_at new.versions.kept_at leaves.told grows) log
+    (λ logged other at kind. leaves.kept at logged.undo.table logged.undo.key other logged.pointer) apart)
 
 pub stay_kept : (old new : WorldState) → Stays old.versions new.versions → IsTold new → KeepsMore old.versions.kept_at new.versions.kept_at
 stay_kept old new stays told pointer found is = ap (λ (kept : ℕ → Option Kept). kept pointer) (stays.kept told.versions) ∙ is
@@ -203,19 +219,9 @@ logs_beside old new rest u session work of has = inl (record {
   own_is = own_beside u old new rest;
 })
 
--- a session without changes has an empty log, whatever becomes of rows
-pub none_yet : (u : ℕ) (work : Work) (old new : WorldState) → own u old.past ≡ [] → own u new.past ≡ [] → IsLogOf old work.log (own u old.past)
-    → IsLogOf new work.log (own u new.past)
-none_yet u work old new none now log =
-    let empty = empty_log _ old.schemas _ old.versions.kept_at work.log (own u old.past) none log in
-    subst (λ (changes : List Change). IsLogOf new work.log changes) (sym now) empty
-
 -- ---- the steps
 
-module _ (chains : Chains) (place : Place) (actor : ℕ) (undo : Undo) (room next : WorkRoom) (old new : WorldState) where
-  abbrev beside : Said
-  beside = what_is_there chains
-
+module _ (chains : Chains) (beside : Said) (place : Place) (actor : ℕ) (undo : Undo) (room next : WorkRoom) (old new : WorldState) where
   hindered_leaves : (why : Move) → IsHindered chains beside place actor undo room next old new why → LeavesRecords old new × ChangesPairsAlone old new
   hindered_leaves why is = (stay_leaves old new is.stays, is.stays.rest)
 
@@ -313,12 +319,13 @@ module _ (old new : WorldState) (leaves : LeavesRows old new) where
       (entering_left p.schema change.table change.which change.after change.key) p.put)
       (so_far_left chains beside (record { table = change.table; key = p.value }) change.which (said_next change.put change.before p.older) p.older p.rows)
 
-  pub change_left : (s : ℕ) (chains : Chains) (change : RowChange) → IsChangingRowAlone s chains old change
-      → slice_get new.sessions s ≡ slice_get old.sessions s → Agrees chains new → IsChangingRowAlone s chains new change
-  change_left s chains (Record change key after) p session agrees = (
+  pub change_left : (s : ℕ) (chains : Chains) (beside : Said) (change : RowChange) → IsChangingRow s chains beside old change
+      → slice_get new.sessions s ≡ slice_get old.sessions s → Agrees chains new → IsChangingRow s chains beside new change
+  change_left s chains beside (Record change key after) p session agrees = (
     record_left s chains change p.0 session agrees,
-    rows_alone chains change.table change.key new (has_rows_left chains (alone_rows s chains old change key after p)),
+    λ schema value there at told. let was = p.1 schema value (ap (λ (schemas : List Schema). slice_get schemas change.table) (sym leaves.schemas) ∙ there) at
+        (left_told told) in (was.0, rows_left chains was.0 told was.1, was.2, was.3),
     p.2,
     p.3,
   )
-  change_left s chains (Keys change) p session agrees = keys_left chains (what_is_there chains) change p
+  change_left s chains beside (Keys change) p session agrees = keys_left chains beside change p

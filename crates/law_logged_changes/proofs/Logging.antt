@@ -2,9 +2,10 @@
 use Rattle.row_changes.specs.declared.record_change.RecordReached.TheVariants as records
 use Rattle.row_changes.proofs.Pushed.{kept_over, kept_more, key_at, code_of_edit, plain, none_of, written_pointer, small_id}
 use Rattle.row_changes.proofs.{Telling.pairs_told, Telling.puts_pairs, Telling.tells, Ids.one_work, Sessions.one_session, Sessions.one_found}
-use Rattle.row_changes.proofs.{Changing.key_short, Changing.value_short, Alone.alone_rows, Keying.beside_stay}
-use Rattle.law_logged_changes.proofs.Leaving.{stay_kept, log_over, same_schemas_grow, none_yet, all_left, aside_left, logs_beside}
-use Rattle.law_logged_changes.proofs.Logs.{taken_here, taken_elsewhere, here_or_not, put_elsewhere, all_mapped, one_more}
+use Rattle.row_changes.proofs.{Changing.key_short, Changing.value_short, Keying.beside_stay}
+use Rattle.law_logged_changes.proofs.Leaving.{stay_kept, log_over, log_beside, same_schemas_grow, all_left, aside_left, logs_beside}
+use Rattle.law_logged_changes.proofs.Logs.{taken_here, taken_elsewhere, here_or_not, put_elsewhere, all_mapped, one_more, log_elsewhere}
+use Rattle.law_stored_rows.proofs.KeptRows.{more_of, found_of, kept_here}
 use Rattle.law_logged_changes.proofs.Entering.{place_there}
 use Rattle.std.proofs.Common.{◌==◌, ◌≡◌, ◌≢◌, inl, inr, ⊎_elim, ℕ, ◌^◌, ◌<◌, true, false, List, [], ◌∷◌, Option, Some, None, refl, sym, ap, subst, ◌∙◌, arith}
 use Rattle.std.proofs.Common.{slice_get}
@@ -12,14 +13,14 @@ use Rattle.std.proofs.lemmas.Bool.{cases_eq, cond-true, cond-false, eq-eqb, ne_e
 use Rattle.world.specs.{State.WorldState, State.Session, State.Work, State.Logged, State.HasWork, Indexes.IsUndo, Told.IsTold, Told.pairs_of}
 use Rattle.row_changes.specs.Records.{IsTable, Records, PutsOver, id_for, IsChangingRecord, RecordsEdit, PutsFirst, PutsVersion, ChangesRecord, undo_of_new}
 use Rattle.row_changes.specs.Records.{undo_of_former}
-use Rattle.row_changes.specs.{Rows.primary_of, Rows.IsChangingRowAlone, Rows.ChangesRowAlone, Edits.change_of, Edits.rows_put, Edits.version_by}
+use Rattle.row_changes.specs.{Rows.primary_of, Rows.place_of, Rows.IsChangingRow, Rows.ChangesRow, Edits.change_of, Edits.rows_put, Edits.version_by}
 use Rattle.row_changes.specs.{declared.reached.Reached.TheVariants.Went, declared.reached.Reached.TheVariants.Done}
-use Rattle.row_changes.specs.{declared.reached.Reached.TheVariants.Hindered, Told.HasRows, declared.record_change.RecordChange.RecordChange}
+use Rattle.row_changes.specs.{declared.reached.Reached.TheVariants.Hindered, Told.HasRowsAt, declared.record_change.RecordChange.RecordChange}
 use Rattle.row_changes.specs.{declared.row_change.RowChange.TheVariants.Record, declared.row_change.RowChange.TheVariants.Keys}
 use Rattle.row_changes.specs.{declared.reached.Reached.Reached, declared.row_change.RowChange.RowChange, Keys.StaysBesideKeys}
 use Rattle.undo_apply.specs.Standing.{TellsOf, LeadsBack, was_before}
-use Rattle.law_logged_changes.specs.Logs.{RecordsAt, records_of, taken_back, Stands, LogStands, IsLogOf, LogsAgree, IsAlone}
-use Rattle.law_logged_changes.specs.Steps.{HasLogged, LeavesRecords}
+use Rattle.law_logged_changes.specs.{Logs.RecordsAt, Logs.records_of, Logs.taken_back, Logs.Stands, Logs.LogStands, Logs.IsLogOf, Logs.LogsAgree, Logs.IsAloneAt}
+use Rattle.law_logged_changes.specs.{Steps.HasLogged, Steps.LeavesRecords, Steps.LeavesOtherRows, GoingOn.IsAloneIn}
 use Rattle.std.specs.{Prelude.is_some, List.AllByRecursion}
 use Rattle.inno_types.specs.{declared.value.Value.Value, declared.value.Schema.Schema}
 use Rattle.inno_db.specs.{declared.change.Change.Change, declared.change.Change.TheVariants.Create}
@@ -28,15 +29,16 @@ use Rattle.store_api.specs.{declared.answers.Undo.Undo, declared.answers.Version
 use Rattle.entries.specs.Pairs.{value_of}
 use Rattle.row_versions.specs.{declared.kept.Kept.Kept, Versions.Stays, declared.place.Place.Place, Chains.Chains}
 use Rattle.row_codec.specs.Rows.{version_code}
-use Rattle.law_stored_rows.specs.{Edits.clustered_index, Edits.Puts, Records.IsCodeOf, Records.KeepsMore, Tables.AreClustered}
+use Rattle.law_stored_rows.specs.{Edits.clustered_index, Edits.Puts, Records.IsCodeOf, Records.KeepsMore, Records.kept_of, Tables.AreClustered, Tables.Said}
 use Rattle.law_stored_rows.proofs.Pairs.{at_index, value_now}
 use Rattle.undo_apply.proofs.Columns.{before_new, before_kept}
 
 -- ---- what older records keep is kept
 
-some_kept : (undo : Undo) (kept : ℕ → Option Kept) (pointer : ℕ) → undo.kind ≡ 2 → LeadsBack undo kept pointer → is_some (kept pointer) ≡ true
+some_kept : (undo : Undo) (kept : ℕ → Option Kept) (pointer : ℕ) → undo.kind ≡ 2 → LeadsBack undo (kept_of kept undo.table undo.key) pointer
+    → is_some (kept pointer) ≡ true
 some_kept undo kept pointer kind (inl new) = absurd (omega (arith, kind, new.0))
-some_kept undo kept pointer kind (inr (k, some, former, there, bytes)) = ap is_some there
+some_kept undo kept pointer kind (inr (k, some, former, there, bytes)) = ap is_some (found_of kept undo.table undo.key pointer former there)
 
 abbrev IsKeptYet : (ℕ → Option Kept) → Logged → Type 0
 IsKeptYet kept logged = logged.undo.kind ≡ 2 → is_some (kept logged.pointer) ≡ true
@@ -64,14 +66,14 @@ pub record IsLogging (s : ℕ) (old new : WorldState) (change : RecordChange) (s
   pub sound : IsUndo old.schemas (undo_at change kind value)
   pub code_is : IsCodeOf schema change.key bytes coded
   pub was : IsTold old → records_of old change.table change.key ≡ was_before (undo_at change kind value)
-  pub leads : IsTold new → LeadsBack (undo_at change kind value) new.versions.kept_at coded.pointer
+  pub leads : IsTold new → LeadsBack (undo_at change kind value) (kept_of new.versions.kept_at change.table change.key) coded.pointer
   pub pointer_is : kind ≡ 2 → coded.pointer ≡ rows.work.session.next_pointer
   pub more : IsTold new → KeepsMore old.versions.kept_at new.versions.kept_at
   pub fresh : IsTold new → kind ≡ 2 → old.versions.kept_at rows.work.session.next_pointer ≡ None
   pub told : IsTold new → IsTold old
 
-module _ (s : ℕ) (chains : Chains) (old new : WorldState) (change : RecordChange) (p : IsChangingRecord s old change) (rows : HasRows chains old) (kind : ℕ)
-    (value bytes : List ℕ) (coded : Coded) (is : IsLogging s old new change p.schema kind value bytes coded) where
+module _ (s : ℕ) (chains : Chains) (said : Said) (old new : WorldState) (change : RecordChange) (p : IsChangingRecord s old change)
+    (rows : HasRowsAt chains said change.table change.key old) (kind : ℕ) (value bytes : List ℕ) (coded : Coded) (is : IsLogging s old new change p.schema kind value bytes coded) where
   abbrev undo : Undo
   undo = undo_at change kind value
 
@@ -105,7 +107,9 @@ module _ (s : ℕ) (chains : Chains) (old new : WorldState) (change : RecordChan
   puts_now told = puts_pairs (clustered_index change.table) change.key (Some bytes) old new (is.rows.here, is.rows.elsewhere) told
 
   clustered : IsTold new → AreClustered old.schemas (pairs_of old) old.versions.kept_at chains
-  clustered told = (rows (is.told told)).clustered
+  clustered told =
+      let of_key = key_at p.schema change.edit change.key p.fits in
+      (rows p.schema (primary_of p.schema change.edit) p.table.there of_key (is.told told)).1.clustered
 
   record_now : IsTold new → records_of new change.table change.key ≡ Some bytes
   record_now told =
@@ -173,7 +177,20 @@ module _ (s : ℕ) (chains : Chains) (old new : WorldState) (change : RecordChan
 
   -- ---- all logs
 
-  pub all_logged : IsAlone s old → LogsAgree old → LogsAgree new
+  others_left : LeavesOtherRows change.table change.key old new
+  others_left = record {
+    schemas = same_schemas;
+    told = is.told;
+    records = λ told other also apart. put_elsewhere undo (Some bytes) (pairs_of old) (pairs_of new) other also (puts_now told) apart;
+    kept = λ told other also apart. more_of old.versions.kept_at new.versions.kept_at other also (is.more told);
+  }
+
+  others_own : (u : ℕ) → u ≢ s → own u new.past ≡ own u old.past
+  others_own u differs =
+      ap (own u) same_past ∙ cond-false (s == u) (change_of change.table change.edit ∷ own u old.past) (own u old.past)
+      (ne_eqb s u (λ same. differs (sym same)))
+
+  pub all_logged : IsAloneAt place s old → LogsAgree old → LogsAgree new
   all_logged alone agree = record {
     each = λ u session work has. ⊎_elim
         (λ same.
@@ -183,12 +200,11 @@ module _ (s : ℕ) (chains : Chains) (old new : WorldState) (change : RecordChan
         subst (λ (t : ℕ). IsLogOf new work.log (own t new.past)) (sym same) (subst (λ (w : Work). IsLogOf new w.log (own s new.past)) one mine.stands))
         (λ differs.
         let had : HasWork u session work old = record { session_is = sym (is.rows.work.others u differs) ∙ has.session_is; work_is = has.work_is } in
-        none_yet u work old new (alone u differs) (others_own u differs) (agree.each u session work had)) (cases_eq u s);
-  } where
-    others_own : (u : ℕ) → u ≢ s → own u new.past ≡ []
-    others_own u differs =
-        ap (own u) same_past ∙ cond-false (s == u) (change_of change.table change.edit ∷ own u old.past) (own u old.past)
-        (ne_eqb s u (λ same. differs (sym same))) ∙ alone u differs
+        let stands = agree.each u session work had in
+        subst (λ (changes : List Change). IsLogOf new work.log changes) (sym (others_own u differs)) (log_beside others_left work.log (own u old.past)
+        (log_elsewhere (IsTold old) old.schemas undo p.schema place old.versions.kept_at (records_of old) work.log (own u old.past) tells_old (alone u differs)
+        stands) stands)) (cases_eq u s);
+  }
 
 -- ---- whether there was a record
 
@@ -249,7 +265,7 @@ module _ (s : ℕ) (old new : WorldState) (change : RecordChange) (p : IsChangin
       refl,
       subst (λ (pointer : ℕ). pointer ≢ 0) (sym pointer) o.leads,
       record { table = change.table; key = change.key; version = (kept_over p o).version; bytes = o.bytes },
-      ap new.versions.kept_at pointer ∙ (kept_over p o).here told.versions,
+      kept_here new.versions.kept_at change.table change.key _ _ (ap new.versions.kept_at pointer ∙ (kept_over p o).here told.versions) refl refl,
       refl,
     );
     pointer_is = λ two. pointer ∙ ap (λ (x : Session). x.next_pointer) (sym one);
@@ -287,21 +303,18 @@ module _ (s : ℕ) (old new : WorldState) (change : RecordChange) (p : IsChangin
 
 -- ---- the laws
 
-pub change_logged : (s : ℕ) (chains : Chains) (old new : WorldState) (change : RecordChange) (key : List ℕ) (before after : Option (List Value))
-    (session : Session) (work : Work) → IsChangingRowAlone s chains old (Record change key after) → ChangesRecord s old new change (records.Recorded before)
-    → HasWork s session work old → IsLogOf old work.log (own s old.past) → HasLogged s change work.log old new
-change_logged s chains old new change key before after session work p h has stands =
-    logging s old new change p.0 (HasLogged s change work.log old new)
-    (λ kind value bytes coded is. has_logged s chains old new change p.0 (alone_rows s chains old change key after p) kind value bytes coded is
-    session work has stands) before h
+module _ (s : ℕ) (chains : Chains) (said : Said) (old new : WorldState) (change : RecordChange) (key : List ℕ) (before after : Option (List Value))
+    (p : IsChangingRow s chains said old (Record change key after)) (h : ChangesRecord s old new change (records.Recorded before)) where
+  pub change_logged : (session : Session) (work : Work) → HasWork s session work old → IsLogOf old work.log (own s old.past)
+      → HasLogged s change work.log old new
+  change_logged session work has stands =
+      logging s old new change p.0 (HasLogged s change work.log old new) (λ kind value bytes coded is.
+      has_logged s chains said old new change p.0 p.1 kind value bytes coded is session work has stands) before h
 
-pub change_all : (s : ℕ) (chains : Chains) (old new : WorldState) (change : RecordChange) (key : List ℕ) (before after : Option (List Value))
-    → IsChangingRowAlone s chains old (Record change key after) → ChangesRecord s old new change (records.Recorded before)
-    → IsAlone s old → LogsAgree old → LogsAgree new
-change_all s chains old new change key before after p h alone agree =
-    logging s old new change p.0 (LogsAgree new)
-    (λ kind value bytes coded is. all_logged s chains old new change p.0 (alone_rows s chains old change key after p) kind value bytes coded is
-    alone agree) before h
+  pub change_all : IsAloneAt (place_of p.0.schema change) s old → LogsAgree old → LogsAgree new
+  change_all alone agree =
+      logging s old new change p.0 (LogsAgree new)
+      (λ kind value bytes coded is. all_logged s chains said old new change p.0 p.1 kind value bytes coded is alone agree) before h
 
 -- ---- Each step of a change keeps the logs: entries of keys alone change, or the version comes with its undo record.
 
@@ -316,14 +329,14 @@ beside_all old new stays agree = all_left old new (beside_leaves old new stays) 
 
 -- ---- the whole change
 
-pub row_all : (s : ℕ) (chains : Chains) (old new : WorldState) (change : RowChange) (reached : Reached RowChange) → IsChangingRowAlone s chains old change
-    → ChangesRowAlone s chains old new change reached → IsAlone s old → LogsAgree old → LogsAgree new
-row_all s chains old new (Record change key after) (Went (Record next key' after')) p c alone agree = aside_left s old new c.0.0.aside agree
-row_all s chains old new (Record change key after) (Went (Keys next)) p c alone agree =
-    change_all s chains old new change key next.before after p c.0.0 alone agree
-row_all s chains old new (Record change key after) Done p c alone agree = absurd c
-row_all s chains old new (Record change key after) (Hindered same why) p c alone agree = aside_left s old new c.2.0 agree
-row_all s chains old new (Keys change) (Went (Record next key after)) p c alone agree = absurd c.0
-row_all s chains old new (Keys change) (Went (Keys next)) p c alone agree = beside_all old new c.0.stays agree
-row_all s chains old new (Keys change) Done p c alone agree = beside_all old new (beside_stay old new c.0) agree
-row_all s chains old new (Keys change) (Hindered same why) p c alone agree = beside_all old new (beside_stay old new c.2.0) agree
+pub row_all : (s : ℕ) (chains : Chains) (said : Said) (old new : WorldState) (change : RowChange) (reached : Reached RowChange)
+    → IsChangingRow s chains said old change → ChangesRow s chains said old new change reached → IsAloneIn s old change → LogsAgree old → LogsAgree new
+row_all s chains said old new (Record change key after) (Went (Record next key' after')) p c alone agree = aside_left s old new c.0.0.aside agree
+row_all s chains said old new (Record change key after) (Went (Keys next)) p c alone agree =
+    change_all s chains said old new change key next.before after p c.0.0 (alone p.0.schema p.0.table.there) agree
+row_all s chains said old new (Record change key after) Done p c alone agree = absurd c
+row_all s chains said old new (Record change key after) (Hindered same why) p c alone agree = aside_left s old new c.2.0 agree
+row_all s chains said old new (Keys change) (Went (Record next key after)) p c alone agree = absurd c.0
+row_all s chains said old new (Keys change) (Went (Keys next)) p c alone agree = beside_all old new c.0.stays agree
+row_all s chains said old new (Keys change) Done p c alone agree = beside_all old new (beside_stay old new c.0) agree
+row_all s chains said old new (Keys change) (Hindered same why) p c alone agree = beside_all old new (beside_stay old new c.2.0) agree

@@ -4,20 +4,22 @@ use Rattle.std.proofs.Common.{Bool, true, false, refl}
 use Rattle.inno_db.specs.declared.change.Change.TheVariants.{Create, Put, Remove}
 use Rattle.entries.specs.Pairs.{key_cmp, Pair, value_of}
 use Rattle.undo_apply.specs.Standing.{TellsOf, LeadsBack, was_before}
-use Rattle.law_logged_changes.specs.Logs.{RecordsAt, taken_back, Stands, LogStands}
-use Rattle.std.proofs.lemmas.Bool.{and_from, and_right, cases_eq, cond-true, cond-false, eq-eqb, ne_eqb}
+use Rattle.law_logged_changes.specs.Logs.{RecordsAt, taken_back, Stands, LogStands, IsElsewhere}
+use Rattle.std.proofs.lemmas.Bool.{and_from, and_right, or_parts, cases_eq, cond-true, cond-false, eq-eqb, ne_eqb}
 use Rattle.std.specs.declared.cmp.Ordering.TheVariants.{Less, Equal, Greater}
 use Rattle.law_stored_rows.proofs.Pairs.{same_or_not, others_now, at_index, at_others, other_rows}
-use Rattle.std.specs.{List.AllByRecursion, BTreeMap.is_at, Ordering.is_eq, declared.cmp.Ordering.Ordering}
-use Rattle.inno_types.specs.{declared.value.Value.Value, declared.value.Schema.Schema}
+use Rattle.std.specs.{List.AllByRecursion, List.list_any, BTreeMap.is_at, Ordering.is_eq, declared.cmp.Ordering.Ordering}
+use Rattle.inno_types.specs.{declared.value.Value.Value, declared.value.Column.Column, declared.value.Schema.Schema}
 use Rattle.inno_db.specs.{declared.change.Change.Change, Database.key_in}
 use Rattle.inno_db.proofs.{Keys.key_in-at}
 use Rattle.store_api.specs.{declared.answers.Undo.Undo}
 use Rattle.row_versions.specs.{declared.kept.Kept.Kept, declared.place.Place.Place}
-use Rattle.law_past_agreement.specs.{Rows.place_in}
+use Rattle.law_past_agreement.specs.{Rows.place_in, Rows.is_place, Rows.is_at as is_change_at}
 use Rattle.world.specs.{State.Logged, Indexes.KeepsAsSaid}
 use Rattle.entries.proofs.{Order.same_key, Order.key_itself}
-use Rattle.law_stored_rows.specs.{Edits.clustered_index, Edits.Puts}
+use Rattle.law_stored_rows.specs.{Edits.clustered_index, Edits.Puts, Records.kept_of}
+use Rattle.law_stored_rows.proofs.Values.{one_key, place_itself}
+use Rattle.key_codec.specs.Keys.{HasKey, key_code}
 
 pub all_of : {X : Type 0} (P : X → Type 0) (xs : List X) → ((x : X) → P x) → AllByRecursion P xs
 all_of P [] each = record {}
@@ -65,22 +67,34 @@ place_on schemas others (Remove table key) place schema grows there is = is
 -- ---- records that stay
 
 module _ (told now : Type 0) (schemas others : List Schema) (kept found : ℕ → Option Kept) (was_told : now → told) (grows : Grows schemas others) where
-  -- what the undo record keeps stays
+  -- what the undo record keeps of its row stays
   abbrev pub Keeps : Logged → Type 0
-  Keeps logged = now → logged.undo.kind ≡ 2 → (former : Kept) → kept logged.pointer ≡ Some former → found logged.pointer ≡ Some former
+  Keeps logged =
+      now → logged.undo.kind ≡ 2 → (former : Kept) → kept_of kept logged.undo.table logged.undo.key logged.pointer ≡ Some former
+      → kept_of found logged.undo.table logged.undo.key logged.pointer ≡ Some former
 
-  -- the records of these tables are the same
-  abbrev pub SameRecords : RecordsAt → RecordsAt → Type 0
-  SameRecords was is = now → (table : ℕ) (schema : Schema) (key : List ℕ) → slice_get schemas table ≡ Some schema → is table key ≡ was table key
+  -- the undo record's row has the same clustered record
+  abbrev pub SameRecord : RecordsAt → RecordsAt → Logged → Type 0
+  SameRecord was is logged =
+      now → (schema : Schema) → slice_get schemas logged.undo.table ≡ Some schema
+      → is logged.undo.table logged.undo.key ≡ was logged.undo.table logged.undo.key
 
-  leads_on : (logged : Logged) (pointer : ℕ) → now → Keeps logged → (logged.undo.kind ≡ 2 → pointer ≡ logged.pointer) → LeadsBack logged.undo kept pointer
-      → LeadsBack logged.undo found pointer
+  leads_on : (logged : Logged) (pointer : ℕ) → now → Keeps logged → (logged.undo.kind ≡ 2 → pointer ≡ logged.pointer)
+      → LeadsBack logged.undo (kept_of kept logged.undo.table logged.undo.key) pointer
+      → LeadsBack logged.undo (kept_of found logged.undo.table logged.undo.key) pointer
   leads_on logged pointer at keeps pointer_is (inl new) = inl new
   leads_on logged pointer at keeps pointer_is (inr (kind, leads, former, there, bytes)) =
       let same = pointer_is kind in
-      inr (kind, leads, former, ap found same ∙ keeps at kind former (ap kept (sym same) ∙ there), bytes)
+      let of_row = kept_of kept logged.undo.table logged.undo.key in
+      inr (
+        kind,
+        leads,
+        former,
+        ap (kept_of found logged.undo.table logged.undo.key) same ∙ keeps at kind former (ap of_row (sym same) ∙ there),
+        bytes,
+      )
 
-  stands_on : (was is : RecordsAt) (logged : Logged) (log : List Logged) (change : Change) → SameRecords was is → Keeps logged
+  stands_on : (was is : RecordsAt) (logged : Logged) (log : List Logged) (change : Change) → SameRecord was is logged → Keeps logged
       → Stands told schemas was kept logged log change → Stands now others is found logged log change
   stands_on was is logged log change same keeps stands = record {
     place = stands.place;
@@ -91,7 +105,7 @@ module _ (told now : Type 0) (schemas others : List Schema) (kept found : ℕ �
     record_is = λ at. let has = stands.record_is (was_told at) in record {
       bytes = has.bytes;
       coded = has.coded;
-      there = same at logged.undo.table stands.schema logged.undo.key stands.tells.there ∙ has.there;
+      there = same at stands.schema stands.tells.there ∙ has.there;
       code_is = has.code_is;
       before = leads_on logged has.coded.pointer at keeps has.pointer_is has.before;
       pointer_is = has.pointer_is;
@@ -99,19 +113,65 @@ module _ (told now : Type 0) (schemas others : List Schema) (kept found : ℕ �
     elsewhere = λ at. stands.elsewhere (was_told at);
   }
 
-  same_behind : (was is : RecordsAt) (undo : Undo) → SameRecords was is → SameRecords (taken_back undo was) (taken_back undo is)
-  same_behind was is undo same at table schema key there =
-      ap (cond (table == undo.table && is_at (key_cmp undo.key) key) (was_before undo)) (same at table schema key there)
+  same_behind : (was is : RecordsAt) (undo : Undo) (logged : Logged) → SameRecord was is logged
+      → SameRecord (taken_back undo was) (taken_back undo is) logged
+  same_behind was is undo logged same at schema there =
+      ap (cond (logged.undo.table == undo.table && is_at (key_cmp undo.key) logged.undo.key) (was_before undo)) (same at schema there)
 
-  pub log_on : (was is : RecordsAt) (log : List Logged) (own : List Change) → SameRecords was is → AllByRecursion Keeps log
+  -- a log stands where the rows that it tells of have the same records, and what it keeps is kept
+  pub log_on : (was is : RecordsAt) (log : List Logged) (own : List Change) → AllByRecursion (SameRecord was is) log → AllByRecursion Keeps log
       → LogStands told schemas was kept log own → LogStands now others is found log own
   log_on was is log [] same keeps stands = stands
   log_on was is log (Create schema ∷ own) same keeps stands = log_on was is log own same keeps stands
   log_on was is [] (change ∷ own) same keeps stands = stands
   log_on was is (logged ∷ log) (change ∷ own) same keeps stands = (
-    stands_on was is logged log change same keeps.0 stands.0,
-    log_on (taken_back logged.undo was) (taken_back logged.undo is) log own (same_behind was is logged.undo same) keeps.1 stands.1,
+    stands_on was is logged log change same.0 keeps.0 stands.0,
+    log_on (taken_back logged.undo was) (taken_back logged.undo is) log own
+        (all_mapped (SameRecord was is) (SameRecord (taken_back logged.undo was) (taken_back logged.undo is)) log (same_behind was is logged.undo) same.1)
+        keeps.1 stands.1,
   )
+
+-- the change's own record, or another
+pub here_or_not : (undo : Undo) (table : ℕ) (key : List ℕ) → ((table ≡ undo.table) × (key ≡ undo.key)) ⊎ ((table ≢ undo.table) ⊎ (key ≢ undo.key))
+here_or_not undo table key =
+    ⊎_elim (λ same. ⊎_elim (λ also. inl (same, also)) (λ differs. inr (inr differs)) (same_or_not key undo.key)) (λ differs. inr (inl differs))
+    (cases_eq table undo.table)
+
+-- ---- of which rows a log tells
+
+-- two undo records of one row tell of one place
+pub one_place : (schemas : List Schema) (a b : Undo) (schema other : Schema) (place also : Place) → TellsOf a schema place schemas
+    → TellsOf b other also schemas → b.table ≡ a.table → b.key ≡ a.key → also ≡ place
+one_place schemas a b schema other place also tells theirs table_is key_is =
+    let one : other ≡ schema = let there = ap (slice_get schemas) (sym table_is) ∙ theirs.there in let here = tells.there in cc in
+    let column : theirs.primary ≡ tells.primary = let first = theirs.primary_is in let second = tells.primary_is in cc in
+    let key : also.key ≡ place.key =
+    one_key tells.primary.kind also.key place.key (subst (λ (c : Column). HasKey c.kind also.key) column theirs.has_key) tells.has_key
+    (sym (subst (λ (c : Column). b.key ≡ key_code c.kind also.key) column theirs.key_is) ∙ key_is ∙ tells.key_is) in
+    let table : also.table ≡ place.table = theirs.table_is ∙ table_is ∙ sym tells.table_is in
+    λ i. record { table = table i; key = key i }
+
+-- a log of changes of other places has no record of the row
+pub log_elsewhere : (told : Type 0) (schemas : List Schema) (undo : Undo) (schema : Schema) (place : Place) (kept : ℕ → Option Kept) (records : RecordsAt)
+    (log : List Logged) (own : List Change) → TellsOf undo schema place schemas → list_any (is_change_at schemas place) own ≡ false
+    → LogStands told schemas records kept log own → AllByRecursion (IsElsewhere undo.table undo.key) log
+log_elsewhere told schemas undo schema place kept records log [] tells none stands =
+    subst (AllByRecursion (IsElsewhere undo.table undo.key)) (sym stands) (record {})
+log_elsewhere told schemas undo schema place kept records log (Create made ∷ own) tells none stands =
+    log_elsewhere told schemas undo schema place kept records log own tells none stands
+log_elsewhere told schemas undo schema place kept records [] (change ∷ own) tells none stands = record {}
+log_elsewhere told schemas undo schema place kept records (logged ∷ log) (change ∷ own) tells none stands =
+    let parts = or_parts (is_change_at schemas place change) (list_any (is_change_at schemas place) own) none in (
+      elim (here_or_not undo logged.undo.table logged.undo.key) [
+        | inl same ↦
+            let one = one_place schemas undo logged.undo schema stands.0.schema place stands.0.place tells stands.0.tells same.0 same.1 in
+            let is : is_change_at schemas place change ≡ true = ap (is_place place) (stands.0.place_is ∙ ap Some one) ∙ place_itself place in
+            let not = parts.0 in
+            absurd (cc)
+        | inr apart ↦ apart
+      ],
+      log_elsewhere told schemas undo schema place kept (taken_back logged.undo records) log own tells parts.1 stands.1,
+    )
 
 -- ---- the newest record
 
@@ -128,12 +188,6 @@ pub one_more : (told : Type 0) (schemas : List Schema) (records : RecordsAt) (ke
     → LogStands told schemas records kept (logged ∷ log) (change ∷ own)
 one_more told schemas records kept logged log (Create schema) own stands rest = absurd (let is = stands.place_is in cc)
 one_more told schemas records kept logged log change own stands rest = (stands, rest)
-
--- where nothing is told otherwise, a log without changes is empty
-pub empty_log : (told : Type 0) (schemas : List Schema) (records : RecordsAt) (kept : ℕ → Option Kept) (log : List Logged) (own : List Change) → own ≡ []
-    → LogStands told schemas records kept log own → log ≡ []
-empty_log told schemas records kept log [] none stands = stands
-empty_log told schemas records kept log (change ∷ own) none stands = absurd (cc)
 
 -- ---- What stands at each key of each table without a change of one row.
 
@@ -161,12 +215,6 @@ taken_elsewhere undo records table key (inl differs) =
 taken_elsewhere undo records table key (inr differs) =
     cond-false (table == undo.table && is_at (key_cmp undo.key) key) (was_before undo) (records table key)
     (and_right (table == undo.table) (is_at (key_cmp undo.key) key) (not_at undo.key key differs))
-
--- the change's own record, or another
-pub here_or_not : (undo : Undo) (table : ℕ) (key : List ℕ) → ((table ≡ undo.table) × (key ≡ undo.key)) ⊎ ((table ≢ undo.table) ⊎ (key ≢ undo.key))
-here_or_not undo table key =
-    ⊎_elim (λ same. ⊎_elim (λ also. inl (same, also)) (λ differs. inr (inr differs)) (same_or_not key undo.key)) (λ differs. inr (inl differs))
-    (cases_eq table undo.table)
 
 abbrev records_in : (ℕ → List Pair) → RecordsAt
 records_in pairs table key = value_of key (pairs (clustered_index table))

@@ -1,6 +1,7 @@
 -- A change that is taken back leaves the log of the older changes.
-use Rattle.law_logged_changes.proofs.Leaving.{log_over, same_schemas_grow, work_beside, work_again, own_beside, none_yet, done_beside}
-use Rattle.law_logged_changes.proofs.Logs.{newest_stands, taken_here, taken_elsewhere, here_or_not, put_elsewhere}
+use Rattle.law_logged_changes.proofs.Leaving.{log_over, log_beside, same_schemas_grow, work_beside, work_again, own_beside, done_beside}
+use Rattle.law_logged_changes.proofs.Logs.{newest_stands, taken_here, taken_elsewhere, here_or_not, put_elsewhere, log_elsewhere}
+use Rattle.std.specs.List.{AllByRecursion}
 use Rattle.law_logged_changes.proofs.{Lags.at_stage, Lags.clustered_while, Beginning.top, Beginning.tells_of_it, Beginning.way_settled}
 use Rattle.std.proofs.Common.{◌≡◌, ◌≢◌, ◌⊎◌, inl, inr, ⊎_elim, ℕ, List, ◌∷◌, Option, Some, sym, ap, subst, ◌∙◌, arith, slice_get}
 use Rattle.inno_types.specs.declared.value.Schema.{Schema}
@@ -8,30 +9,27 @@ use Rattle.inno_db.specs.{declared.change.Change.Change, Database.key_of}
 use Rattle.inno_model.specs.Past.{own}
 use Rattle.store_api.specs.declared.answers.Undo.{Undo}
 use Rattle.entries.specs.Pairs.{Pair, value_of}
-use Rattle.row_versions.specs.Chains.{Chains, Pops, older as behind}
+use Rattle.row_versions.specs.Chains.{Chains, Pops, versions_at, older as behind}
 use Rattle.row_versions.specs.{declared.kept.Kept.Kept, declared.place.Place.Place, declared.version.Version.Version}
 use Rattle.law_stored_rows.specs.Records.{shown, kept_of, LeadTo, IsRecordWith}
-use Rattle.law_stored_rows.specs.{Edits.clustered_index, Edits.Puts, Tables.in_table, Tables.Said, Tables.what_is_there}
-use Rattle.law_stored_rows.proofs.{FromTables.decoded, KeptRows.kept_along, RowRecords.pointer_followed, RowRecords.record_back}
+use Rattle.law_stored_rows.specs.{Edits.clustered_index, Edits.Puts, Tables.in_table, Tables.Said}
+use Rattle.law_stored_rows.proofs.{FromTables.decoded, RowRecords.pointer_followed, RowRecords.record_back}
 use Rattle.law_past_agreement.specs.Rows.{place_in}
 use Rattle.world.specs.{State.WorldState, State.Session, State.Work, State.Logged, State.HasWork, Told.IsTold, Told.pairs_of}
-use Rattle.row_changes.specs.Told.{HasRows}
+use Rattle.row_changes.specs.Told.{HasRowsBeside}
 use Rattle.row_changes.proofs.Telling.{stays_told, same_pairs_of, put_told, put_pairs}
-use Rattle.undo_apply.specs.Standing.{TellsOf, LeadsBack, was_before, versions_before, IsLagging, IsTakenBack}
+use Rattle.undo_apply.specs.Standing.{TellsOf, LeadsBack, was_before, said_but, versions_before, IsLagging, IsTakenBack}
 use Rattle.undo_apply.specs.{declared.work_room.WorkRoom.WorkRoom, Told.rows_of, Stages.IsPuttingBack, Stages.IsDone}
-use Rattle.undo_apply.proofs.{Taken.stands, Taken.taken_whole, Taken.whole_yet, Columns.before_kept}
-use Rattle.law_logged_changes.specs.Steps.{ChangesPairsAlone, IsToCut, IsRowAgain}
-use Rattle.law_logged_changes.specs.Logs.{records_of, taken_back, HasRecord, Stands, IsLogOf, LogsAgree, IsAlone}
+use Rattle.undo_apply.proofs.{Taken.stands, Taken.says_place, Taken.lags_there, Columns.before_kept}
+use Rattle.law_logged_changes.specs.Steps.{ChangesPairsAlone, LeavesOtherRows, IsToCut, IsRowAgain}
+use Rattle.law_logged_changes.specs.Logs.{records_of, taken_back, HasRecord, Stands, IsLogOf, LogsAgree, IsAloneAt, IsElsewhere}
 
-module _ (chains after : Chains) (old new : WorldState) (logged : Logged) (older : List Logged) (change : Change) (before : List Change) (place : Place)
-    (room next : WorkRoom) (log_is : IsLogOf old (logged ∷ older) (change ∷ before)) (place_is : place_in old.schemas change ≡ Some place)
-    (back : IsPuttingBack chains (what_is_there chains) place logged.undo room old)
-    (done : IsDone chains (what_is_there chains) place logged.undo room next old new) (pops : Pops chains after place) where
+module _ (chains after : Chains) (said : Said) (old new : WorldState) (logged : Logged) (older : List Logged) (change : Change) (before : List Change)
+    (place : Place) (room next : WorkRoom) (log_is : IsLogOf old (logged ∷ older) (change ∷ before)) (place_is : place_in old.schemas change ≡ Some place)
+    (back : IsPuttingBack chains said place logged.undo room old) (done : IsDone chains said place logged.undo room next old new)
+    (pops : Pops chains after place) where
   abbrev undo : Undo
   undo = logged.undo
-
-  abbrev said : Said
-  said = what_is_there chains
 
   abbrev newest : Stands (IsTold old) old.schemas (records_of old) old.versions.kept_at logged older change
   newest = top chains old logged older change before place room log_is place_is
@@ -49,20 +47,23 @@ module _ (chains after : Chains) (old new : WorldState) (logged : Logged) (older
   same_kept : IsTold new → new.versions.kept_at ≡ old.versions.kept_at
   same_kept told = ⊎_elim (λ stays. stays.versions.kept told.versions) (λ puts. puts.versions.kept told.versions) done.changes
 
+  -- where it is taken back already, the keys say of the place what is there
+  taken_rows : IsTakenBack chains said place undo (rows_of old) → HasRowsBeside chains said place old
+  taken_rows gone told =
+      let there : ℕ → List Version = λ which. versions_at place chains in
+      (said_but said place there, gone.all, lags_there said place there, says_place said place there)
+
   not_before : IsTold old → value_of undo.key (pairs_of old (clustered_index undo.table)) ≢ was_before undo
   not_before told =
       ⊎_elim
       (λ lag. stands chains said place undo back.schema (rows_of old) lag.bytes lag.coded lag.done (IsLagging _ (versions_before chains place)) back.tells
       lag.way) (λ gone. let has = newest.record_is told in
       stands chains said place undo newest.schema (rows_of old) has.bytes has.coded 0 (IsLagging _ (versions_before chains place)) tells
-      (way_settled chains old logged place newest.schema tells has (λ again. whole_yet chains place undo (rows_of old) gone) told))
+      (way_settled chains old logged place newest.schema tells has (taken_rows gone) told))
       (at_stage chains place undo back.schema (rows_of old) room.newest.items room.stage (back.holds told))
 
-  taken : IsTold new → IsTakenBack after said place undo (rows_of new)
+  pub taken : IsTold new → IsTakenBack after said place undo (rows_of new)
   taken told = done.popped told (not_before (told_before told)) after pops
-
-  pub rows_then : HasRows after new
-  rows_then told = taken_whole chains after place undo (rows_of new) pops (taken told)
 
   puts_then : IsTold new → Puts (pairs_of old) (pairs_of new) (clustered_index undo.table) undo.key (was_before undo)
   puts_then told =
@@ -102,10 +103,9 @@ module _ (chains after : Chains) (old new : WorldState) (logged : Logged) (older
         (decoded old.schemas (pairs_of old) old.versions.kept_at chains undo.table newest.schema undo.key has.bytes has.coded
         (clustered_while chains place undo room old back (told_before told)) tells.there has.there has.code_is).1
 
-    again_from : undo.kind ≡ 2 → LeadsBack undo old.versions.kept_at has.coded.pointer → IsRowAgain logged new
+    again_from : undo.kind ≡ 2 → LeadsBack undo kept has.coded.pointer → IsRowAgain logged new
     again_from kind (inl new_row) = absurd (omega (arith, kind, new_row.0))
-    again_from kind (inr (k, some, former, keeps, bytes)) =
-        let there = kept_along old.versions.kept_at undo.table undo.key newest.schema has.coded.pointer former_ones former leads some keeps in
+    again_from kind (inr (k, some, former, there, bytes)) =
         let read = pointer_followed newest.schema undo.key kept has.coded.pointer former_ones former leads some there in
         let found : records_of new undo.table undo.key ≡ Some former.bytes = (taken told).there ∙ before_kept undo kind ∙ ap Some (sym bytes) in
         let all = shown former.version ∷ behind former_ones in
@@ -127,8 +127,16 @@ module _ (chains after : Chains) (old new : WorldState) (logged : Logged) (older
   kinds : (undo.kind ≡ 1) ⊎ (undo.kind ≡ 2)
   kinds = ⊎_elim (λ first. inl first.0) (λ second. inr second.0) tells.undo_is.kept
 
-  pub to_cut_then : (s : ℕ) (session : Session) (work : Work) → LogsAgree old → IsAlone s old → HasWork s session work old → work.log ≡ logged ∷ older
-      → IsToCut s logged older before new
+  others_left : LeavesOtherRows undo.table undo.key old new
+  others_left = record {
+    schemas = same_schemas;
+    told = told_before;
+    records = λ told other also apart. records_then told other also ∙ taken_elsewhere undo (records_of old) other also apart;
+    kept = λ told other also apart pointer found is. ap (λ (kept : ℕ → Option Kept). kept_of kept other also pointer) (same_kept told) ∙ is;
+  }
+
+  pub to_cut_then : (s : ℕ) (session : Session) (work : Work) → LogsAgree old → IsAloneAt place s old → HasWork s session work old
+      → work.log ≡ logged ∷ older → IsToCut s logged older before new
   to_cut_then s session work agree alone has_work is = record {
     session = session;
     work = work;
@@ -139,25 +147,30 @@ module _ (chains after : Chains) (old new : WorldState) (logged : Logged) (older
       again = λ told kind. again_from told kind (has told).before;
       elsewhere = λ told. newest.elsewhere (told_before told);
     };
+    alone = λ u x w differs h. apart u x w differs (work_beside u x w old new rest h);
     logs = record {
       mine = log_then;
-      others =
-          λ u x w differs h. none_yet u w old new (alone u differs) (own_beside u old new rest ∙ alone u differs)
-          (agree.each u x w (work_beside u x w old new rest h));
+      others = λ u x w differs h. let had = work_beside u x w old new rest h in
+          subst (λ (changes : List Change). IsLogOf new w.log changes) (sym (own_beside u old new rest))
+          (log_beside others_left w.log (own u old.past) (apart u x w differs had) (agree.each u x w had));
     };
   } where
     rest : ChangesPairsAlone old new
-    rest = done_beside chains place s undo room next old new done
+    rest = done_beside chains said place s undo room next old new done
+
+    apart : (u : ℕ) (x : Session) (w : Work) → u ≢ s → HasWork u x w old → AllByRecursion (IsElsewhere undo.table undo.key) w.log
+    apart u x w differs had =
+        log_elsewhere (IsTold old) old.schemas undo newest.schema place old.versions.kept_at (records_of old) w.log (own u old.past) tells (alone u differs)
+        (agree.each u x w had)
 
 -- the session's own changes, as the history has them
-pub to_cut_by_history : (s : ℕ) (chains after : Chains) (old new : WorldState) (session : Session) (work : Work) (logged : Logged) (older : List Logged)
-    (change : Change) (before : List Change) (place : Place) (room next : WorkRoom) → LogsAgree old → IsAlone s old → HasWork s session work old
-    → work.log ≡ logged ∷ older → own s old.past ≡ change ∷ before → place_in old.schemas change ≡ Some place
-    → IsPuttingBack chains (what_is_there chains) place logged.undo room old → IsDone chains (what_is_there chains) place logged.undo room next old new
-    → Pops chains after place
+pub to_cut_by_history : (s : ℕ) (chains after : Chains) (said : Said) (old new : WorldState) (session : Session) (work : Work) (logged : Logged)
+    (older : List Logged) (change : Change) (before : List Change) (place : Place) (room next : WorkRoom) → LogsAgree old → IsAloneAt place s old
+    → HasWork s session work old → work.log ≡ logged ∷ older → own s old.past ≡ change ∷ before → place_in old.schemas change ≡ Some place
+    → IsPuttingBack chains said place logged.undo room old → IsDone chains said place logged.undo room next old new → Pops chains after place
     → IsToCut s logged older before new
-to_cut_by_history s chains after old new session work logged older change before place room next agree alone has_work is own_is place_is back done pops =
+to_cut_by_history s chains after said old new session work logged older change before place room next agree alone has_work is own_is place_is back done pops =
     let log =
     subst (λ (l : List Logged). IsLogOf old l (change ∷ before)) is
     (subst (λ (changes : List Change). IsLogOf old work.log changes) own_is (agree.each s session work has_work)) in
-    to_cut_then chains after old new logged older change before place room next log place_is back done pops s session work agree alone has_work is
+    to_cut_then chains after said old new logged older change before place room next log place_is back done pops s session work agree alone has_work is

@@ -1,12 +1,15 @@
 -- What a step of a change makes of a world that agrees with its past.
-use Rattle.std.specs.Prelude.{◌≡◌, ◌≢◌, ℕ, ◌+◌, ◌∷◌, length, slice_get, Some}
+use Rattle.std.specs.Prelude.{◌≡◌, ◌≢◌, ℕ, ◌+◌, List, ◌∷◌, length, slice_get, Some}
+use Rattle.inno_types.specs.declared.value.Schema.{Schema}
 use Rattle.inno_model.specs.declared.event.Event.TheVariants.{Changed}
 use Rattle.row_versions.specs.Chains.{Chains}
-use Rattle.law_stored_rows.specs.Records.{KeepsMore}
+use Rattle.law_stored_rows.specs.{Records.KeepsMore, Tables.Said}
 use Rattle.world.specs.State.{WorldState, Session, Work, HasWork}
 use Rattle.law_world_agreement.specs.Agreement.{Agrees}
 use Rattle.row_changes.specs.{declared.record_change.RecordChange.RecordChange, declared.keys_change.KeysChange.KeysChange, declared.reached.Reached.Reached}
-use Rattle.row_changes.specs.{declared.row_change.RowChange.RowChange, Edits.change_of, Edits.rows_put, Told.HasRows, Rows.PushesEdit, Rows.IsChangingRowAlone}
+use Rattle.row_changes.specs.{declared.row_change.RowChange.RowChange, Edits.change_of, Edits.rows_put, Told.HasRowsAt, Rows.PushesEdit, Rows.IsChangingRow}
+use Rattle.row_changes.specs.Rows.{place_of, table_of}
+use Rattle.law_logged_changes.specs.Logs.{IsAloneAt}
 use Rattle.row_changes.specs.declared.row_change.RowChange.TheVariants.{Record, Keys}
 use Rattle.row_changes.specs.declared.reached.Reached.TheVariants.{Went, Done, Hindered}
 
@@ -39,39 +42,51 @@ pub record KeepsBeside (s : ℕ) (old new : WorldState) : Type 0 where
 
 -- ---- how far a step came
 
+-- no other session has changes of the row, where the history doesn't tell the change yet
+abbrev pub IsAloneIn : ℕ → WorldState → RowChange → Type 0
+IsAloneIn s state (Record change key after) =
+    (schema : Schema) → slice_get state.schemas change.table ≡ Some schema → IsAloneAt (place_of schema change) s state
+IsAloneIn s state (Keys change) = Unit {0}
+
+-- the key of the row's record
+abbrev pub key_of : RowChange → List ℕ
+key_of (Record change key after) = change.key
+key_of (Keys change) = change.key
+
 -- no entry has come, and this is left of the change
-pub record StaysAgreed (s : ℕ) (chains : Chains) (old new : WorldState) (next : RowChange) : Type 0 where
+pub record StaysAgreed (s : ℕ) (chains : Chains) (said : Said) (old new : WorldState) (next : RowChange) : Type 0 where
   pub agrees : Agrees chains new
-  pub changing : IsChangingRowAlone s chains new next
+  pub changing : IsChangingRow s chains said new next
   pub past : new.past ≡ old.past
   pub rows : new.rows ≡ old.rows
   pub txns : new.txns ≡ old.txns
   pub beside : KeepsBeside s old new
 
 -- the row has its new version, the history tells the change, and this is left of it
-pub record EntersAgreed (s : ℕ) (chains : Chains) (old new : WorldState) (change : RecordChange) (next : KeysChange) : Type 0 where
+pub record EntersAgreed (s : ℕ) (chains : Chains) (said : Said) (old new : WorldState) (change : RecordChange) (next : KeysChange) : Type 0 where
   pub after : Chains
   pub pushes : PushesEdit s change old chains after
   pub agrees : Agrees after new
-  pub changing : IsChangingRowAlone s after new (Keys next)
+  pub changing : IsChangingRow s after said new (Keys next)
   pub past : new.past ≡ Changed s (change_of change.table change.edit) ∷ old.past
   pub rows : new.rows ≡ old.rows + rows_put change.edit
   pub beside : KeepsBeside s old new
 
--- the change is over
-pub record EndsAgreed (s : ℕ) (chains : Chains) (old new : WorldState) : Type 0 where
+-- the change is over, and of its place the keys say what is there
+pub record EndsAgreed (s : ℕ) (chains : Chains) (said : Said) (old new : WorldState) (change : RowChange) : Type 0 where
   pub agrees : Agrees chains new
-  pub coded : HasRows chains new
+  pub coded : HasRowsAt chains said (table_of change) (key_of change) new
   pub past : new.past ≡ old.past
   pub rows : new.rows ≡ old.rows
   pub txns : new.txns ≡ old.txns
   pub beside : KeepsBeside s old new
 
--- What a step that came so far makes of a world whose rows were these.
-abbrev pub GoesOnAgreed : ℕ → Chains → WorldState → WorldState → RowChange → Reached RowChange → Type 0
-GoesOnAgreed s chains old new (Record change key after) (Went (Record next key' after')) = StaysAgreed s chains old new (Record next key' after')
-GoesOnAgreed s chains old new (Record change key after) (Went (Keys next)) = EntersAgreed s chains old new change next
-GoesOnAgreed s chains old new (Keys change) (Went (Record next key after)) = ⊥
-GoesOnAgreed s chains old new (Keys change) (Went (Keys next)) = StaysAgreed s chains old new (Keys next)
-GoesOnAgreed s chains old new change Done = EndsAgreed s chains old new
-GoesOnAgreed s chains old new change (Hindered same why) = (same ≡ change) × StaysAgreed s chains old new same
+-- What a step that came so far makes of a world whose rows were these, while keys say this of all other places.
+abbrev pub GoesOnAgreed : ℕ → Chains → Said → WorldState → WorldState → RowChange → Reached RowChange → Type 0
+GoesOnAgreed s chains said old new (Record change key after) (Went (Record next key' after')) =
+    StaysAgreed s chains said old new (Record next key' after')
+GoesOnAgreed s chains said old new (Record change key after) (Went (Keys next)) = EntersAgreed s chains said old new change next
+GoesOnAgreed s chains said old new (Keys change) (Went (Record next key after)) = ⊥
+GoesOnAgreed s chains said old new (Keys change) (Went (Keys next)) = StaysAgreed s chains said old new (Keys next)
+GoesOnAgreed s chains said old new change Done = EndsAgreed s chains said old new change
+GoesOnAgreed s chains said old new change (Hindered same why) = (same ≡ change) × StaysAgreed s chains said old new same

@@ -1,15 +1,15 @@
 -- When the undo log of a transaction is that of its changes: each change of a row has its record there, and the records put
 -- back in turn, the newest first, what was there before.
-use Rattle.std.specs.Prelude.{◌≡◌, ◌≢◌, ℕ, ◌==◌, ◌&&◌, if◌then◌else◌, List, [], ◌∷◌, Option, Some}
-use Rattle.std.specs.{List.AllByRecursion, BTreeMap.is_at}
+use Rattle.std.specs.Prelude.{◌≡◌, ◌≢◌, ◌⊎◌, ℕ, ◌==◌, ◌&&◌, false, if◌then◌else◌, List, [], ◌∷◌, Option, Some}
+use Rattle.std.specs.{List.AllByRecursion, List.list_any, BTreeMap.is_at as is_key_at}
 use Rattle.inno_types.specs.declared.value.Schema.{Schema}
 use Rattle.inno_db.specs.{declared.change.Change.Change, declared.change.Change.TheVariants.Create}
 use Rattle.inno_model.specs.Past.{own}
 use Rattle.store_api.specs.{declared.answers.Undo.Undo, declared.answers.Version.Version as Coded}
 use Rattle.entries.specs.Pairs.{key_cmp, value_of}
 use Rattle.row_versions.specs.{declared.kept.Kept.Kept, declared.place.Place.Place}
-use Rattle.law_stored_rows.specs.{Edits.clustered_index, Records.IsCodeOf}
-use Rattle.law_past_agreement.specs.Rows.{place_in}
+use Rattle.law_stored_rows.specs.{Edits.clustered_index, Records.IsCodeOf, Records.kept_of}
+use Rattle.law_past_agreement.specs.Rows.{place_in, is_at}
 use Rattle.world.specs.{State.WorldState, State.Session, State.Work, State.Logged, State.HasWork, Told.IsTold, Told.pairs_of}
 use Rattle.undo_apply.specs.Standing.{TellsOf, LeadsBack, was_before}
 
@@ -22,15 +22,15 @@ records_of state table key = value_of key (pairs_of state (clustered_index table
 
 -- at the undo record's table and key what was before the change, and elsewhere the same
 abbrev pub taken_back : Undo → RecordsAt → RecordsAt
-taken_back undo records table key = if table == undo.table && is_at (key_cmp undo.key) key then was_before undo else records table key
+taken_back undo records table key = if table == undo.table && is_key_at (key_cmp undo.key) key then was_before undo else records table key
 
--- The change stands: its record is there, and its pointer leads to what was before.
+-- The change stands: its record is there, and its pointer leads to what was before, which is kept as a version of its row.
 pub record HasRecord (schema : Schema) (records : RecordsAt) (kept : ℕ → Option Kept) (logged : Logged) : Type 0 where
   pub bytes : List ℕ
   pub coded : Coded
   pub there : records logged.undo.table logged.undo.key ≡ Some bytes
   pub code_is : IsCodeOf schema logged.undo.key bytes coded
-  pub before : LeadsBack logged.undo kept coded.pointer
+  pub before : LeadsBack logged.undo (kept_of kept logged.undo.table logged.undo.key) coded.pointer
   pub pointer_is : logged.undo.kind ≡ 2 → coded.pointer ≡ logged.pointer
 
 -- older undo records that keep a version keep it behind other pointers
@@ -69,6 +69,17 @@ pub record LogsAgreeBut (s : ℕ) (log : List Logged) (changes : List Change) (s
   pub mine : IsLogOf state log changes
   pub others : (u : ℕ) (session : Session) (work : Work) → u ≢ s → HasWork u session work state → IsLogOf state work.log (own u state.past)
 
--- no other session has changes
-abbrev pub IsAlone : ℕ → WorldState → Type 0
-IsAlone s state = (u : ℕ) → u ≢ s → own u state.past ≡ []
+-- ---- of one place
+
+-- no other session has changes of this place
+abbrev pub IsAloneAt : Place → ℕ → WorldState → Type 0
+IsAloneAt place s state = (u : ℕ) → u ≢ s → list_any (is_at state.schemas place) (own u state.past) ≡ false
+
+-- the undo record is of another row than that at this key of this table
+abbrev pub IsElsewhere : ℕ → List ℕ → Logged → Type 0
+IsElsewhere table key logged = (logged.undo.table ≢ table) ⊎ (logged.undo.key ≢ key)
+
+-- no undo record of another session is of the row
+abbrev pub IsAloneOf : ℕ → List ℕ → ℕ → WorldState → Type 0
+IsAloneOf table key s state =
+    (u : ℕ) (session : Session) (work : Work) → u ≢ s → HasWork u session work state → AllByRecursion (IsElsewhere table key) work.log

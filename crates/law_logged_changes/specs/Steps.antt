@@ -1,14 +1,14 @@
 -- What the steps of changes and of their taking back make of logs.
-use Rattle.std.specs.Prelude.{◌≡◌, ◌⊎◌, ℕ, ◌<◌, List, [], ◌∷◌, ◌++◌, length, slice_get, Some}
+use Rattle.std.specs.Prelude.{◌≡◌, ◌≢◌, ◌⊎◌, ℕ, ◌<◌, List, [], ◌∷◌, ◌++◌, length, slice_get, Some}
 use Rattle.inno_types.specs.declared.value.Schema.{Schema}
 use Rattle.inno_db.specs.declared.change.Change.{Change}
 use Rattle.inno_model.specs.Past.{own}
 use Rattle.entries.specs.Index.{AreKept}
 use Rattle.row_versions.specs.{Versions.Stays, declared.version.Version.Version}
-use Rattle.law_stored_rows.specs.{Edits.clustered_index, Records.kept_of, Records.LeadTo, Records.IsRecordWith}
+use Rattle.law_stored_rows.specs.{Edits.clustered_index, Records.KeepsMore, Records.kept_of, Records.LeadTo, Records.IsRecordWith}
 use Rattle.world.specs.{State.WorldState, State.Session, State.Work, State.Logged, State.HasWork, Told.IsTold}
 use Rattle.row_changes.specs.{declared.record_change.RecordChange.RecordChange, Edits.change_of}
-use Rattle.law_logged_changes.specs.Logs.{KeepElsewhere, IsLogOf, LogsAgreeBut, records_of}
+use Rattle.law_logged_changes.specs.Logs.{KeepElsewhere, IsLogOf, LogsAgreeBut, IsAloneOf, records_of}
 
 -- ---- a change is made
 
@@ -57,6 +57,14 @@ OfAll u = Unit {0}
 abbrev pub ChangesPairsAlone : WorldState → WorldState → Type 0
 ChangesPairsAlone old new = new ≡ record old { indexes = new.indexes; versions = new.versions; paged = new.paged }
 
+-- One row changes at most: of all others the clustered record is what it was, and the versions that were kept are.
+pub record LeavesOtherRows (table : ℕ) (key : List ℕ) (old new : WorldState) : Type 0 where
+  pub schemas : new.schemas ≡ old.schemas
+  pub told : IsTold new → IsTold old
+  pub records : IsTold new → (other : ℕ) (also : List ℕ) → (other ≢ table) ⊎ (also ≢ key) → records_of new other also ≡ records_of old other also
+  pub kept : IsTold new → (other : ℕ) (also : List ℕ) → (other ≢ table) ⊎ (also ≢ key)
+      → KeepsMore (kept_of old.versions.kept_at other also) (kept_of new.versions.kept_at other also)
+
 -- ---- a change is taken back
 
 -- The undo record's pointer leads to the versions that the record of its row has again.
@@ -75,13 +83,15 @@ pub record MayBeCut (logged : Logged) (log : List Logged) (state : WorldState) :
   pub again : IsTold state → logged.undo.kind ≡ 2 → IsRowAgain logged state
   pub elsewhere : IsTold state → KeepElsewhere logged log
 
--- The newest change of the session is taken back. Its undo record is there yet, on top of this log, and it may go.
+-- The newest change of the session is taken back. Its undo record is there yet, on top of this log, and it may go. No other
+-- session has an undo record of its row.
 pub record IsToCut (s : ℕ) (logged : Logged) (log : List Logged) (before : List Change) (state : WorldState) : Type 0 where
   pub session : Session
   pub work : Work
   pub has_work : HasWork s session work state
   pub log_is : work.log ≡ logged ∷ log
   pub may : MayBeCut logged log state
+  pub alone : IsAloneOf logged.undo.table logged.undo.key s state
   pub logs : LogsAgreeBut s log before state
 
 -- The undo record has gone: the log is this.

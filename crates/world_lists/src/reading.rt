@@ -17,7 +17,7 @@ use row_search::{Came, FoundRow, RowSearch, Sight};
 use shared_lists::{Reading, Searched};
 use sql_plan::Plan;
 use std::alloc::Global;
-use store_api::NoMemory;
+use store_api::{Move, NoMemory};
 use world::EngineWorld;
 
 /// Whether no change of a row is under way, so that all keys say what is there.
@@ -121,8 +121,8 @@ pub fn newest_rows<W: EngineWorld>(
                 drop(search);
                 return Ok(found);
             }
-            Came::Hindered(_why) => return Err(give_up(world, session, search, schema)),
-            Came::Malformed => return Err(give_up(world, session, search, schema)),
+            Came::Hindered(Move::NoMemory) => return Err(give_up(world, session, search, schema)),
+            Came::Hindered(_) | Came::Malformed => unreachable!(),
         }
     }
 }

@@ -214,17 +214,13 @@ impl<W: EngineWorld> SharedLists for WorldLists<W> {
                 drop(on);
                 found_rows(self.alloc, found)
             }
-            Came::Hindered(why) => {
-                drop(why);
+            Came::Hindered(Move::NoMemory) => {
                 let TableSearch { search, schema, .. } = on;
                 search.give_up(&mut self.world, session, &schema);
                 drop(schema);
                 Searched::NoMemory
             }
-            Came::Malformed => {
-                drop(on);
-                Searched::NoMemory
-            }
+            Came::Hindered(_) | Came::Malformed => unreachable!(),
         }
     }
 
