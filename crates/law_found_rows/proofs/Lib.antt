@@ -4,7 +4,6 @@ pub mod Fits
 pub mod Databases
 pub mod Seen
 pub mod Finding
-pub mod Hindrances
 pub mod Showing
 pub mod Covered
 pub mod Latest

@@ -24,12 +24,12 @@ returns-in-Done-clause-found g c = λ chains tells. (reading_ends _ _ _ _ _ _ (c
 
 pub give_up-requires : goal.give_up-requires
 give_up-requires g c =
-    reading_steps _ _ _ _ _ _ (reading_waits _ _ _ _ _ _ (c.reading.invariant c.requires.0 c.requires.1) c.in-Hindered.ensures (g.met.W.EngineWorld.tells
+    reading_steps _ _ _ _ _ _ (reading_waits _ _ _ _ _ _ (c.reading.invariant c.requires.0 c.requires.1) c.in-Hindered-NoMemory.ensures (g.met.W.EngineWorld.tells
     c.advance.new.world).told) (g.met.W.EngineWorld.tells c.advance.new.world).told
 
-pub returns-in-Hindered-clause-moves : goal.returns-in-Hindered-clause-moves
-returns-in-Hindered-clause-moves g c =
-    moves_then (reading_waits _ _ _ _ _ _ (c.reading.invariant c.requires.0 c.requires.1) c.in-Hindered.ensures (g.met.W.EngineWorld.tells
+pub returns-in-Hindered-NoMemory-clause-moves : goal.returns-in-Hindered-NoMemory-clause-moves
+returns-in-Hindered-NoMemory-clause-moves g c =
+    moves_then (reading_waits _ _ _ _ _ _ (c.reading.invariant c.requires.0 c.requires.1) c.in-Hindered-NoMemory.ensures (g.met.W.EngineWorld.tells
     c.advance.new.world).told).moves c.give_up.ensures
 
 pub reading-preserved : goal.reading-preserved
@@ -39,7 +39,3 @@ reading-preserved g c =
 pub reading-smaller : goal.reading-smaller
 reading-smaller g c =
     reading_nears _ _ _ _ _ _ (c.reading.invariant c.requires.0 c.requires.1) c.in-Went.ensures (g.met.W.EngineWorld.tells c.advance.new.world).told
-
--- the world tells each record as one of its table
-pub returns-in-Malformed-clause-moves : goal.returns-in-Malformed-clause-moves
-returns-in-Malformed-clause-moves g c = absurd (c.in-Malformed.ensures.2 (g.met.W.EngineWorld.tells c.reading.world).told.versions)
