@@ -1,20 +1,17 @@
 -- What a session's desk shows of it.
 use Rattle.shared_lists.specs.Tasks as tasks
 use Rattle.std.proofs.Common.{◌≡◌, ◌≢◌, inl, inr, ℕ, zero, suc, ◌+◌, List, [], ◌∷◌, length, Option, None, Some, refl, sym, ap, ◌∙◌, arith, ◌<◌, get_or}
-use Rattle.std.specs.Prelude.{◌-◌, IsSome, slice_index_or, map, slice_set}
-use Rattle.shared_lists.specs.State.{Places, Lists, no_places, task_of, places_before}
-use Rattle.desks.specs.declared.desk.Doing.TheVariants.{Nothing, Searching, Changing, Lagging, Undoing}
-use Rattle.world.specs.Told.{IsTold, pairs_in, pairs_of}
-use Rattle.desks.specs.Desks.{Store, desk_at, doing_at, with_desk, with_doing}
-use Rattle.desks.specs.Searching.{keys_left, visit_left, places_of, places_from}
-use Rattle.desks.specs.Shown.{shown, task_at, task_shown, lists_of}
 use Rattle.std.proofs.{lemmas.Bool.Decides.eqb_tells, lemmas.Option.slice_get-get_or}
-use Rattle.inno_types.specs.{declared.value.Schema.Schema}
-use Rattle.shared_lists.specs.{Tasks.Task}
+use Rattle.std.specs.Prelude.{◌-◌, IsSome, slice_index_or, map, slice_set}
+use Rattle.shared_lists.specs.{State.Places, State.Lists, State.no_places, State.task_of, State.places_before, Tasks.Task}
+use Rattle.desks.specs.declared.desk.Doing.TheVariants.{Nothing, Searching, Changing, Lagging, Undoing}
+use Rattle.desks.specs.Desks.{Store, desk_at, doing_at, with_desk, with_doing}
+use Rattle.desks.specs.{Searching.keys_left, Searching.visit_left, Searching.places_of, Searching.places_from, Shown.shown, Shown.task_at, Shown.task_shown}
+use Rattle.desks.specs.{Shown.lists_of, declared.desk.Desk.Desk, declared.desk.Doing.Doing, declared.desk.TableSearch.TableSearch}
+use Rattle.world.specs.{Told.IsTold, Told.pairs_in, Told.pairs_of, State.WorldState, State.index_of}
+use Rattle.inno_types.specs.declared.value.Schema.{Schema}
 use Rattle.entries.specs.{Pairs.Pair, Index.AreKept}
-use Rattle.row_versions.specs.{Versions.Stays}
-use Rattle.world.specs.{State.WorldState, State.index_of}
-use Rattle.desks.specs.{declared.desk.Desk.Desk, declared.desk.Doing.Doing, declared.desk.TableSearch.TableSearch}
+use Rattle.row_versions.specs.Versions.{Stays}
 
 task_there : (s : ℕ) (state : WorldState) (desks : List Desk) → slice_index_or (map (task_shown state) desks) s tasks.Idle ≡ task_at state (desk_at s desks)
 task_there s state [] = refl

@@ -3,26 +3,25 @@ use Rattle.std.specs.Prelude.{◌≡◌, ◌≢◌, ℕ, ◌+◌, ◌≤◌, ◌
 use Rattle.std.specs.FinMap.{get}
 use Rattle.sql_history.specs.Counts.{rows_in, most_rows}
 use Rattle.inno_model.specs.Past.{own, started, under_way, of_item, awaits_ack, IsOpen}
+use Rattle.inno_model.specs.{declared.event.Event.Event, declared.event.Event.TheVariants.Opened}
 use Rattle.store_api.specs.declared.answers.Undo.{Undo}
 use Rattle.read_view.specs.Sight.{Sight as ReadSight}
-use Rattle.world.specs.State.{WorldState, Session, Work, Logged, Seen, IsSession, HasWork}
+use Rattle.world.specs.{State.WorldState, State.Session, State.Work, State.Logged, State.Seen, State.IsSession, State.HasWork, Undoing.read_into}
 use Rattle.law_world_agreement.specs.Agreement.{Agrees, sight_of}
 use Rattle.shared_lists.specs.Fitting.{CanBeCoded, FitsThen}
 use Rattle.law_found_rows.specs.Finding.{IsFinding, IsFindingAnew}
 use Rattle.desks.specs.declared.desk.Doing.TheVariants.{Searching, Changing, Lagging, Undoing}
+use Rattle.desks.specs.Desks.{Store, desk_at, doing_at, started_at, is_quiet_doing, HasRooms}
+use Rattle.desks.specs.{declared.desk.Desk.Desk, declared.desk.Doing.Doing, declared.desk.TableSearch.TableSearch}
 use Rattle.inno_db.specs.{Database.Database, declared.limits.TheConstants.MOST_TABLES, declared.change.Change.Change}
-use Rattle.inno_model.specs.{declared.event.Event.Event, declared.event.Event.TheVariants.Opened}
 use Rattle.row_versions.specs.{declared.place.Place.Place, Chains.Chains, Chains.in_model, Chains.versions_at}
 use Rattle.law_past_agreement.specs.{Rows.place_in, Agreement.IsOpenedWith}
-use Rattle.world.specs.Undoing.{read_into}
 use Rattle.law_stored_rows.specs.Tables.{what_is_there}
+use Rattle.row_changes.specs.declared.row_change.RowChange.TheVariants.{Record, Keys}
 use Rattle.row_changes.specs.{Told.HasRows, Rows.IsChangingRowAlone, declared.keys_change.KeysChange.KeysChange, declared.row_change.RowChange.RowChange}
-use Rattle.row_changes.specs.{declared.row_change.RowChange.TheVariants.Record, declared.row_change.RowChange.TheVariants.Keys}
 use Rattle.row_search.specs.{declared.sight.Sight.Sight, declared.sight.Sight.TheVariants.View, declared.sight.Sight.TheVariants.Newest}
 use Rattle.undo_apply.specs.{declared.work_room.WorkRoom.WorkRoom, Stages.IsPuttingBack}
 use Rattle.law_logged_changes.specs.Logs.{LogsAgree}
-use Rattle.desks.specs.{declared.desk.Desk.Desk, declared.desk.Doing.Doing, declared.desk.TableSearch.TableSearch, Desks.Store, Desks.desk_at, Desks.doing_at}
-use Rattle.desks.specs.Desks.{started_at, is_quiet_doing, HasRooms}
 
 -- each place has few versions: those of this history, and not too many older ones
 abbrev pub AreFew : Chains → List Event → Type 0

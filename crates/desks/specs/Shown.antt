@@ -1,19 +1,18 @@
 -- What statements see of a store.
+use Rattle.row_search.specs.declared.sight.Sight.TheVariants as sights
+use Rattle.shared_lists.specs.Tasks as tasks
 use Rattle.std.specs.Prelude.{ℕ, List, Option, Some, None, map, slice_get}
 use Rattle.inno_types.specs.declared.value.Schema.{Schema}
 use Rattle.inno_db.specs.declared.change.Change.{Change}
 use Rattle.world.specs.State.{WorldState, Session}
 use Rattle.row_search.specs.declared.sight.Sight.{Sight}
-use Rattle.row_search.specs.declared.sight.Sight.TheVariants as sights
-use Rattle.shared_lists.specs.Tasks as tasks
-use Rattle.shared_lists.specs.State.{Lists}
+use Rattle.shared_lists.specs.declared.answers.Reading.TheVariants.{View, Newest}
+use Rattle.shared_lists.specs.{State.Lists, declared.answers.Reading.Reading, Tasks.Task}
 use Rattle.desks.specs.declared.desk.Doing.TheVariants.{Nothing, Searching, Changing, Lagging, Undoing}
+use Rattle.desks.specs.{declared.desk.Desk.Desk, declared.desk.Doing.Doing, Desks.Store, Desks.doing_in, Undoing.keys_if, Undoing.left_in}
+use Rattle.desks.specs.{Searching.places_from}
 use Rattle.row_changes.specs.{declared.row_change.RowChange.RowChange, declared.row_change.RowChange.TheVariants.Record}
 use Rattle.row_changes.specs.{declared.row_change.RowChange.TheVariants.Keys, Edits.change_of, Rows.row_steps, Rows.table_of}
-use Rattle.shared_lists.specs.{declared.answers.Reading.Reading, declared.answers.Reading.TheVariants.View, declared.answers.Reading.TheVariants.Newest}
-use Rattle.shared_lists.specs.{Tasks.Task}
-use Rattle.desks.specs.{declared.desk.Desk.Desk, declared.desk.Doing.Doing, Desks.Store, Desks.doing_in, Undoing.keys_if}
-use Rattle.desks.specs.{Undoing.left_in, Searching.places_from}
 
 abbrev pub reading_of : Sight → Reading
 reading_of (sights.View view own) = View

@@ -1,27 +1,25 @@
 -- What was found is what the past says.
+use Rattle.row_search.specs.declared.sight.Sight.TheVariants as sights
 use Rattle.std.proofs.Common.{◌≡◌, ◌≢◌, ◌∙◌, sym, ap, ℕ, Bool, List, [], map, Option, Some}
 use Rattle.std.proofs.lemmas.List.Elements.{All-from_recursion}
-use Rattle.std.specs.Prelude.{filter, All}
-use Rattle.std.specs.FinMap.{get}
+use Rattle.std.specs.{Prelude.filter, Prelude.All, FinMap.get}
 use Rattle.inno_db.specs.Database.{Database, rows_of}
 use Rattle.inno_model.specs.Past.{own, view_of, commits, changed}
 use Rattle.entries.specs.Pairs.{Pair}
 use Rattle.sql_plan.specs.Visits.{IsRowOf}
-use Rattle.law_found_rows.proofs.Latest.{at_key, latest}
+use Rattle.law_found_rows.proofs.{Latest.at_key, Latest.latest, Passing.passing_map, Passing.get-passing, Passing.rows_of-passing, Passing.kept_if}
+use Rattle.law_found_rows.proofs.{FoundPlaces.keyed, FoundPlaces.rows_back, FoundPlaces.found_in, FoundPlaces.sorted_found, Fits.each_row, Fits.row_fits}
 use Rattle.world.specs.State.{WorldState, Session, Work, Seen, HasWork}
 use Rattle.law_world_agreement.specs.Agreement.{sight_of, Agrees}
 use Rattle.law_world_agreement.proofs.Readers.{seen_by_view, seen_newest}
-use Rattle.row_search.specs.declared.sight.Sight.TheVariants as sights
 use Rattle.inno_types.specs.{declared.value.Value.Value, declared.value.Schema.Schema}
 use Rattle.row_versions.specs.{declared.kept.Kept.Kept, Chains.Chains, Chains.newest}
 use Rattle.law_stored_rows.specs.{Records.IsClustered, Tables.in_table}
 use Rattle.law_past_agreement.specs.{Rows.seen, DatabaseTables.with_all_tables}
 use Rattle.law_past_agreement.proofs.{Gets.seen_is, Walk.rows_are}
-use Rattle.row_search.specs.{declared.found.FoundRow.FoundRow, declared.sight.Sight.Sight}
-use Rattle.row_search.specs.{Sights.sees_by, Sights.rows_seen, FoundRows.RiseByKey, FoundRows.AreFound}
+use Rattle.row_search.specs.{declared.found.FoundRow.FoundRow, declared.sight.Sight.Sight, Sights.sees_by, Sights.rows_seen, FoundRows.RiseByKey}
+use Rattle.row_search.specs.{FoundRows.AreFound}
 use Rattle.row_search.proofs.{Keys.IsHome, Keys.home, Others.newest_seen}
-use Rattle.law_found_rows.proofs.{Passing.passing_map, Passing.get-passing, Passing.rows_of-passing, Passing.kept_if, FoundPlaces.keyed}
-use Rattle.law_found_rows.proofs.{FoundPlaces.rows_back, FoundPlaces.found_in, FoundPlaces.sorted_found, Fits.each_row, Fits.row_fits}
 
 -- What a reader sees of a table are its rows in this database.
 abbrev pub ShowsDatabase : ℕ → (Value → Option (List Value)) → Database → Type 0

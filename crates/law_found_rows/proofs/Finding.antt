@@ -3,14 +3,13 @@ use Rattle.std.proofs.Common.{◌≡◌, ◌≤◌, ◌<◌, sym, subst, ℕ, le
 use Rattle.inno_types.specs.declared.value.Schema.{Schema}
 use Rattle.entries.specs.Pairs.{Pair}
 use Rattle.store_api.specs.declared.moves.Move.{Move}
-use Rattle.row_search.specs.Searches.{IsSearching, Finds, BeginsWithNothing, MayBegin, place_in}
+use Rattle.row_search.specs.{Searches.IsSearching, Searches.Finds, Searches.BeginsWithNothing, Searches.MayBegin, Searches.place_in, declared.scan.Scan.Scan}
+use Rattle.row_search.specs.{declared.search.RowSearch.RowSearch, Others.KeepsWay, Steps.IsSameScan, Steps.GoesOn, Steps.Waits, Tables.ShowsRows}
 use Rattle.row_search.proofs.Others.{found_still, way_still, searching_still}
 use Rattle.law_found_rows.specs.Finding.{IsFinding, IsFindingAnew, LeavesScan}
 use Rattle.row_versions.specs.{declared.kept.Kept.Kept, Versions.Stays, Chains.Chains}
 use Rattle.law_stored_rows.specs.{Records.KeepsMore, Tables.in_table}
 use Rattle.world.specs.{State.WorldState, Told.IsTold}
-use Rattle.row_search.specs.{declared.scan.Scan.Scan, declared.search.RowSearch.RowSearch, Others.KeepsWay, Steps.IsSameScan, Steps.GoesOn, Steps.Waits}
-use Rattle.row_search.specs.{Tables.ShowsRows}
 
 -- ---- others' steps
 

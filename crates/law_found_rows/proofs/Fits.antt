@@ -1,10 +1,8 @@
 -- The rows of a table in a database, one by one: those that fit the table.
 use Rattle.std.proofs.Common.{◌≡◌, ◌∙◌, sym, ap, subst, ℕ, true, false, cond, List, [], ◌∷◌, map, Some, eqb, ⊎_elim}
-use Rattle.std.proofs.lemmas.Bool.Decides.{eqb_tells}
-use Rattle.std.proofs.lemmas.List.Elements.{All-from_recursion}
+use Rattle.std.proofs.{lemmas.Bool.Decides.eqb_tells, lemmas.List.Elements.All-from_recursion}
 use Rattle.std.specs.Prelude.{filter, ◌==◌, All, slice_get}
-use Rattle.std.specs.List.{AllByRecursion}
-use Rattle.std.specs.FinMap.{get, entries, entries_sorted, get-entries}
+use Rattle.std.specs.{List.AllByRecursion, FinMap.get, FinMap.entries, FinMap.entries_sorted, FinMap.get-entries}
 use Rattle.inno_db.specs.Database.{Database, Place, rows_of}
 use Rattle.key_codec.specs.Keys.{Has64Bits}
 use Rattle.row_codec.specs.Rows.{IsRowOf as IsCodableRow}

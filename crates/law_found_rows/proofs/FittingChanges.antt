@@ -1,13 +1,12 @@
 -- Changes that fitted when they were made fit the tables that there are now.
+use Rattle.inno_model.specs.declared.event.Event.TheVariants as events
 use Rattle.std.proofs.Common.{◌≡◌, ℕ, zero, suc, ◌-◌, Bool, true, false, cond, List, [], ◌∷◌, ◌++◌, length, sym, subst}
-use Rattle.std.specs.Prelude.{All}
 use Rattle.std.proofs.lemmas.List.Elements.{All-nil, All-cons, All-append, All-drop, All-weaker}
+use Rattle.std.specs.Prelude.{All}
 use Rattle.inno_types.specs.declared.value.Schema.{Schema}
 use Rattle.inno_db.specs.declared.change.Change.{Change}
 use Rattle.inno_db.specs.declared.change.Change.TheVariants.{Create, Put, Remove}
-use Rattle.inno_model.specs.declared.event.Event.{Event}
-use Rattle.inno_model.specs.declared.event.Event.TheVariants as events
-use Rattle.inno_model.specs.Past.{own, oldest, committed}
+use Rattle.inno_model.specs.{declared.event.Event.Event, Past.own, Past.oldest, Past.committed}
 use Rattle.law_past_agreement.specs.Order.{created, MayCome, IsOrdered}
 use Rattle.sql_history.specs.Items.{before_turn, own_before}
 use Rattle.law_stored_rows.proofs.Applying.{FitsTables-more}

@@ -1,12 +1,10 @@
 -- Databases of a history whose changes fitted when they were made.
+use Rattle.inno_model.specs.declared.event.Event.TheVariants as events
 use Rattle.std.proofs.Common.{◌≡◌, ℕ, ◌<◌, List, [], ◌∷◌, ◌++◌, length, refl, sym, ap, subst, ◌∙◌}
-use Rattle.std.specs.Prelude.{All}
-use Rattle.std.specs.FinMap.{insert}
 use Rattle.std.proofs.lemmas.List.{append-nil, append_assoc}
 use Rattle.std.proofs.lemmas.List.Elements.{All-nil, All-cons, All-head, All-tail, All-append, All-weaker}
-use Rattle.inno_model.specs.declared.event.Event.{Event}
-use Rattle.inno_model.specs.declared.event.Event.TheVariants as events
-use Rattle.inno_model.specs.Past.{own, commits, committed, opening, changed}
+use Rattle.std.specs.{Prelude.All, FinMap.insert}
+use Rattle.inno_model.specs.{declared.event.Event.Event, Past.own, Past.commits, Past.committed, Past.opening, Past.changed}
 use Rattle.law_past_agreement.proofs.Tables.{key_stays}
 use Rattle.sql_history.specs.Items.{own_before, base}
 use Rattle.sql_lists.specs.Kept.{made, AreInOrder, IsInOrder}
@@ -14,11 +12,11 @@ use Rattle.sql_lists.proofs.Standing.{schemas_after}
 use Rattle.shared_lists.specs.Fitting.{CanBeCoded, FitsWell, FitsThen}
 use Rattle.law_found_rows.proofs.FittingChanges.{none_there, tables_storable, own_fits, own_before_fits, committed_fits}
 use Rattle.inno_types.specs.{declared.value.Value.Value, declared.value.Schema.Schema, declared.stmt.Stmt.Stmt}
-use Rattle.inno_db.specs.{declared.change.Change.Change, declared.change.Change.TheVariants.Create, declared.change.Change.TheVariants.Put}
-use Rattle.inno_db.specs.{declared.change.Change.TheVariants.Remove, Database.Database, Database.key_in, Outcome.outcome}
+use Rattle.inno_db.specs.declared.change.Change.TheVariants.{Create, Put, Remove}
+use Rattle.inno_db.specs.{declared.change.Change.Change, Database.Database, Database.key_in, Outcome.outcome}
 use Rattle.law_past_agreement.specs.{Order.created, Order.IsOrdered, Rows.seen, DatabaseTables.with_all_tables}
 use Rattle.law_stored_rows.specs.{Storable.AreStorable, Fitting.FitsTables, Fitting.AreFitting, Numbers.ChangeHas64Bits, Numbers.Stores64Bits}
-use Rattle.law_stored_rows.proofs.{Applying.AreFitting-apply_one, Applying.AreFitting-changed, Applying.AreFitting-no_rows, Applying.AreFitting-mixed}
+use Rattle.law_stored_rows.proofs.Applying.{AreFitting-apply_one, AreFitting-changed, AreFitting-no_rows, AreFitting-mixed}
 use Rattle.law_stored_rows.proofs.{Numbers.changed-Has64Bits, Numbers.empty-Has64Bits, Numbers.outcome-Has64Bits, Outcomes.outcome-FitsTables}
 
 -- ---- the two parts of what fits

@@ -1,14 +1,8 @@
 -- Rows that were found, each at its key, in the order of places.
 use Rattle.std.proofs.Common.{◌≡◌, ◌∙◌, sym, ap, refl, ℕ, zero, suc, ◌+◌, Bool, true, false, cond, List, [], ◌∷◌, map, Option, None, Some, arith}
-use Rattle.std.proofs.lemmas.Bool.Decides.{nat_tests}
-use Rattle.std.proofs.lemmas.Bool.{and_from}
-use Rattle.std.specs.List.{AllByRecursion}
-use Rattle.std.specs.Ordering.{is_lt, nat_cmp, ordering_then}
-use Rattle.std.specs.FinMap.{find, is_sorted}
-use Rattle.std.specs.FinMap.Entries.{below_all}
-use Rattle.std.specs.declared.cmp.Ordering.{Ordering}
-use Rattle.std.specs.declared.cmp.Ordering.TheVariants.{Less, Equal}
-use Rattle.std.proofs.lemmas.List.Sums.{sum_by-cons}
+use Rattle.std.proofs.{lemmas.Bool.Decides.nat_tests, lemmas.Bool.and_from, lemmas.List.Sums.sum_by-cons}
+use Rattle.std.specs.{List.AllByRecursion, Ordering.is_lt, Ordering.nat_cmp, Ordering.ordering_then, FinMap.find, FinMap.is_sorted, FinMap.Entries.below_all}
+use Rattle.std.specs.{declared.cmp.Ordering.Ordering, declared.cmp.Ordering.TheVariants.Less, declared.cmp.Ordering.TheVariants.Equal}
 use Rattle.inno_db.specs.Database.{place_cmp, value_cmp, key_of}
 use Rattle.entries.specs.Pairs.{key_cmp}
 use Rattle.law_stored_rows.specs.Entries.{is_same_value}

@@ -4,8 +4,7 @@ use Rattle.std.proofs.lemmas.Bool.Decides.{eqb_tells}
 use Rattle.inno_types.specs.declared.value.Value.{Value}
 use Rattle.inno_db.specs.declared.change.Change.{Change}
 use Rattle.row_versions.specs.declared.place.Place.{Place}
-use Rattle.law_past_agreement.specs.Order.{created}
-use Rattle.law_past_agreement.specs.Rows.{is_at, row_at, row_opened, row_seen, IsNewestSeen}
+use Rattle.law_past_agreement.specs.{Order.created, Rows.is_at, Rows.row_at, Rows.row_opened, Rows.row_seen, Rows.IsNewestSeen}
 use Rattle.law_past_agreement.proofs.Rows.{row_at-append}
 use Rattle.inno_model.specs.{declared.event.Event.Event, Past.own, Past.commits, Past.committed}
 

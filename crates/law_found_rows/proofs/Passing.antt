@@ -1,11 +1,9 @@
 -- A database with those rows alone that pass a test.
 use Rattle.std.proofs.Common.{◌≡◌, ◌∙◌, sym, ap, subst, refl, ℕ, Bool, true, false, cond, ◌&&◌, T, List, [], ◌∷◌, map, Option, None, Some, eqb}
 use Rattle.std.specs.Prelude.{filter, ◌==◌}
-use Rattle.std.specs.Ordering.{is_lt, is_eq, eq_by_cmp}
 use Rattle.std.specs.FinMap.{get, find, is_sorted, entries, entries_sorted, get-entries, from_sorted, entries-from_sorted}
-use Rattle.std.specs.FinMap.Entries.{below_all}
-use Rattle.std.specs.declared.cmp.Ordering.{Ordering}
-use Rattle.std.specs.declared.cmp.Ordering.TheVariants.{Less, Equal, Greater}
+use Rattle.std.specs.{Ordering.is_lt, Ordering.is_eq, Ordering.eq_by_cmp, FinMap.Entries.below_all, declared.cmp.Ordering.Ordering}
+use Rattle.std.specs.{declared.cmp.Ordering.TheVariants.Less, declared.cmp.Ordering.TheVariants.Equal, declared.cmp.Ordering.TheVariants.Greater}
 use Rattle.inno_types.specs.declared.value.Value.{Value}
 use Rattle.inno_db.specs.Database.{Database, Place, RowMap, place_cmp, rows_of}
 use Rattle.law_past_agreement.proofs.Walk.{same_places}

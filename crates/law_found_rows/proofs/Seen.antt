@@ -1,27 +1,24 @@
 -- A step of another session leaves what a view shows.
-use Rattle.std.proofs.Common.{◌≡◌, ◌≢◌, ◌∙◌, sym, ap, subst, refl, ℕ, ◌≤◌, true, false, cond, List, [], ◌∷◌, ◌++◌, length, Option, Some, inl, inr, arith}
-use Rattle.std.proofs.lemmas.Bool.Decides.{nat_tests}
-use Rattle.std.proofs.lemmas.List.{append-nil}
-use Rattle.std.specs.Prelude.{option_map}
-use Rattle.std.specs.List.{AllByRecursion}
-use Rattle.inno_db.specs.declared.change.Change.{Change}
 use Rattle.inno_db.specs.declared.change.Change.TheVariants as changes
-use Rattle.inno_model.specs.declared.event.Event.{Event}
 use Rattle.inno_model.specs.declared.event.Event.TheVariants as events
-use Rattle.inno_model.specs.Past.{is_of, own, commits, committed, view_of}
+use Rattle.row_search.specs.declared.sight.Sight.TheVariants as sights
+use Rattle.std.proofs.Common.{◌≡◌, ◌≢◌, ◌∙◌, sym, ap, subst, refl, ℕ, ◌≤◌, true, false, cond, List, [], ◌∷◌, ◌++◌, length, Option, Some, inl, inr, arith}
+use Rattle.std.proofs.{lemmas.Bool.Decides.nat_tests, lemmas.List.append-nil}
+use Rattle.std.specs.{Prelude.option_map, List.AllByRecursion}
+use Rattle.inno_db.specs.declared.change.Change.{Change}
+use Rattle.inno_model.specs.{declared.event.Event.Event, Past.is_of, Past.own, Past.commits, Past.committed, Past.view_of}
 use Rattle.law_stored_rows.specs.Tables.{in_table}
 use Rattle.law_past_agreement.specs.Rows.{is_at, row_at, row_of, row_opened, seen, row_seen}
+use Rattle.law_past_agreement.specs.{Order.created, Order.IsTabled, Order.IsOrdered, Order.IsNoOthers, Agreement.ViewAgrees}
 use Rattle.law_past_agreement.proofs.Tables.{at_stays, own_tabled, committed_tabled}
 use Rattle.law_found_rows.proofs.Latest.{at_key}
 use Rattle.world.specs.State.{WorldState, Session, Work, Seen, HasWork}
 use Rattle.law_world_agreement.specs.Agreement.{sight_of, Agrees}
-use Rattle.row_search.specs.declared.sight.Sight.TheVariants as sights
 use Rattle.row_search.specs.Sights.{rows_seen}
 use Rattle.law_found_rows.specs.Pasts.{AddsAtMostOne}
 use Rattle.inno_types.specs.{declared.value.Value.Value, declared.value.Schema.Schema}
 use Rattle.inno_model.proofs.{Untouched.untouched, Commits.committed_stays, Commits.view_within}
 use Rattle.row_versions.specs.{declared.place.Place.Place, Chains.Chains, Chains.first_seen, Chains.sees}
-use Rattle.law_past_agreement.specs.{Order.created, Order.IsTabled, Order.IsOrdered, Order.IsNoOthers, Agreement.ViewAgrees}
 use Rattle.law_world_agreement.proofs.{Ending.work_of, Readers.seen_by_view}
 
 -- ---- one entry more

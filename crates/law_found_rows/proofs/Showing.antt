@@ -1,19 +1,18 @@
 -- The rows of a table as a world shows them, and the keys of those that a reader sees.
 use Rattle.std.proofs.Common.{◌≡◌, ◌⊎◌, inl, inr, ◌∙◌, sym, ap, subst, refl, ℕ, zero, suc, ◌+◌, ◌≤◌, true, false, cond, List, ◌∷◌, length, Option, None, Some}
 use Rattle.std.proofs.Common.{slice_get, arith}
-use Rattle.std.specs.Prelude.{IsSome}
-use Rattle.std.specs.List.{list_any}
+use Rattle.std.proofs.lemmas.Bool.{cases_Bool}
+use Rattle.std.specs.{Prelude.IsSome, List.list_any}
 use Rattle.entries.specs.Pairs.{Pair}
 use Rattle.row_versions.specs.Chains.{Chains, versions_at, first_seen, older, is_same_place}
+use Rattle.row_versions.specs.{declared.place.Place.Place, declared.version.Version.Version}
 use Rattle.law_stored_rows.specs.Tables.{Said, HasItsColumns, AreCodedAs, AreCoded, LagAt, in_table, what_is_there, TellsOfOlder}
+use Rattle.law_stored_rows.specs.{Edits.clustered_index, Edits.key_index, Entries.value_in, Entries.has_value}
 use Rattle.law_stored_rows.proofs.Values.{same_place}
 use Rattle.row_search.specs.Tables.{most_versions, ShowsTable, HoldsTable, HaveKeys, ShowsRows}
-use Rattle.inno_types.specs.{declared.value.Value.Value, declared.value.Key.Key, declared.value.Schema.Schema}
-use Rattle.row_versions.specs.{declared.place.Place.Place, declared.version.Version.Version}
-use Rattle.law_stored_rows.specs.{Edits.clustered_index, Edits.key_index, Entries.value_in, Entries.has_value}
-use Rattle.world.specs.{State.WorldState, State.index_of, Told.IsTold, Told.pairs_in, Told.pairs_of}
 use Rattle.row_search.specs.{declared.scan.Scan.Scan, declared.sight.Sight.Sight, Sights.sees_by, Sights.rows_seen}
-use Rattle.std.proofs.lemmas.Bool.{cases_Bool}
+use Rattle.inno_types.specs.{declared.value.Value.Value, declared.value.Key.Key, declared.value.Schema.Schema}
+use Rattle.world.specs.{State.WorldState, State.index_of, Told.IsTold, Told.pairs_in, Told.pairs_of}
 use Rattle.row_search.proofs.{Keys.key_there_at, Others.in_clustered, Others.in_keyed, Others.seen_among}
 
 told_pairs : (found : Option (List Pair)) → IsSome found → found ≡ Some (pairs_in found)

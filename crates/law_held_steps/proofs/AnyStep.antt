@@ -91,7 +91,10 @@ module _ (w : ℕ) {chains : Chains} {old new : WorldState} (leaves : LeavesRows
   pub rows_left : (undo : Undo) (room : WorkRoom) (doing : Doing) → RowsHeld chains old w undo room doing → RowsHeld chains new w undo room doing
   rows_left undo room Nothing rows = has_rows_left old new leaves chains rows
   rows_left undo room (Searching on) rows = has_rows_left old new leaves chains rows
-  rows_left undo room (Changing change) rows = (change_left old new leaves w chains (what_is_there chains) change rows.0 session agrees, newest_left change rows.1)
+  rows_left undo room (Changing change) rows = (
+    change_left old new leaves w chains (what_is_there chains) change rows.0 session agrees,
+    newest_left change rows.1,
+  )
   rows_left undo room Lagging rows = record {
     change = rows.change;
     changing = change_left old new leaves w chains (what_is_there chains) (Keys rows.change) rows.changing session agrees;

@@ -4,7 +4,7 @@ use Rattle.std.proofs.Common.{Some, option_map, refl, sym, ap, ◌∙◌, arith}
 use Rattle.row_changes.specs.declared.row_change.RowChange.{RowChange}
 use Rattle.desks.specs.{declared.desk.Desk.Desk, declared.desk.Doing.Doing, declared.desk.Doing.TheVariants.Nothing, declared.desk.Doing.TheVariants.Changing}
 use Rattle.desks.specs.declared.desk.Doing.TheVariants.{Undoing}
-use Rattle.desks.specs.Desks.{desk_at, doing_in, doing_at, started_at, with_desk, with_doing, HasRooms, is_undoing, is_quiet_doing}
+use Rattle.desks.specs.Desks.{desk_at, doing_at, started_at, with_desk, with_doing, HasRooms, is_undoing, is_quiet_doing}
 
 pub desk_here : (s : ℕ) (change : Desk → Desk) (desks : List Desk) → desk_at s (with_desk s change desks) ≡ option_map change (desk_at s desks)
 desk_here s change [] = refl
@@ -29,9 +29,6 @@ pub doing_here : (s : ℕ) (doing : Doing) (desks : List Desk) → s < length de
 doing_here s doing [] within = absurd (omega (arith, within))
 doing_here zero doing (desk ∷ desks) within = refl
 doing_here (suc s) doing (desk ∷ desks) within = doing_here s doing desks (omega (arith, within))
-
-pub doing_elsewhere : (s u : ℕ) (doing : Doing) (desks : List Desk) → u ≢ s → doing_at u (with_doing s doing desks) ≡ doing_at u desks
-doing_elsewhere s u doing desks differs = ap doing_in (desk_elsewhere s u (λ desk. record desk { doing = doing }) desks differs)
 
 -- a desk that isn't there has nothing
 pub doing_mine : (s : ℕ) (doing : Doing) (desks : List Desk)

@@ -2,7 +2,7 @@
 use Rattle.std.proofs.Common.{◌≡◌, ◌≢◌, ℕ, List, Option, Some, None, refl, subst, ◌<◌, true, length, sym, ap, ◌∙◌, arith, ◌+◌, ◌≤◌, ◌^◌, Bool, false, cond, ◌∷◌}
 use Rattle.std.proofs.lemmas.Option.{slice_get_within}
 use Rattle.std.specs.Prelude.{slice_get, IsSomeAnd}
-use Rattle.law_stored_rows.specs.Fitting.{IsKeyFor, FitsTable}
+use Rattle.law_stored_rows.specs.{Fitting.IsKeyFor, Fitting.FitsTable, Tables.what_is_there}
 use Rattle.row_changes.specs.Rows.{primary_of, table_of, place_of, row_steps, IsChangingRowAlone, ChangesRowAlone}
 use Rattle.row_changes.specs.declared.row_edit.RowEdit.TheVariants.{Put, Remove}
 use Rattle.row_changes.specs.Edits.{change_of, FitsEdit, rows_put}
@@ -15,7 +15,6 @@ use Rattle.desks.specs.Desks.{Store, desk_at, doing_in, doing_at, started_in, st
 use Rattle.desks.specs.{Holding.IsHeld, Holding.RowsHeld, Holding.SearchHeld, Holding.AreFew, Holding.IsLastOf, Holding.IsLastIfTold, declared.desk.Desk.Desk}
 use Rattle.desks.specs.{declared.desk.Doing.Doing, declared.desk.Doing.TheVariants.Nothing, declared.desk.Doing.TheVariants.Changing, Undoing.keys_if}
 use Rattle.row_changes.proofs.Alone.{alone_rows, alone_over, keys_alone}
-use Rattle.law_stored_rows.specs.Tables.{Said, what_is_there}
 use Rattle.law_held_steps.proofs.Keeping.{open_work, open_joined, goes_same, goes_changed, leaves_lists, last_of_kept, keeps}
 use Rattle.law_held_steps.proofs.{Desks.given, Desks.there, Desks.started_still, Desks.rooms_then, Desks.changes_at_a_desk, AnyStep.each, AnyStep.quiet_rows_at}
 use Rattle.law_held_steps.proofs.{AnyStep.rows_by_writer, Places.search_as, Putting.rows_mine, Putting.changing_rows, Putting.alone_if}
@@ -30,8 +29,7 @@ use Rattle.law_held_steps.specs.{Making.MakesChange}
 use Rattle.inno_model.specs.{Past.IsOpen, Past.own, Past.started, declared.event.Event.TheVariants.Changed}
 use Rattle.row_versions.specs.Chains.{Chains, versions_at, is_same_place, Pushes}
 use Rattle.row_versions.specs.{declared.place.Place.Place, declared.version.Version.Version}
-use Rattle.law_logged_changes.specs.{GoingOn.KeepsBeside, GoingOn.StaysAgreed, GoingOn.EntersAgreed, GoingOn.EndsAgreed, GoingOn.GoesOnAgreed}
-use Rattle.law_logged_changes.specs.{GoingOn.IsAloneIn, Logs.LogsAgree}
+use Rattle.law_logged_changes.specs.{GoingOn.KeepsBeside, GoingOn.GoesOnAgreed, GoingOn.IsAloneIn, Logs.LogsAgree}
 
 some_there : (found : Option Schema) (P : Schema → Type 0) → IsSomeAnd found P → (schema : Schema) × (found ≡ Some schema) × P schema
 some_there None P fits = absurd fits
@@ -168,10 +166,6 @@ module _ {s : ℕ} {store : Store} {new : WorldState} (held : IsHeld store) (min
   abbrev old : WorldState
   old = store.world
 
-  -- of all places the keys say what is there
-  abbrev there_now : Said
-  there_now = what_is_there held.chains
-
   -- nobody else has changes
   alone : (change : RowChange) → IsAloneIn s old change
   alone (Record change key after) = λ schema found. alone_if held mine (place_of schema change)
@@ -179,11 +173,11 @@ module _ {s : ℕ} {store : Store} {new : WorldState} (held : IsHeld store) (min
 
   logs_now : (change : RowChange) (reached : Reached RowChange) → IsChangingRowAlone s held.chains old change
       → ChangesRowAlone s held.chains old new change reached → LogsAgree new
-  logs_now change reached p c = row_all s held.chains there_now old new change reached p c (alone change) held.logs
+  logs_now change reached p c = row_all s held.chains (what_is_there held.chains) old new change reached p c (alone change) held.logs
 
   goes : (change : RowChange) (reached : Reached RowChange) → IsChangingRowAlone s held.chains old change
-      → ChangesRowAlone s held.chains old new change reached → GoesOnAgreed s held.chains there_now old new change reached
-  goes change reached p c = goes_on s held.chains there_now old new change reached held.agrees (alone change) p c told few
+      → ChangesRowAlone s held.chains old new change reached → GoesOnAgreed s held.chains (what_is_there held.chains) old new change reached
+  goes change reached p c = goes_on s held.chains (what_is_there held.chains) old new change reached held.agrees (alone change) p c told few
 
   -- where nothing is added
   still : (change : RowChange) (reached : Reached RowChange) (beside : KeepsBeside s old new) → IsChangingRowAlone s held.chains old change
@@ -206,7 +200,7 @@ module _ {s : ℕ} {store : Store} {new : WorldState} (held : IsHeld store) (min
   last_logged change key after next row c same =
       let p = row.0 in
       let logged =
-      change_logged s held.chains there_now old new change key next.before after row c.0.0 p.session p.work p.has_work
+      change_logged s held.chains (what_is_there held.chains) old new change key next.before after row c.0.0 p.session p.work p.has_work
       (held.logs.each s p.session p.work p.has_work) in
       record {
         logged = logged.logged;
@@ -230,10 +224,9 @@ module _ {s : ℕ} {store : Store} {new : WorldState} (held : IsHeld store) (min
   pub makes : (change : RowChange) (reached : Reached RowChange) → IsChangingRowAlone s held.chains old change → IsLastIfTold old s change
       → ChangesRowAlone s held.chains old new change reached → MakesChange s store new change reached
   makes (Record change key after) (Went (Record next key' after')) row last c =
-      let a : StaysAgreed s held.chains there_now old new (Record next key' after') =
-      goes (Record change key after) (Went (Record next key' after')) row c in
+      let a = goes (Record change key after) (Went (Record next key' after')) row c in
       let p = row.0 in
-      still (Record change key after) (Went (Record next key' after')) a.beside row c a.past a.agrees refl (λ desk. (a.changing, record {})) (record {
+      still (Record change key after) (Went (Record next key' after')) a.beside row c a.past a.agrees refl (λ desk. (a.holds, record {})) (record {
         adds = record { past = a.past; rows = a.rows };
         change_is = ap Some (ap (λ n. change_of n next.edit) c.0.0.table_is ∙ ap (change_of change.table) c.0.0.edit_is);
         nears =
@@ -241,7 +234,7 @@ module _ {s : ℕ} {store : Store} {new : WorldState} (held : IsHeld store) (min
             (c.1 p.schema p.table.there);
       })
   makes (Record change key after) (Went (Keys next)) row last c =
-      let a : EntersAgreed s held.chains there_now old new change next = goes (Record change key after) (Went (Keys next)) row c in
+      let a = goes (Record change key after) (Went (Keys next)) row c in
       let changing = keys_alone s held.chains a.after old new change key after next row c a.pushes in
       let p = row.0 in
       let entry = change_of change.table change.edit in
@@ -262,28 +255,27 @@ module _ {s : ℕ} {store : Store} {new : WorldState} (held : IsHeld store) (min
       }
   makes (Record change key after) Done row last c = absurd c
   makes (Record change key after) (Hindered same why) row last c =
-      let given = goes (Record change key after) (Hindered same why) row c in
-      let a : StaysAgreed s held.chains there_now old new same = given.1 in
-      let p : IsChangingRowAlone s held.chains new (Record change key after) = subst (IsChangingRowAlone s held.chains new) c.0 a.changing in
+      let a = (goes (Record change key after) (Hindered same why) row c).1 in
+      let p : IsChangingRowAlone s held.chains new (Record change key after) = subst (IsChangingRowAlone s held.chains new) c.0 a.holds in
       still (Record change key after) (Hindered same why) a.beside row c a.past a.agrees refl
       (λ desk. alone_rows s held.chains new change key after p) (record { past = a.past; rows = a.rows }, c.0)
   makes (Keys change) (Went (Record next key after)) row last c = absurd c.0
   makes (Keys change) (Went (Keys next)) row last c =
-      let a : StaysAgreed s held.chains there_now old new (Keys next) = goes (Keys change) (Went (Keys next)) row c in
+      let a = goes (Keys change) (Went (Keys next)) row c in
       let p = row in
       still (Keys change) (Went (Keys next)) a.beside row c a.past a.agrees refl
-      (λ desk. (a.changing, last_of_kept held mine a.beside next a.past c.0.table_is c.0.key_is last)) (record {
+      (λ desk. (a.holds, last_of_kept held mine a.beside next a.past c.0.table_is c.0.key_is last)) (record {
         adds = record { past = a.past; rows = a.rows };
         change_is = refl;
         nears = nears_by old new (Keys change) (Keys next) p.schema a.beside.schemas c.0.table_is p.table.there (c.1 p.schema p.table.there);
       })
   makes (Keys change) Done row last c =
-      let a : EndsAgreed s held.chains there_now old new (Keys change) = goes (Keys change) Done row c in
-      still (Keys change) Done a.beside row c a.past a.agrees refl (λ desk. alone_over s held.chains old new change row c) (record { past = a.past; rows = a.rows }, refl)
+      let a = goes (Keys change) Done row c in
+      still (Keys change) Done a.beside row c a.past a.agrees refl (λ desk. alone_over s held.chains old new change row c)
+      (record { past = a.past; rows = a.rows }, refl)
   makes (Keys change) (Hindered same why) row last c =
-      let given = goes (Keys change) (Hindered same why) row c in
-      let a : StaysAgreed s held.chains there_now old new same = given.1 in
-      let p : IsChangingRowAlone s held.chains new (Keys change) = subst (IsChangingRowAlone s held.chains new) c.0 a.changing in
+      let a = (goes (Keys change) (Hindered same why) row c).1 in
+      let p : IsChangingRowAlone s held.chains new (Keys change) = subst (IsChangingRowAlone s held.chains new) c.0 a.holds in
       still (Keys change) (Hindered same why) a.beside row c a.past a.agrees refl
       (λ desk. record { change = change; changing = p; newest = last_of_kept held mine a.beside change a.past refl refl last })
       (record { past = a.past; rows = a.rows }, c.0)

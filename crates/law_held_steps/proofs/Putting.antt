@@ -6,8 +6,8 @@ use Rattle.std.proofs.Common.{[], ◌≡◌, ◌≤◌, true, false, List, ◌�
 use Rattle.std.proofs.Common.{Bool, ◌+◌, ◌*◌, ◌^◌, ◌<◌, inl, inr, ◌⊎◌, cond, ◌-◌, map, eq-eqb}
 use Rattle.std.proofs.{lemmas.Bool.cases_eq, lemmas.Bool.Decides.nat_tests, lemmas.List.length-set, lemmas.List.set-set}
 use Rattle.world.specs.State.{WorldState, Logged, Session, Work, HasWork, IsSession, standing_of}
-use Rattle.world.specs.Undoing.{read_into, ReadsLast, newest, IsRead, HoldsRecord, IsCutBack}
-use Rattle.world.specs.{Told.IsTold, Told.pairs_of, Told.TellsTogether, Told.LeavesRows, declared.undo_room.UndoRoom.UndoRoom, Memory.IsInMemory, Sessions.undone_added}
+use Rattle.world.specs.{Undoing.read_into, Undoing.ReadsLast, Undoing.newest, Undoing.IsRead, Undoing.HoldsRecord, Undoing.IsCutBack, Told.IsTold}
+use Rattle.world.specs.{Told.pairs_of, Told.TellsTogether, Told.LeavesRows, declared.undo_room.UndoRoom.UndoRoom, Memory.IsInMemory, Sessions.undone_added}
 use Rattle.desks.specs.Holding.{RowsHeld, RowsHeldAt, RowsHeldBy, IsLast, IsLastIfTold, IsLagging, SearchHeld, IsHeld, IsGoingBack, WriterAgrees}
 use Rattle.desks.specs.Undoing.{left_at, keys_if, undo_left_in, most_versions, left_in}
 use Rattle.desks.specs.declared.desk.Doing.TheVariants.{Nothing, Changing, Lagging, Undoing}
@@ -20,10 +20,10 @@ use Rattle.law_logged_changes.proofs.{TakenBack.taken as taken_back, TakenBack.t
 use Rattle.law_held_steps.proofs.AnyStep.{some_same, last_left, held_beside, rows_left, last_log, rows_by_writer, waits_not, held_after}
 use Rattle.law_held_steps.proofs.{Desks.IsGiven, Desks.is_given, Desks.given_then, Keeping.open_work, Showing.settings_same, Showing.shows_now}
 use Rattle.undo_apply.specs.Stages.{Stops, StopsAt, IsPuttingBack, GoesOn, IsHindered, IsDone, PutsBack, StageHolds, WalksOn}
+use Rattle.undo_apply.specs.Standing.{versions_before, HasWalked, IsTakenBack, said_but}
 use Rattle.undo_apply.specs.{declared.work_room.Stage.Stage, Rooms.IsWhole, Rooms.steps_left, declared.work_room.WorkRoom.WorkRoom}
-use Rattle.undo_apply.specs.{declared.work_room.Stage.TheVariants.Walk, declared.work_room.Stage.TheVariants.Find, Told.rows_of, Standing.versions_before}
-use Rattle.undo_apply.specs.Standing.{HasWalked, IsTakenBack, said_but}
-use Rattle.undo_apply.proofs.Taken.{as_all}
+use Rattle.undo_apply.specs.{declared.work_room.Stage.TheVariants.Walk, declared.work_room.Stage.TheVariants.Find, Told.rows_of}
+use Rattle.undo_apply.proofs.{Taken.as_all, Hindrances.never_hindered, Telling.leaves_told, Columns.few_keys}
 use Rattle.law_held_steps.specs.Undoing.{HasPutBack, HasLast, IsReady, TakesBackIn}
 use Rattle.row_versions.specs.Chains.{Chains, older, versions_at, with_versions, is_same_place, Pops}
 use Rattle.row_versions.specs.{declared.place.Place.Place, declared.version.Version.Version, declared.kept.Kept.Kept, Versions.Stays}
@@ -36,17 +36,15 @@ use Rattle.inno_types.specs.declared.value.Schema.{Schema}
 use Rattle.world.proofs.Memory.{no_pages}
 use Rattle.law_stored_rows.specs.{Records.LeadTo, Tables.Said, Tables.what_is_there}
 use Rattle.law_stored_rows.proofs.Tables.{popped_elsewhere}
-use Rattle.row_changes.proofs.Telling.{rows_beside}
+use Rattle.row_changes.proofs.{Telling.rows_beside, Sessions.same_pairs, Sessions.same_versions}
 use Rattle.desks.proofs.{Counting.versions_most, Counting.versions_are, Showing.task_is}
 use Rattle.row_changes.specs.{Awaited.IsAwaitedAlone, Told.HasRows, Rows.IsChangingRowAlone, declared.row_change.RowChange.RowChange}
 use Rattle.std.specs.{Prelude.is_some, Prelude.slice_set, List.list_any}
 use Rattle.store_api.specs.{declared.answers.Undo.Undo, declared.moves.Move.Move, declared.moves.Move.TheVariants.Done, declared.moves.Move.TheVariants.Step}
 use Rattle.inno_db.specs.{declared.change.Change.Change, declared.change.Change.TheVariants.Create}
-use Rattle.undo_apply.proofs.{Hindrances.never_hindered, Telling.leaves_told, Columns.few_keys}
 use Rattle.inno_model.proofs.Untouched.{untouched}
 use Rattle.entries.specs.Index.{Index}
 use Rattle.law_past_agreement.proofs.Rows.{own_undone}
-use Rattle.row_changes.proofs.Sessions.{same_pairs, same_versions}
 use Rattle.law_world_agreement.specs.{Agreement.Agrees, Steps.IsTakenBackBy}
 use Rattle.law_world_agreement.proofs.{Opening.set_here, Opening.set_other, Changing.one_session, Changing.one_work, Entries.taken_back_agrees}
 
@@ -267,7 +265,7 @@ module _ (chains : Chains) (state : WorldState) (s : ℕ) (room : WorkRoom) (rea
     settled : HasRows chains state → IsGoingBack chains state s read room
     settled coded =
         let log = last_log agree last in
-        going_if logged place last (begins_settled chains state logged last.log last.change last.before place room log last.place_is
+        going_if logged place last (begins_settled state logged last.log last.change last.before place log last.place_is chains room
         (rows_beside chains place state coded) whole anew)
 
     lagging : IsLagging chains state s → IsGoingBack chains state s read room
@@ -275,8 +273,8 @@ module _ (chains : Chains) (state : WorldState) (s : ℕ) (room : WorkRoom) (rea
         let lag = rows.newest in
         let last = lag.last in
         let log = last_log agree last in
-        let tells = tells_of_it chains state lag.logged last.log last.change last.before lag.place room log last.place_is in
-        going_if lag.logged lag.place last (begins_lagging chains state lag.logged last.log last.change last.before lag.place room log last.place_is
+        let tells = tells_of_it state lag.logged last.log last.change last.before lag.place log last.place_is in
+        going_if lag.logged lag.place last (begins_lagging state lag.logged last.log last.change last.before lag.place log last.place_is chains room
         rows.change rows.changing (sym lag.table_is ∙ tells.table_is) (sym lag.key_is) whole anew)
 
     by_doing : (undo : Undo) (other : WorkRoom) (doing : Doing) → IsReady doing → RowsHeld chains state s undo other doing
@@ -405,7 +403,8 @@ module _ (s : ℕ) {store : Store} (held : IsHeld store) where
         held_on memory later =
             let stays = still_putting in
             held_given s held mine stays.leaves memory.told later.told (is_given s (λ d. record d { room = next }) store.desks goes_back.at refl)
-            (undoing_rows stays) (step_all held.chains (what_is_there held.chains) going.place s (read_into undo) room next old new answer answers not_done held.logs)
+            (undoing_rows stays) (step_all held.chains (what_is_there held.chains) going.place s (read_into undo) room next old new answer answers
+            not_done held.logs)
             (subst (λ doing. SearchHeld held.chains (record store { world = new; desks = with_room s next store.desks }) s doing) (sym is_busy) (record {}))
             (record {
               record_room = (held.rooms s desk goes_back.at).record_room;
@@ -658,7 +657,8 @@ module _ (s : ℕ) {store : Store} (held : IsHeld store) (busy : doing_at s stor
         rows_now =
             has_rows_left cut new entry_leaves after
             (λ told. as_all cut.schemas (pairs_of cut) cut.versions.kept_at after (what_is_there held.chains) back_to.place
-            (rows_as_cut s mid cut back_to.logged last.log last.before to_cut back after (said_but (what_is_there held.chains) back_to.place (λ which. versions_at back_to.place after))
+            (rows_as_cut s mid cut back_to.logged last.log last.before to_cut back after
+            (said_but (what_is_there held.chains) back_to.place (λ which. versions_at back_to.place after))
             (λ at. (taken_then at).all) told)
             (λ table which value apart. popped_elsewhere held.chains after back_to.place pops (record { table = table; key = value }) apart))
 

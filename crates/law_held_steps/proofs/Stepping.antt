@@ -6,8 +6,8 @@ use Rattle.std.proofs.{lemmas.Bool.cases_lt, lemmas.Bool.false≢true, lemmas.Bo
 use Rattle.std.specs.Prelude.{is_some, option_map, ◌||◌, ◌≤◌, ◌==◌, ◌-◌, filter, ◌<◌}
 use Rattle.std.specs.List.{list_any}
 use Rattle.inno_model.specs.Past.{own, IsOpen, view_of, commits, changed}
-use Rattle.law_stored_rows.proofs.Values.{place_itself, one_key}
-use Rattle.undo_apply.specs.{Told.rows_of as told_rows, Standing.IsTakenBack}
+use Rattle.law_stored_rows.proofs.Values.{place_itself}
+use Rattle.undo_apply.specs.{Told.rows_of as told_rows, Standing.IsTakenBack, declared.work_room.WorkRoom.WorkRoom}
 use Rattle.undo_apply.proofs.Taken.{whole_yet}
 use Rattle.desks.specs.Holding.{IsLast, IsOwnView, IsLastOf, RowsHeld, RowsHeldAt, RowsHeldBy, SightHolds, IsHeld, FindsSince, IsSearchHeld, SearchHeld}
 use Rattle.desks.specs.declared.desk.Doing.TheVariants.{Nothing, Searching, Changing, Lagging, Undoing}
@@ -18,15 +18,14 @@ use Rattle.law_stored_rows.specs.Tables.{Said, HasItsColumns, in_table, what_is_
 use Rattle.law_held_steps.proofs.Places.{none_moves, held_stays, moves_then, moves_in_one, moves_nothing, leaving_moves, moves_leave, moves_told}
 use Rattle.law_held_steps.proofs.Nearing.{IsLess, keys_before, visit_before, keys_anew, steps_nearer, still_nearer, anew_nearer, nearer_in}
 use Rattle.law_held_steps.proofs.{AnyStep.some_same, AnyStep.last_log, AnyStep.quiet_rows_at, Keeping.open_work, Putting.others_clean}
-use Rattle.law_found_rows.proofs.{Showing.shows_coded, Showing.shows_lagging, Showing.lags_at_one, Showing.holds_table, Showing.shows_clustered, Finding.begins}
-use Rattle.law_found_rows.proofs.{Finding.may_come_anew, Finding.goes_on, Finding.waits_on, Databases.found_by_view, Databases.found_newest}
-use Rattle.row_versions.specs.Chains.{Chains, versions_at, sees}
-use Rattle.row_versions.specs.{declared.place.Place.Place, declared.version.Version.Version}
+use Rattle.law_found_rows.proofs.Showing.{shows_coded, shows_lagging, lags_at_one, holds_table, shows_clustered}
+use Rattle.law_found_rows.proofs.{Finding.begins, Finding.may_come_anew, Finding.goes_on, Finding.waits_on, Databases.found_by_view, Databases.found_newest}
+use Rattle.row_versions.specs.{Chains.Chains, Chains.versions_at, Chains.sees, declared.place.Place.Place, declared.version.Version.Version}
 use Rattle.law_past_agreement.specs.Rows.{is_at, is_place, row_of, row_opened, seen}
 use Rattle.law_past_agreement.specs.{Agreement.AreVersionsBy, Agreement.ViewAgrees, Agreement.versions_of, Ids.id_of, DatabaseTables.with_all_tables}
 use Rattle.world.specs.State.{WorldState, Logged, Session, Work, Seen, HasWork, id_of as work_id, standing_of, index_of}
 use Rattle.world.specs.{Told.IsTold, Told.pairs_of, Undoing.read_into, Sessions.IsShown, Indexes.Calls}
-use Rattle.law_logged_changes.specs.{Logs.records_of, Logs.Stands, Logs.LogsAgree, Lagging.LagsAt}
+use Rattle.law_logged_changes.specs.{Logs.LogsAgree, Lagging.LagsAt}
 use Rattle.row_search.specs.{Searches.BeginsWithNothing, Searches.MayBegin, Searches.IsSearching, Searches.place_in, Steps.IsSameScan, Steps.GoesOn}
 use Rattle.row_search.specs.{Steps.Waits, Steps.Ends, declared.scan.Scan.Scan, Sights.sees_by, Sights.rows_seen, Tables.ShowsRows, Tables.most_versions}
 use Rattle.row_search.specs.{declared.sight.Sight.Sight, declared.sight.Sight.TheVariants.View, declared.sight.Sight.TheVariants.Newest}
@@ -39,15 +38,12 @@ use Rattle.read_view.specs.Sight.{is_seen, Sight as ReadSight}
 use Rattle.law_past_agreement.proofs.Ids.{AreIds, ids_of}
 use Rattle.law_world_agreement.specs.Agreement.{sight_of, Agrees}
 use Rattle.law_world_agreement.proofs.Ending.{work_of}
-use Rattle.key_codec.specs.Keys.{HasKey, key_code}
 use Rattle.row_changes.proofs.Alone.{alone_rows}
 use Rattle.store_api.specs.{declared.answers.Undo.Undo, declared.moves.Move.Move}
-use Rattle.inno_types.specs.{declared.value.Value.Value, declared.value.Column.Column, declared.value.Schema.Schema, Order.IsBelow, declared.stmt.Range.Range}
-use Rattle.inno_types.specs.{Ranges.is_within}
+use Rattle.inno_types.specs.{declared.value.Value.Value, declared.value.Schema.Schema, Order.IsBelow, declared.stmt.Range.Range, Ranges.is_within}
 use Rattle.row_changes.specs.declared.row_change.RowChange.TheVariants.{Record, Keys}
 use Rattle.row_changes.specs.{declared.keys_change.KeysChange.KeysChange, Keys.IsChangingKeys, Told.AreRowsAs}
-use Rattle.law_logged_changes.proofs.{Lags.lags, Lags.lags_while, Logs.newest_stands, Leaving.rows_left}
-use Rattle.undo_apply.specs.{Standing.TellsOf, declared.work_room.WorkRoom.WorkRoom}
+use Rattle.law_logged_changes.proofs.{Beginning.tells_of_it, Beginning.keys_place, Lags.lags, Lags.lags_while, Leaving.rows_left}
 use Rattle.sql_plan.specs.{declared.choice.Plan.Plan, Plans.whole_index, Visits.index_key}
 use Rattle.law_found_rows.specs.Finding.{IsFinding, IsFindingAnew}
 use Rattle.entries.specs.Calls.{Leaves}
@@ -118,35 +114,6 @@ module _ {chains : Chains} {state : WorldState} (agrees : Agrees chains state) {
           → sees reader view (id_of state.past w) ≡ false
       tells reader_is apart unseen = grind (arith, nat_tests, reader_is, apart, unseen)
 
-module _ {state : WorldState} (logs : LogsAgree state) {w : ℕ} {logged : Logged} {place : Place} (last : IsLast state w logged place) where
-  last_stands : Stands (IsTold state) state.schemas (records_of state) state.versions.kept_at logged last.log last.change
-  last_stands =
-      (newest_stands (IsTold state) state.schemas (records_of state) state.versions.kept_at logged last.log last.change last.before place last.place_is
-      (last_log logs last)).0
-
-  last_tells : TellsOf logged.undo last_stands.schema place state.schemas
-  last_tells =
-      subst (λ p. TellsOf logged.undo last_stands.schema p state.schemas) (some_same last_stands.place place (sym last_stands.place_is ∙ last.place_is))
-      last_stands.tells
-
-  -- the place at which keys are changed
-  pub keys_place : {chains : Chains} {change : KeysChange}
-      (p : IsChangingKeys chains (what_is_there chains) state change) → place.table ≡ change.table
-      → logged.undo.key ≡ change.key → place ≡ record { table = change.table; key = p.value }
-  keys_place {change} p table_is key_is =
-      let tells = last_tells in
-      let one_table : logged.undo.table ≡ change.table = sym tells.table_is ∙ table_is in
-      let same_schema : last_stands.schema ≡ p.schema =
-      some_same last_stands.schema p.schema (sym tells.there ∙ (ap (slice_get state.schemas) one_table ∙ p.table.there)) in
-      let same_column : tells.primary ≡ p.at.column
-      = some_same tells.primary p.at.column (sym tells.primary_is ∙ (ap (λ (schema : Schema). slice_get schema.columns schema.primary) same_schema
-      ∙ p.at.primary)) in
-      let spelled : key_code p.at.column.kind place.key ≡ key_code p.at.column.kind p.value
-      = ap (λ (column : Column). key_code column.kind place.key) (sym same_column) ∙ (sym tells.key_is ∙ (key_is ∙ p.at.spelled)) in
-      let key : place.key ≡ p.value
-      = one_key p.at.column.kind place.key p.value (subst (λ (column : Column). HasKey column.kind place.key) same_column tells.has_key) p.at.has_key spelled in
-      λ i. record { table = table_is i; key = key i }
-
 -- ---- what is shown while keys lag
 
 pub shows_changing : {schema : Schema} (scan : Scan) {state : WorldState} {chains : Chains} {change : KeysChange}
@@ -157,8 +124,13 @@ shows_changing {schema} scan {state} {chains} {change} p told there columns le u
     let rows = p.rows told in
     let pushed = p.pushed in
     shows_lagging state chains rows.0 told rows.1 schema scan there columns le (lags_at_one rows.2.lag
-    (record
-    { version = pushed.version; others = p.older; newest_is = pushed.versions; tells = lags change.put change.before pushed.version pushed.versions rows.2; unseen = unseen }))
+    (record {
+      version = pushed.version;
+      others = p.older;
+      newest_is = pushed.versions;
+      tells = lags change.put change.before pushed.version pushed.versions rows.2;
+      unseen = unseen;
+    }))
 
 abbrev pub HasSome : Chains → WorldState → Type 0
 HasSome chains state = (said : Said) × AreRowsAs chains said state
@@ -221,7 +193,9 @@ module _ {chains : Chains} (store : Store) (agrees : Agrees chains store.world) 
       → ShowsRows schema scan state (in_table scan.table chains)
   shows_keys {change} p own =
       let by : IsWrittenBy chains own.place (id_of state.past w) = written agrees own.last in
-      let at : own.place ≡ record { table = change.table; key = p.value } = keys_place logs own.last p own.table_is own.key_is in
+      let last = own.last in
+      let tells = tells_of_it state own.logged last.log last.change last.before own.place (last_log logs last) last.place_is in
+      let at = sym (keys_place chains state tells change p (sym own.table_is ∙ tells.table_is) (sym own.key_is)) in
       let one : p.pushed.version ≡ by.version = (let same : p.pushed.version ∷ p.older ≡ by.version ∷ by.others =
       sym p.pushed.versions ∙ (ap (λ (place : Place). versions_at place chains) (sym at) ∙ by.versions) in cc) in
       shows_changing scan p told there columns le (ap (λ (version : Version). sees_by scan.sight version.writer) one ∙ (ap (sees_by scan.sight) by.writer_is

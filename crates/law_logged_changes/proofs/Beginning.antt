@@ -5,19 +5,18 @@ use Rattle.std.proofs.lemmas.Bool.{cases_order}
 use Rattle.inno_types.specs.{declared.value.Value.Value, declared.value.Column.Column, declared.value.Schema.Schema}
 use Rattle.inno_db.specs.declared.change.Change.{Change}
 use Rattle.key_codec.specs.Keys.{HasKey, key_code}
-use Rattle.row_versions.specs.{declared.place.Place.Place, declared.version.Version.Version, Chains.Chains, Chains.versions_at, Chains.older}
-use Rattle.law_stored_rows.specs.{Records.shown, Tables.Said, Tables.AreCodedAs, Tables.SayTheSameBut, Records.kept_of}
-use Rattle.law_stored_rows.proofs.Values.{one_key}
+use Rattle.row_versions.specs.Chains.{Chains, versions_at, older}
+use Rattle.row_versions.specs.{declared.place.Place.Place, declared.version.Version.Version, declared.kept.Kept.Kept}
+use Rattle.law_stored_rows.specs.{Records.shown, Records.kept_of, Tables.Said, Tables.AreCodedAs, Tables.SayTheSameBut}
+use Rattle.law_stored_rows.proofs.{Values.one_key, KeptRows.found_of}
 use Rattle.law_past_agreement.specs.Rows.{place_in}
 use Rattle.world.specs.{State.WorldState, State.Logged, Told.IsTold, Told.pairs_of}
 use Rattle.row_changes.specs.Keys.{IsChangingKeys, IsPushed, HasRowsSoFar, SaySoFar, gone, said_next}
 use Rattle.row_changes.specs.{declared.entry_put.EntryPut.EntryPut, declared.keys_change.KeysChange.KeysChange, Told.HasRowsBeside, Edits.IsKeyAt}
 use Rattle.undo_apply.specs.Standing.{TellsOf, IsNewest, LeadsBack, versions_before, IsLagging, IsUnderWay}
-use Rattle.store_api.specs.declared.answers.Undo.{Undo}
-use Rattle.row_versions.specs.declared.kept.Kept.{Kept}
-use Rattle.law_stored_rows.proofs.KeptRows.{found_of}
 use Rattle.undo_apply.specs.{declared.work_room.WorkRoom.WorkRoom, declared.work_room.Stage.Stage, declared.work_room.Stage.TheVariants.Find, Rooms.IsWhole}
 use Rattle.undo_apply.specs.{Told.rows_of, Stages.FitsKeys, Stages.StageHolds, Stages.IsPuttingBack}
+use Rattle.store_api.specs.declared.answers.Undo.{Undo}
 use Rattle.undo_apply.proofs.{Columns.newest_read, Taken.as_but}
 use Rattle.law_logged_changes.specs.Logs.{records_of, HasRecord, Stands, IsLogOf}
 use Rattle.law_logged_changes.proofs.Logs.{newest_stands}
@@ -28,6 +27,26 @@ abbrev at : ℕ → Value → Place
 at table value = record { table = table; key = value }
 
 -- ---- the newest record
+
+-- the keys of the undo record's row are changed at its place
+module _ (chains : Chains) (state : WorldState) {beside : Said} {undo : Undo} {schema : Schema} {place : Place}
+    (tells : TellsOf undo schema place state.schemas)
+    (keys : KeysChange) (is : IsChangingKeys chains beside state keys) (table_is : keys.table ≡ undo.table) (key_is : keys.key ≡ undo.key) where
+  one_schema : is.schema ≡ schema
+  one_schema = let there : slice_get state.schemas undo.table ≡ Some is.schema = ap (slice_get state.schemas) (sym table_is) ∙ is.table.there in let also =
+      tells.there in cc
+
+  key_at : IsKeyAt schema is.value undo.key
+  key_at = subst (λ (k : List ℕ). IsKeyAt schema is.value k) key_is (subst (λ (x : Schema). IsKeyAt x is.value keys.key) one_schema is.at)
+
+  one_value : is.value ≡ place.key
+  one_value =
+      let column : key_at.column ≡ tells.primary = let first = key_at.primary in let second = tells.primary_is in cc in
+      one_key tells.primary.kind is.value place.key (subst (λ (c : Column). HasKey c.kind is.value) column key_at.has_key) tells.has_key
+      (sym (subst (λ (c : Column). undo.key ≡ key_code c.kind is.value) column key_at.spelled) ∙ tells.key_is)
+
+  pub keys_place : at keys.table is.value ≡ place
+  keys_place = let table = table_is ∙ sym tells.table_is in λ i. record { table = table i; key = one_value i }
 
 -- what is kept of the row is kept
 led_back : (undo : Undo) (kept : ℕ → Option Kept) (pointer : ℕ) → LeadsBack undo (kept_of kept undo.table undo.key) pointer → LeadsBack undo kept pointer
@@ -70,7 +89,8 @@ module _ (chains : Chains) (state : WorldState) (logged : Logged) (place : Place
   next_lags newest (Some put) (Some row) before = inl (inr (gone, refl, refl))
 
   -- where a change of the place hasn't come to its end, its keys lag too
-  so_far : {beside : Said} (said : Said) (done : ℕ) (put : Option EntryPut) (row : Option (List Value)) (before : List Version) → versions_before chains place ≡ before
+  so_far : {beside : Said} (said : Said) (done : ℕ) (put : Option EntryPut) (row : Option (List Value)) (before : List Version)
+      → versions_before chains place ≡ before
       → SaySoFar chains beside place done (said_next put row before) before said
       → versions_at place chains ≡ shown has.coded ∷ versions_before chains place
       → (which : ℕ) → IsLagging (shown has.coded) (versions_before chains place) (said place.table which place.key)
@@ -83,28 +103,12 @@ module _ (chains : Chains) (state : WorldState) (logged : Logged) (place : Place
   pub way_lagging : {beside : Said} (keys : KeysChange) → IsChangingKeys chains beside state keys → keys.table ≡ logged.undo.table
       → keys.key ≡ logged.undo.key → IsTold state → Way beside
   way_lagging {beside} keys is table_is key_is told =
+      let here = keys_place chains state tells keys is table_is key_is in
       let rows = subst (λ (p : Place). HasRowsSoFar chains beside p keys.which (said_next keys.put keys.before is.older) is.older state)
       here is.rows told in
       let pushed = subst (λ (p : Place). IsPushed chains p is.older keys.after) here is.pushed in
       way_from beside rows.0 rows.1 rows.2.lag
       (so_far rows.0 keys.which keys.put keys.before is.older (ap older pushed.versions) rows.2 (versions_are rows.0 rows.1))
-    where
-      one_schema : is.schema ≡ schema
-      one_schema =
-          let there : slice_get state.schemas logged.undo.table ≡ Some is.schema = ap (slice_get state.schemas) (sym table_is) ∙ is.table.there in let also =
-          tells.there in cc
-
-      key_at : IsKeyAt schema is.value logged.undo.key
-      key_at = subst (λ (k : List ℕ). IsKeyAt schema is.value k) key_is (subst (λ (x : Schema). IsKeyAt x is.value keys.key) one_schema is.at)
-
-      one_value : is.value ≡ place.key
-      one_value =
-          let column : key_at.column ≡ tells.primary = let first = key_at.primary in let second = tells.primary_is in cc in
-          one_key tells.primary.kind is.value place.key (subst (λ (c : Column). HasKey c.kind is.value) column key_at.has_key) tells.has_key
-          (sym (subst (λ (c : Column). logged.undo.key ≡ key_code c.kind is.value) column key_at.spelled) ∙ tells.key_is)
-
-      here : at keys.table is.value ≡ place
-      here = let table = table_is ∙ sym tells.table_is in λ i. record { table = table i; key = one_value i }
 
 -- ---- a taking back begins
 
@@ -120,7 +124,7 @@ begins chains beside place room state logged schema tells whole stage holds = re
   holds = λ told. subst (λ (s : Stage). StageHolds chains beside place logged.undo schema (rows_of state) room.newest.items s) (sym stage) (holds told);
 }
 
-module _ (chains : Chains) (state : WorldState) (logged : Logged) (log : List Logged) (change : Change) (own : List Change) (place : Place) (room : WorkRoom)
+module _ (state : WorldState) (logged : Logged) (log : List Logged) (change : Change) (own : List Change) (place : Place)
     (log_is : IsLogOf state (logged ∷ log) (change ∷ own)) (place_is : place_in state.schemas change ≡ Some place) where
   pub top : Stands (IsTold state) state.schemas (records_of state) state.versions.kept_at logged log change
   top = (newest_stands (IsTold state) state.schemas (records_of state) state.versions.kept_at logged log change own place place_is log_is).0
@@ -128,14 +132,15 @@ module _ (chains : Chains) (state : WorldState) (logged : Logged) (log : List Lo
   pub tells_of_it : TellsOf logged.undo top.schema place state.schemas
   tells_of_it = subst (λ (p : Place). TellsOf logged.undo top.schema p state.schemas) (one_found top.place place top.place_is place_is) top.tells
 
-  pub begins_settled : {beside : Said} → HasRowsBeside chains beside place state → IsWhole room → room.stage ≡ Find
-      → IsPuttingBack chains beside place logged.undo room state
-  begins_settled {beside} rows whole stage =
-      begins chains beside place room state logged top.schema tells_of_it whole stage
-      (λ told. let has = top.record_is told in inl (has.bytes, has.coded, way_settled chains state logged place top.schema tells_of_it has rows told))
+  module _ (chains : Chains) (room : WorkRoom) where
+    pub begins_settled : {beside : Said} → HasRowsBeside chains beside place state → IsWhole room → room.stage ≡ Find
+        → IsPuttingBack chains beside place logged.undo room state
+    begins_settled {beside} rows whole stage =
+        begins chains beside place room state logged top.schema tells_of_it whole stage
+        (λ told. let has = top.record_is told in inl (has.bytes, has.coded, way_settled chains state logged place top.schema tells_of_it has rows told))
 
-  pub begins_lagging : {beside : Said} (keys : KeysChange) → IsChangingKeys chains beside state keys → keys.table ≡ logged.undo.table
-      → keys.key ≡ logged.undo.key → IsWhole room → room.stage ≡ Find → IsPuttingBack chains beside place logged.undo room state
-  begins_lagging {beside} keys is table_is key_is whole stage =
-      begins chains beside place room state logged top.schema tells_of_it whole stage (λ told. let has = top.record_is told in inl
-      (has.bytes, has.coded, way_lagging chains state logged place top.schema tells_of_it has keys is table_is key_is told))
+    pub begins_lagging : {beside : Said} (keys : KeysChange) → IsChangingKeys chains beside state keys → keys.table ≡ logged.undo.table
+        → keys.key ≡ logged.undo.key → IsWhole room → room.stage ≡ Find → IsPuttingBack chains beside place logged.undo room state
+    begins_lagging {beside} keys is table_is key_is whole stage =
+        begins chains beside place room state logged top.schema tells_of_it whole stage (λ told. let has = top.record_is told in inl
+        (has.bytes, has.coded, way_lagging chains state logged place top.schema tells_of_it has keys is table_is key_is told))

@@ -3,32 +3,29 @@ use Rattle.row_changes.specs.declared.record_change.RecordReached.TheVariants as
 use Rattle.law_logged_changes.proofs.Leaving.{stay_kept, work_again, agrees_beside}
 use Rattle.std.proofs.Common.{◌≡◌, ⊎_elim, ℕ, ◌^◌, ◌<◌, ◌==◌, Bool, true, false, List, ◌∷◌, length, Option, Some, refl, sym, ap, subst, ◌∙◌, arith}
 use Rattle.std.proofs.{lemmas.Bool.cases_eq, lemmas.Option.slice_get_within}
-use Rattle.std.specs.{Prelude.slice_get, Prelude.IsTrue, Prelude.option_map}
+use Rattle.std.specs.Prelude.{slice_get, IsTrue, option_map}
 use Rattle.inno_types.specs.{declared.value.Value.Value, declared.value.Schema.Schema}
 use Rattle.store_api.specs.declared.answers.Undo.{Undo}
 use Rattle.row_versions.specs.Chains.{Chains, with_versions, Pushes}
 use Rattle.row_versions.specs.{Versions.Versions, declared.place.Place.Place, declared.version.Version.Version}
 use Rattle.law_past_agreement.specs.{Rows.place_in, Rows.is_place, Rows.is_at, Rows.row_of, Order.IsOfRow, Order.IsTabled}
 use Rattle.law_stored_rows.proofs.Values.{same_place}
-use Rattle.law_stored_rows.specs.Tables.{Said}
+use Rattle.law_stored_rows.specs.{Tables.Said, Records.KeepsMore}
 use Rattle.inno_db.specs.declared.change.Change.{Change}
-use Rattle.law_stored_rows.specs.Records.{KeepsMore}
 use Rattle.world.specs.{State.WorldState, State.Session, State.Work, State.HasWork, Indexes.KeepsIf, Told.IsTold}
 use Rattle.law_world_agreement.specs.{Agreement.Agrees, Steps.IsChangedBy, Steps.IsEntered}
 use Rattle.law_world_agreement.proofs.{Changing.changed_agrees, Entries.unentered_agrees}
+use Rattle.row_changes.specs.Records.{Records, IsChangingRecord, ChangesRecord, id_for}
+use Rattle.row_changes.specs.Rows.{IsChangingRow, row_after, primary_of, place_of, PushesEdit, ChangesRow}
+use Rattle.row_changes.specs.declared.reached.Reached.TheVariants.{Went, Done, Hindered}
 use Rattle.row_changes.specs.{declared.row_edit.RowEdit.RowEdit, declared.row_edit.RowEdit.TheVariants.Remove, declared.row_edit.RowEdit.TheVariants.Put}
 use Rattle.row_changes.specs.{declared.row_change.RowChange.TheVariants.Keys, declared.row_change.RowChange.TheVariants.Record}
 use Rattle.row_changes.specs.{declared.record_change.RecordChange.RecordChange, Keys.StaysBesideKeys, declared.keys_change.KeysChange.KeysChange}
 use Rattle.row_changes.specs.{declared.row_change.RowChange.RowChange, Edits.change_of, Edits.rows_put, Asides.StepsAside, declared.reached.Reached.Reached}
-use Rattle.row_changes.specs.{Told.HasRowsAt, Records.Records, Records.IsChangingRecord, Records.ChangesRecord, Records.id_for, Rows.IsChangingRow}
-use Rattle.row_changes.specs.{Rows.row_after, Rows.primary_of, Rows.place_of, Rows.PushesEdit, Rows.ChangesRow, Rows.table_of, declared.reached.Reached.TheVariants.Went}
-use Rattle.row_changes.specs.{declared.reached.Reached.TheVariants.Done, declared.reached.Reached.TheVariants.Hindered}
 use Rattle.row_changes.proofs.{Ids.one_work, Sessions.one_session, Pushed.kept_more, Keying.beside_stay}
 use Rattle.law_logged_changes.specs.Logs.{IsAloneAt}
-use Rattle.law_logged_changes.specs.GoingOn.{StaysOpen, KeepsBeside, EntersAgreed, GoesOnAgreed, StaysAgreed, EndsAgreed, IsAloneIn, key_of}
+use Rattle.law_logged_changes.specs.GoingOn.{StaysOpen, KeepsBeside, EntersAgreed, GoesOnAgreed, StaysAgreed, IsAloneIn}
 use Rattle.inno_db.proofs.Keys.{key_in-at}
-
--- ---- no entry comes
 
 -- ---- the session has other rooms
 
@@ -75,11 +72,10 @@ module _ (s : ℕ) (old new : WorldState) (aside : StepsAside s old new) where
     own = aside_open;
   }
 
-  pub aside_agreed : (chains : Chains) (said : Said) (next : RowChange) → Agrees chains old → IsTold new → IsChangingRow s chains said new next
-      → StaysAgreed s chains said old new next
-  aside_agreed chains said next agrees told changing = record {
+  pub aside_agreed : (chains : Chains) (known : Type 0) → Agrees chains old → IsTold new → known → StaysAgreed s chains old new known
+  aside_agreed chains known agrees told holds = record {
     agrees = unentered_agrees chains old new agrees aside_entered;
-    changing = changing;
+    holds = holds;
     past = ap (λ (state : WorldState). state.past) aside.rest;
     rows = ap (λ (state : WorldState). state.rows) aside.rest;
     txns = ap (λ (state : WorldState). state.txns) aside.rest;
@@ -116,21 +112,10 @@ module _ (s : ℕ) (chains : Chains) (old new : WorldState) (stays : StaysBeside
         };
   }
 
-  pub keys_agreed : (said : Said) (next : RowChange) → IsChangingRow s chains said new next → StaysAgreed s chains said old new next
-  keys_agreed said next changing = record {
+  pub keys_agreed : (known : Type 0) → known → StaysAgreed s chains old new known
+  keys_agreed known holds = record {
     agrees = keys_agree;
-    changing = changing;
-    past = ap (λ (state : WorldState). state.past) stays.rest;
-    rows = ap (λ (state : WorldState). state.rows) stays.rest;
-    txns = ap (λ (state : WorldState). state.txns) stays.rest;
-    beside = keys_beside;
-  }
-
-  pub keys_ended : (said : Said) (change : RowChange) → HasRowsAt chains said (table_of change) (key_of change) new
-      → EndsAgreed s chains said old new change
-  keys_ended said change coded = record {
-    agrees = keys_agree;
-    coded = coded;
+    holds = holds;
     past = ap (λ (state : WorldState). state.past) stays.rest;
     rows = ap (λ (state : WorldState). state.rows) stays.rest;
     txns = ap (λ (state : WorldState). state.txns) stays.rest;
@@ -274,20 +259,18 @@ pub goes_on : (s : ℕ) (chains : Chains) (said : Said) (old new : WorldState) (
     → IsAloneIn s old change → IsChangingRow s chains said old change → ChangesRow s chains said old new change reached → IsTold new
     → length new.past < 2 ^ 63 → GoesOnAgreed s chains said old new change reached
 goes_on s chains said old new (Record change key after) (Went (Record next key' after')) agrees alone p c told few =
-    aside_agreed s old new c.0.0.aside chains said (Record next key' after') agrees told c.0.1
+    aside_agreed s old new c.0.0.aside chains _ agrees told c.0.1
 goes_on s chains said old new (Record change key after) (Went (Keys next)) agrees alone p c told few =
     enters s chains old new change next p.0 c.0.0 told agrees (alone p.0.schema p.0.table.there) few c.0.1
 goes_on s chains said old new (Keys change) (Went (Record next key after)) agrees alone p c told few = absurd c.0
-goes_on s chains said old new (Keys change) (Went (Keys next)) agrees alone p c told few =
-    keys_agreed s chains old new c.0.stays agrees told said (Keys next) c.0.holds
+goes_on s chains said old new (Keys change) (Went (Keys next)) agrees alone p c told few = keys_agreed s chains old new c.0.stays agrees told _ c.0.holds
 goes_on s chains said old new (Record change key after) Done agrees alone p c told few = absurd c
-goes_on s chains said old new (Keys change) Done agrees alone p c told few =
-    keys_ended s chains old new (beside_stay old new c.0) agrees told said (Keys change) c.1
+goes_on s chains said old new (Keys change) Done agrees alone p c told few = keys_agreed s chains old new (beside_stay old new c.0) agrees told _ c.1
 goes_on s chains said old new (Record change key after) (Hindered same why) agrees alone p c told few = (
   c.0,
-  aside_agreed s old new c.2.0 chains said same agrees told (subst (IsChangingRow s chains said new) (sym c.0) c.1),
+  aside_agreed s old new c.2.0 chains _ agrees told (subst (IsChangingRow s chains said new) (sym c.0) c.1),
 )
 goes_on s chains said old new (Keys change) (Hindered same why) agrees alone p c told few = (
   c.0,
-  keys_agreed s chains old new (beside_stay old new c.2.0) agrees told said same (subst (IsChangingRow s chains said new) (sym c.0) c.1),
+  keys_agreed s chains old new (beside_stay old new c.2.0) agrees told _ (subst (IsChangingRow s chains said new) (sym c.0) c.1),
 )

@@ -6,12 +6,11 @@ use Rattle.std.proofs.Common.{Some, ◌≡◌, ◌≢◌, ◌⊎◌, inl, inr, �
 use Rattle.std.proofs.Common.{arith, true, false, None}
 use Rattle.std.proofs.{lemmas.Bool.cases_eq, lemmas.Option.slice_get_within}
 use Rattle.world.specs.{State.WorldState, State.Session, State.Work, State.Logged, State.HasWork, State.IsIndex, Told.pairs_of, Told.IsTold, Told.LeavesRows}
-use Rattle.row_changes.proofs.{Telling.went, Telling.put_told, Telling.told_if, Telling.rows_if, Ids.one_work, Sessions.one_session}
-use Rattle.row_changes.proofs.{Changing.stage_kept, Changing.told_kept, Pushed.table_kept, Keying.changing_next}
+use Rattle.row_changes.proofs.Telling.{went, put_told, told_if, rows_if}
+use Rattle.row_changes.proofs.{Ids.one_work, Sessions.one_session, Changing.stage_kept, Changing.told_kept, Pushed.table_kept, Keying.changing_next}
 use Rattle.law_logged_changes.proofs.{Logs.all_of, Logs.all_mapped, Logs.Grows, Logs.Keeps, Logs.SameRecord, Logs.log_on, Listed.listed_of}
-use Rattle.law_stored_rows.proofs.KeptRows.{more_of}
-use Rattle.std.specs.List.{AllByRecursion}
-use Rattle.std.specs.Prelude.{slice_get, IfSome, is_some}
+use Rattle.law_stored_rows.proofs.{KeptRows.more_of, Pairs.no_key}
+use Rattle.std.specs.{List.AllByRecursion, Prelude.slice_get, Prelude.IfSome, Prelude.is_some}
 use Rattle.undo_apply.specs.{Stages.GoesOn, Stages.IsHindered, Stages.IsDone, Stages.PutsBack, declared.work_room.WorkRoom.WorkRoom}
 use Rattle.row_changes.specs.{Keys.IsChangingKeys, Keys.said_next, Keys.HasRowsSoFar, Keys.IsEntering, Asides.StepsAside, Pairs.RowsStay, Pairs.PutsPair}
 use Rattle.row_changes.specs.{declared.entry_put.PutPhase.PutPhase, declared.keys_change.KeysChange.KeysChange, declared.row_change.RowChange.RowChange}
@@ -24,7 +23,6 @@ use Rattle.inno_types.specs.{declared.value.Schema.Schema, declared.value.Value.
 use Rattle.inno_db.specs.{declared.change.Change.Change, declared.change.Change.TheVariants.Create}
 use Rattle.inno_model.specs.Past.{own}
 use Rattle.entries.specs.{Pairs.value_of, Index.Index, Index.AreKept}
-use Rattle.law_stored_rows.proofs.Pairs.{no_key}
 use Rattle.undo_apply.proofs.{Telling.leaves_told, Telling.rows_left as stays_leave, Columns.few_keys}
 use Rattle.store_api.specs.{declared.answers.Undo.Undo, declared.moves.Move.Move, declared.moves.Move.TheVariants.Done, declared.moves.Move.TheVariants.Step}
 use Rattle.law_world_agreement.specs.Agreement.{Agrees}
@@ -79,9 +77,11 @@ log_beside {table} {key} {old} {new} leaves log changes apart =
     let grows = same_schemas_grow old.schemas new.schemas leaves.schemas in
     log_on (IsTold old) (IsTold new) old.schemas new.schemas old.versions.kept_at new.versions.kept_at leaves.told grows (records_of old) (records_of new)
     log changes
-    (all_mapped (IsElsewhere table key) (SameRecord (IsTold old) (IsTold new) old.schemas new.schemas old.versions.kept_at new.versions.kept_at leaves.told grows
+    (all_mapped (IsElsewhere table key) (SameRecord (IsTold old) (IsTold new) old.schemas new.schemas old.versions.kept_at new.versions.kept_at
+    leaves.told grows
     (records_of old) (records_of new)) log (λ logged other at schema there. leaves.records at logged.undo.table logged.undo.key other) apart)
-    (all_mapped (IsElsewhere table key) (Keeps (IsTold old) (IsTold new) old.schemas new.schemas old.versions.kept_at new.versions.kept_at leaves.told grows) log
+    (all_mapped (IsElsewhere table key) (Keeps (IsTold old) (IsTold new) old.schemas new.schemas old.versions.kept_at new.versions.kept_at leaves.told
+    grows) log
     (λ logged other at kind. leaves.kept at logged.undo.table logged.undo.key other logged.pointer) apart)
 
 pub stay_kept : (old new : WorldState) → Stays old.versions new.versions → IsTold new → KeepsMore old.versions.kept_at new.versions.kept_at

@@ -1,12 +1,12 @@
 -- The step that puts a version logs it.
 use Rattle.row_changes.specs.declared.record_change.RecordReached.TheVariants as records
 use Rattle.row_changes.proofs.Pushed.{kept_over, kept_more, key_at, code_of_edit, plain, none_of, written_pointer, small_id}
-use Rattle.row_changes.proofs.{Telling.pairs_told, Telling.puts_pairs, Telling.tells, Ids.one_work, Sessions.one_session, Sessions.one_found}
-use Rattle.row_changes.proofs.{Changing.key_short, Changing.value_short, Keying.beside_stay}
+use Rattle.row_changes.proofs.Telling.{pairs_told, puts_pairs, tells}
+use Rattle.row_changes.proofs.{Ids.one_work, Sessions.one_session, Sessions.one_found, Changing.key_short, Changing.value_short, Keying.beside_stay}
 use Rattle.law_logged_changes.proofs.Leaving.{stay_kept, log_over, log_beside, same_schemas_grow, all_left, aside_left, logs_beside}
 use Rattle.law_logged_changes.proofs.Logs.{taken_here, taken_elsewhere, here_or_not, put_elsewhere, all_mapped, one_more, log_elsewhere}
-use Rattle.law_stored_rows.proofs.KeptRows.{more_of, found_of, kept_here}
 use Rattle.law_logged_changes.proofs.Entering.{place_there}
+use Rattle.law_stored_rows.proofs.{KeptRows.more_of, KeptRows.found_of, KeptRows.kept_here, Pairs.at_index, Pairs.value_now}
 use Rattle.std.proofs.Common.{◌==◌, ◌≡◌, ◌≢◌, inl, inr, ⊎_elim, ℕ, ◌^◌, ◌<◌, true, false, List, [], ◌∷◌, Option, Some, None, refl, sym, ap, subst, ◌∙◌, arith}
 use Rattle.std.proofs.Common.{slice_get}
 use Rattle.std.proofs.lemmas.Bool.{cases_eq, cond-true, cond-false, eq-eqb, ne_eqb}
@@ -19,7 +19,7 @@ use Rattle.row_changes.specs.{declared.reached.Reached.TheVariants.Hindered, Tol
 use Rattle.row_changes.specs.{declared.row_change.RowChange.TheVariants.Record, declared.row_change.RowChange.TheVariants.Keys}
 use Rattle.row_changes.specs.{declared.reached.Reached.Reached, declared.row_change.RowChange.RowChange, Keys.StaysBesideKeys}
 use Rattle.undo_apply.specs.Standing.{TellsOf, LeadsBack, was_before}
-use Rattle.law_logged_changes.specs.{Logs.RecordsAt, Logs.records_of, Logs.taken_back, Logs.Stands, Logs.LogStands, Logs.IsLogOf, Logs.LogsAgree, Logs.IsAloneAt}
+use Rattle.law_logged_changes.specs.Logs.{RecordsAt, records_of, taken_back, Stands, LogStands, IsLogOf, LogsAgree, IsAloneAt}
 use Rattle.law_logged_changes.specs.{Steps.HasLogged, Steps.LeavesRecords, Steps.LeavesOtherRows, GoingOn.IsAloneIn}
 use Rattle.std.specs.{Prelude.is_some, List.AllByRecursion}
 use Rattle.inno_types.specs.{declared.value.Value.Value, declared.value.Schema.Schema}
@@ -30,7 +30,6 @@ use Rattle.entries.specs.Pairs.{value_of}
 use Rattle.row_versions.specs.{declared.kept.Kept.Kept, Versions.Stays, declared.place.Place.Place, Chains.Chains}
 use Rattle.row_codec.specs.Rows.{version_code}
 use Rattle.law_stored_rows.specs.{Edits.clustered_index, Edits.Puts, Records.IsCodeOf, Records.KeepsMore, Records.kept_of, Tables.AreClustered, Tables.Said}
-use Rattle.law_stored_rows.proofs.Pairs.{at_index, value_now}
 use Rattle.undo_apply.proofs.Columns.{before_new, before_kept}
 
 -- ---- what older records keep is kept
@@ -73,7 +72,8 @@ pub record IsLogging (s : ℕ) (old new : WorldState) (change : RecordChange) (s
   pub told : IsTold new → IsTold old
 
 module _ (s : ℕ) (chains : Chains) (said : Said) (old new : WorldState) (change : RecordChange) (p : IsChangingRecord s old change)
-    (rows : HasRowsAt chains said change.table change.key old) (kind : ℕ) (value bytes : List ℕ) (coded : Coded) (is : IsLogging s old new change p.schema kind value bytes coded) where
+    (rows : HasRowsAt chains said change.table change.key old) (kind : ℕ) (value bytes : List ℕ) (coded : Coded)
+    (is : IsLogging s old new change p.schema kind value bytes coded) where
   abbrev undo : Undo
   undo = undo_at change kind value
 

@@ -1,24 +1,23 @@
 -- A log stands as long as tables, records and what it keeps do.
-use Rattle.std.proofs.Common.{◌&&◌, ◌==◌, ◌≡◌, inl, inr, ℕ, cond, List, [], ◌∷◌, Option, Some, sym, ap, subst, ◌∙◌, slice_get, ◌≢◌, ◌⊎◌, ⊎_elim}
-use Rattle.std.proofs.Common.{Bool, true, false, refl}
+use Rattle.std.proofs.Common.{◌&&◌, ◌==◌, ◌≡◌, inl, inr, ℕ, cond, List, [], ◌∷◌, Option, Some, sym, ap, subst, ◌∙◌, slice_get, ◌≢◌, ◌⊎◌, ⊎_elim, Bool, true}
+use Rattle.std.proofs.Common.{false, refl}
+use Rattle.std.proofs.lemmas.Bool.{and_from, and_right, or_parts, cases_eq, cond-true, cond-false, eq-eqb, ne_eqb}
 use Rattle.inno_db.specs.declared.change.Change.TheVariants.{Create, Put, Remove}
+use Rattle.inno_db.specs.{declared.change.Change.Change, Database.key_in}
 use Rattle.entries.specs.Pairs.{key_cmp, Pair, value_of}
 use Rattle.undo_apply.specs.Standing.{TellsOf, LeadsBack, was_before}
 use Rattle.law_logged_changes.specs.Logs.{RecordsAt, taken_back, Stands, LogStands, IsElsewhere}
-use Rattle.std.proofs.lemmas.Bool.{and_from, and_right, or_parts, cases_eq, cond-true, cond-false, eq-eqb, ne_eqb}
 use Rattle.std.specs.declared.cmp.Ordering.TheVariants.{Less, Equal, Greater}
-use Rattle.law_stored_rows.proofs.Pairs.{same_or_not, others_now, at_index, at_others, other_rows}
 use Rattle.std.specs.{List.AllByRecursion, List.list_any, BTreeMap.is_at, Ordering.is_eq, declared.cmp.Ordering.Ordering}
+use Rattle.law_stored_rows.proofs.{Pairs.same_or_not, Pairs.others_now, Pairs.at_index, Pairs.at_others, Pairs.other_rows, Values.one_key, Values.place_itself}
 use Rattle.inno_types.specs.{declared.value.Value.Value, declared.value.Column.Column, declared.value.Schema.Schema}
-use Rattle.inno_db.specs.{declared.change.Change.Change, Database.key_in}
-use Rattle.inno_db.proofs.{Keys.key_in-at}
-use Rattle.store_api.specs.{declared.answers.Undo.Undo}
+use Rattle.inno_db.proofs.Keys.{key_in-at}
+use Rattle.store_api.specs.declared.answers.Undo.{Undo}
 use Rattle.row_versions.specs.{declared.kept.Kept.Kept, declared.place.Place.Place}
-use Rattle.law_past_agreement.specs.{Rows.place_in, Rows.is_place, Rows.is_at as is_change_at}
+use Rattle.law_past_agreement.specs.Rows.{place_in, is_place, is_at as is_change_at}
 use Rattle.world.specs.{State.Logged, Indexes.KeepsAsSaid}
-use Rattle.entries.proofs.{Order.same_key, Order.key_itself}
+use Rattle.entries.proofs.Order.{same_key, key_itself}
 use Rattle.law_stored_rows.specs.{Edits.clustered_index, Edits.Puts, Records.kept_of}
-use Rattle.law_stored_rows.proofs.Values.{one_key, place_itself}
 use Rattle.key_codec.specs.Keys.{HasKey, key_code}
 
 pub all_of : {X : Type 0} (P : X → Type 0) (xs : List X) → ((x : X) → P x) → AllByRecursion P xs
@@ -85,14 +84,8 @@ module _ (told now : Type 0) (schemas others : List Schema) (kept found : ℕ �
   leads_on logged pointer at keeps pointer_is (inl new) = inl new
   leads_on logged pointer at keeps pointer_is (inr (kind, leads, former, there, bytes)) =
       let same = pointer_is kind in
-      let of_row = kept_of kept logged.undo.table logged.undo.key in
-      inr (
-        kind,
-        leads,
-        former,
-        ap (kept_of found logged.undo.table logged.undo.key) same ∙ keeps at kind former (ap of_row (sym same) ∙ there),
-        bytes,
-      )
+      let here = ap (kept_of kept logged.undo.table logged.undo.key) (sym same) ∙ there in
+      inr (kind, leads, former, rw same (keeps at kind former here), bytes)
 
   stands_on : (was is : RecordsAt) (logged : Logged) (log : List Logged) (change : Change) → SameRecord was is logged → Keeps logged
       → Stands told schemas was kept logged log change → Stands now others is found logged log change

@@ -32,10 +32,10 @@ module _ (chains after : Chains) (said : Said) (old new : WorldState) (logged : 
   undo = logged.undo
 
   abbrev newest : Stands (IsTold old) old.schemas (records_of old) old.versions.kept_at logged older change
-  newest = top chains old logged older change before place room log_is place_is
+  newest = top old logged older change before place log_is place_is
 
   tells : TellsOf undo newest.schema place old.schemas
-  tells = tells_of_it chains old logged older change before place room log_is place_is
+  tells = tells_of_it old logged older change before place log_is place_is
 
   told_before : IsTold new → IsTold old
   told_before told =

@@ -53,10 +53,10 @@ abbrev pub key_of : RowChange → List ℕ
 key_of (Record change key after) = change.key
 key_of (Keys change) = change.key
 
--- no entry has come, and this is left of the change
-pub record StaysAgreed (s : ℕ) (chains : Chains) (said : Said) (old new : WorldState) (next : RowChange) : Type 0 where
+-- no entry has come, and this is known of the rows and of what is left of the change
+pub record StaysAgreed (s : ℕ) (chains : Chains) (old new : WorldState) (known : Type 0) : Type 0 where
   pub agrees : Agrees chains new
-  pub changing : IsChangingRow s chains said new next
+  pub holds : known
   pub past : new.past ≡ old.past
   pub rows : new.rows ≡ old.rows
   pub txns : new.txns ≡ old.txns
@@ -72,21 +72,11 @@ pub record EntersAgreed (s : ℕ) (chains : Chains) (said : Said) (old new : Wor
   pub rows : new.rows ≡ old.rows + rows_put change.edit
   pub beside : KeepsBeside s old new
 
--- the change is over, and of its place the keys say what is there
-pub record EndsAgreed (s : ℕ) (chains : Chains) (said : Said) (old new : WorldState) (change : RowChange) : Type 0 where
-  pub agrees : Agrees chains new
-  pub coded : HasRowsAt chains said (table_of change) (key_of change) new
-  pub past : new.past ≡ old.past
-  pub rows : new.rows ≡ old.rows
-  pub txns : new.txns ≡ old.txns
-  pub beside : KeepsBeside s old new
-
--- What a step that came so far makes of a world whose rows were these, while keys say this of all other places.
+-- What a step that came so far makes of a world whose rows were these, while keys say this of all other places. Once the change is
+-- over they say what is there of its place.
 abbrev pub GoesOnAgreed : ℕ → Chains → Said → WorldState → WorldState → RowChange → Reached RowChange → Type 0
-GoesOnAgreed s chains said old new (Record change key after) (Went (Record next key' after')) =
-    StaysAgreed s chains said old new (Record next key' after')
 GoesOnAgreed s chains said old new (Record change key after) (Went (Keys next)) = EntersAgreed s chains said old new change next
 GoesOnAgreed s chains said old new (Keys change) (Went (Record next key after)) = ⊥
-GoesOnAgreed s chains said old new (Keys change) (Went (Keys next)) = StaysAgreed s chains said old new (Keys next)
-GoesOnAgreed s chains said old new change Done = EndsAgreed s chains said old new change
-GoesOnAgreed s chains said old new change (Hindered same why) = (same ≡ change) × StaysAgreed s chains said old new same
+GoesOnAgreed s chains said old new change (Went next) = StaysAgreed s chains old new (IsChangingRow s chains said new next)
+GoesOnAgreed s chains said old new change Done = StaysAgreed s chains old new (HasRowsAt chains said (table_of change) (key_of change) new)
+GoesOnAgreed s chains said old new change (Hindered same why) = (same ≡ change) × StaysAgreed s chains old new (IsChangingRow s chains said new same)

@@ -13,16 +13,14 @@ use Rattle.world.specs.EngineCalls.{joined as with_joined, item_started, item_en
 use Rattle.world.specs.{Told.IsTold, Endings.IsCommitted, Endings.IsRolledBack}
 use Rattle.law_world_agreement.specs.Steps.{viewed, opened, session_begun, IsChangedBy}
 use Rattle.shared_lists.specs.{State.Lists, State.task_of, State.IsNow, State.Stays, State.writer_without, State.Adds, Tasks.Idle}
-use Rattle.law_held_steps.proofs.Showing.{tasks_same, now_of, settings_by, settings_same, settings_now}
 use Rattle.law_held_steps.proofs.Items.{joined_held, started_held, ended_held, acked_held, signal_held, unentered_held, txn_here, txn_elsewhere, viewed_held}
 use Rattle.law_held_steps.proofs.Items.{saved_held, committed_held, rolled_back_held, opened_held, created_held}
-use Rattle.law_held_steps.proofs.{AnyStep.some_same}
-use Rattle.world_lists.proofs.Calls.{kept_on, kept_by, kept_closed, no_more_in, rests, past_here, joined_here, its_session, its_work}
-use Rattle.world_lists.proofs.Calls.{its_listed, its_txn, its_own, at_rest, start_leaves, new_leaves, closed_none, awaits_of_nobody, awaits_none, writer_now}
+use Rattle.law_held_steps.proofs.{Showing.tasks_same, Showing.now_of, Showing.settings_by, Showing.settings_same, Showing.settings_now, AnyStep.some_same}
+use Rattle.world_lists.proofs.Calls.{kept_on, kept_by, kept_closed, no_more_in, rests, past_here, joined_here, its_session, its_work, its_listed, its_txn}
+use Rattle.world_lists.proofs.Calls.{its_own, at_rest, start_leaves, new_leaves, closed_none, awaits_of_nobody, awaits_none, writer_now}
 use Rattle.desks.specs.Desks.{desk_at, with_start, IsNewDesk, Store, doing_at, is_quiet_doing}
-use Rattle.desks.specs.Shown.{lists_of, shown, task_at}
 use Rattle.desks.specs.declared.desk.Doing.TheVariants.{Nothing, Searching, Changing, Lagging, Undoing}
-use Rattle.desks.specs.{declared.desk.Desk.Desk, Holding.IsHeld, Undoing.left_in, declared.desk.Doing.Doing}
+use Rattle.desks.specs.{Shown.lists_of, Shown.shown, Shown.task_at, declared.desk.Desk.Desk, Holding.IsHeld, Undoing.left_in, declared.desk.Doing.Doing}
 use Rattle.row_changes.specs.{Records.IsListed, Records.id_for, Records.txns_with_id, Entering.GivesId}
 use Rattle.law_past_agreement.specs.Order.{MayCome}
 use Rattle.store_api.specs.declared.answers.Standing.{Standing}

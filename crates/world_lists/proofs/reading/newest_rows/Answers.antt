@@ -24,7 +24,8 @@ returns-in-Done-clause-found g c = λ chains tells. (reading_ends _ _ _ _ _ _ (c
 
 pub give_up-requires : goal.give_up-requires
 give_up-requires g c =
-    reading_steps _ _ _ _ _ _ (reading_waits _ _ _ _ _ _ (c.reading.invariant c.requires.0 c.requires.1) c.in-Hindered-NoMemory.ensures (g.met.W.EngineWorld.tells
+    reading_steps _ _ _ _ _ _ (reading_waits _ _ _ _ _ _ (c.reading.invariant c.requires.0 c.requires.1) c.in-Hindered-NoMemory.ensures
+    (g.met.W.EngineWorld.tells
     c.advance.new.world).told) (g.met.W.EngineWorld.tells c.advance.new.world).told
 
 pub returns-in-Hindered-NoMemory-clause-moves : goal.returns-in-Hindered-NoMemory-clause-moves
