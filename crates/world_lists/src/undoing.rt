@@ -54,11 +54,12 @@ pub fn change_at_desk<W: EngineWorld>(
     };
     let is_told = is_told(change);
     let changed = step_change(alloc, world, session, change);
-    match changed {
-        Changed::Went | Changed::Entered => {}
-        Changed::Done => desk.doing = Doing::Nothing,
-        Changed::NoMemory => desk.doing = given_up(is_told),
-    }
+    let doing = match changed {
+        Changed::Went | Changed::Entered => return changed,
+        Changed::Done => Doing::Nothing,
+        Changed::NoMemory => given_up(is_told),
+    };
+    drop(std::mem::replace(&mut desk.doing, doing));
     changed
 }
 
