@@ -6,3 +6,4 @@ pub mod Written
 pub mod Fronts
 pub mod Bounds
 pub mod Blanks
+mod Obeyed

@@ -7,6 +7,7 @@ mod SettledExpressions
 pub mod SoundAtoms
 pub mod Waiting
 pub mod Complete
+mod InParts
 pub mod Items
 mod Numbers
 pub mod Refused

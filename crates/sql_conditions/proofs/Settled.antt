@@ -1,5 +1,5 @@
 -- The steps of the loops over a condition.
-use Rattle.std.proofs.Common.{◌≡◌, ℕ, suc, ◌+◌, ◌-◌, ◌<◌, ◌≤◌, List, ◌∷◌, Result, Ok, Err, IfOk, refl, sym, ap, ◌∙◌, subst, arith}
+use Rattle.std.proofs.Common.{◌≡◌, ℕ, suc, ◌+◌, ◌-◌, ◌<◌, ◌≤◌, List, ◌∷◌, Result, Ok, Err, IfOk, refl, sym, ◌∙◌, subst, arith}
 use Rattle.inno_types.specs.declared.stmt.Filter.{Filter}
 use Rattle.sql_grammar.specs.declared.token.Token.{Token}
 use Rattle.sql_grammar.specs.Grammar.{Atom, Condition, Single}
@@ -7,7 +7,6 @@ use Rattle.sql_grammar.specs.Grammar as grammar
 use Rattle.sql_conditions.specs.declared.conditions.Frame.{Frame}
 use Rattle.sql_conditions.specs.declared.conditions.After.{After}
 use Rattle.sql_conditions.specs.declared.refusal.Refusal.{Refusal}
-use Rattle.sql_conditions.specs.declared.refusal.Refusal.TheVariants as refusal
 use Rattle.sql_conditions.specs.Parts.{◌>>=◌, Fails, Gives}
 use Rattle.sql_conditions.specs.Atoms.{atom_at}
 use Rattle.sql_conditions.specs.Conditions as read

@@ -1,6 +1,5 @@
 -- What is read is spelled so: names, literals and lists of them.
 use Rattle.std.proofs.Common.{◌≡◌, ℕ, zero, suc, List, [], ◌∷◌, length, Result, Ok, Err, IfOk, refl, subst}
-use Rattle.inno_types.specs.declared.stmt.Literal.{Literal}
 use Rattle.sql_grammar.specs.declared.token.Word.TheVariants as word
 use Rattle.sql_grammar.specs.declared.token.Token.{Token}
 use Rattle.sql_grammar.specs.declared.token.Token.TheVariants.{Key, Bare, Quoted, Number, Text, Open, Close, Comma, Minus}

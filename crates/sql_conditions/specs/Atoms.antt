@@ -29,10 +29,22 @@ between_at column negated tokens = do
   high ← lit_at rest
   Ok (filter.Between column negated low.0 high.0, high.1)
 
+abbrev pub among_at : List ℕ → Bool → List Token → Read Filter
+among_at column negated tokens = tuple_at tokens >>= λ literals. Ok (filter.In column negated literals.0, literals.1)
+
 unfoldable pub range_test_at : List ℕ → Bool → List Token → Read Filter
 range_test_at column negated (Key word.Between ∷ rest) = between_at column negated rest
 range_test_at column negated (Key word.In ∷ rest) = tuple_at rest >>= λ literals. Ok (filter.In column negated literals.0, literals.1)
 range_test_at column negated rest = Err rest
+
+abbrev pub null_behind : Bool → List Token → Read Bool
+null_behind negated (Key word.Null ∷ rest) = Ok (negated, rest)
+null_behind negated rest = Err rest
+
+-- NULL, and whether NOT stands before it
+unfoldable pub null_word_at : List Token → Read Bool
+null_word_at (Key word.Not ∷ rest) = null_behind true rest
+null_word_at rest = null_behind false rest
 
 unfoldable pub null_test_at : List ℕ → List Token → Read Filter
 null_test_at column (Key word.Null ∷ rest) = Ok (filter.IsNull column false, rest)

@@ -2,6 +2,8 @@
 use Rattle.std.specs.Prelude.{◌≡◌, ℕ, zero, suc, List, [], ◌∷◌, map, length, Result, Ok, Err}
 use Rattle.inno_types.specs.declared.stmt.Expr.{Expr}
 use Rattle.inno_types.specs.declared.stmt.Expr.TheVariants as expr
+use Rattle.inno_types.specs.declared.stmt.Operand.{Operand}
+use Rattle.inno_types.specs.declared.stmt.Operand.TheVariants as operand
 use Rattle.sql_grammar.specs.declared.token.Token.{Token}
 use Rattle.sql_grammar.specs.declared.token.Token.TheVariants.{Bare, Quoted, Number, Open, Close, Star, Plus, Minus}
 use Rattle.sql_grammar.specs.Grammar.{Expression, Strength, Loose, Tight, Single, BeginsNoNumber}
@@ -16,6 +18,10 @@ use Rattle.sql_conditions.specs.declared.expressions.Opening.TheVariants as open
 use Rattle.sql_conditions.specs.declared.expressions.Next.{Next}
 use Rattle.sql_conditions.specs.declared.expressions.Next.TheVariants as next
 use Rattle.sql_conditions.specs.Parts.{Read, ◌>>=◌, lit_at}
+
+abbrev pub expr_of : Operand → Expr
+expr_of (operand.Column name) = expr.Column name
+expr_of (operand.Literal value) = expr.Literal value
 
 -- a literal or a column
 unfoldable pub value_at : List Token → Read Expr

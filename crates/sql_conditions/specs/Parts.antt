@@ -59,6 +59,10 @@ items_at item (suc n) tokens = item tokens >>= λ x. next_item x.0 (items_at ite
 abbrev pub commas_at : {A : Type 0} → (List Token → Read A) → List Token → Read (List A)
 commas_at item tokens = items_at item (length tokens) tokens
 
+abbrev pub after_open : List Token → Result (List Token) (List Token)
+after_open (Open ∷ rest) = Ok rest
+after_open rest = Err rest
+
 abbrev pub after_close : List Token → Result (List Token) (List Token)
 after_close (Close ∷ rest) = Ok rest
 after_close rest = Err rest

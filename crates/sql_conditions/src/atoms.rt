@@ -18,7 +18,7 @@ pub(crate) fn atom(alloc: Global, tokens: &[Token]) -> Result<(Filter, &[Token])
 }
 
 #[tactic(auto, unfolding(crate::specs::Atoms::oper_at))]
-fn operand(tokens: &[Token]) -> Result<(Operand, &[Token]), Refusal>
+pub(crate) fn operand(tokens: &[Token]) -> Result<(Operand, &[Token]), Refusal>
     ensures { Gives (λ x. (x.0, x.1.now)) result (read.oper_at tokens.now) }
 {
     match tokens {
@@ -67,20 +67,30 @@ fn column_test(
     }
 }
 
-#[tactic(auto, unfolding(crate::specs::Atoms::null_test_at))]
+#[tactic(auto, using(crate::proofs::InParts::in_parts))]
 fn null_test(column: Bytes, tokens: &[Token]) -> Result<(Filter, &[Token]), Refusal>
     ensures { Gives (λ x. (x.0, x.1.now)) result (read.null_test_at column tokens.now) }
 {
+    let (negated, rest) = null_word(tokens)?;
+    Ok((Filter::IsNull { column, negated }, rest))
+}
+
+/// NULL, and whether NOT stands before it.
+#[tactic(auto, unfolding(crate::specs::Atoms::null_word_at))]
+fn null_word(tokens: &[Token]) -> Result<(bool, &[Token]), Refusal>
+    ensures { Gives (λ x. (x.0, x.1.now)) result (read.null_word_at tokens.now) }
+{
     match tokens {
-        [Token::Key(Word::Null), rest @ ..] => {
-            let negated = false;
-            Ok((Filter::IsNull { column, negated }, rest))
-        }
-        [Token::Key(Word::Not), rest @ ..] => {
-            let rest = after_null(rest)?;
-            let negated = true;
-            Ok((Filter::IsNull { column, negated }, rest))
-        }
+        [Token::Key(Word::Not), rest @ ..] => null_behind(true, rest),
+        _ => null_behind(false, tokens),
+    }
+}
+
+fn null_behind(negated: bool, tokens: &[Token]) -> Result<(bool, &[Token]), Refusal>
+    ensures { Gives (λ x. (x.0, x.1.now)) result (read.null_behind negated tokens.now) }
+{
+    match tokens {
+        [Token::Key(Word::Null), rest @ ..] => Ok((negated, rest)),
         _ => Err(unexpected(tokens)),
     }
 }
@@ -96,17 +106,29 @@ fn range_test(
 {
     match tokens {
         [Token::Key(Word::Between), rest @ ..] => between(column, negated, rest),
-        [Token::Key(Word::In), rest @ ..] => {
-            let (literals, rest) = tuple(alloc, rest)?;
-            let filter = Filter::In {
-                column,
-                negated,
-                literals,
-            };
-            Ok((filter, rest))
+        [Token::Key(Word::In), rest @ ..] => among(alloc, column, negated, rest),
+        _ => {
+            drop(column);
+            Err(unexpected(tokens))
         }
-        _ => Err(unexpected(tokens)),
     }
+}
+
+fn among(
+    alloc: Global,
+    column: Bytes,
+    negated: bool,
+    tokens: &[Token],
+) -> Result<(Filter, &[Token]), Refusal>
+    ensures { Gives (λ x. (x.0, x.1.now)) result (read.among_at column negated tokens.now) }
+{
+    let (literals, rest) = tuple(alloc, tokens)?;
+    let filter = Filter::In {
+        column,
+        negated,
+        literals,
+    };
+    Ok((filter, rest))
 }
 
 #[tactic(auto, unfolding(crate::specs::Atoms::between_at))]
@@ -130,15 +152,6 @@ fn after_and(tokens: &[Token]) -> Result<&[Token], Refusal>
 {
     match tokens {
         [Token::Key(Word::And), rest @ ..] => Ok(rest),
-        _ => Err(unexpected(tokens)),
-    }
-}
-
-fn after_null(tokens: &[Token]) -> Result<&[Token], Refusal>
-    ensures { Gives (λ r. r.now) result (read.after_null tokens.now) }
-{
-    match tokens {
-        [Token::Key(Word::Null), rest @ ..] => Ok(rest),
         _ => Err(unexpected(tokens)),
     }
 }

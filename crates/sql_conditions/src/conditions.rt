@@ -9,6 +9,7 @@ ghost use Rattle.sql_conditions.specs.Conditions as read;
 ghost use Rattle.sql_conditions.specs.declared.conditions.Frame.TheVariants.{Open, Or};
 
 use crate::atoms::atom;
+use crate::boxes::boxed;
 use crate::stack::Stack;
 use crate::{Refusal, unexpected};
 use inno_types::Filter;
@@ -174,8 +175,7 @@ fn close<'a>(
     match frame {
         Frame::Not => Ok(Closed::Goes(Filter::Not(Box::new(alloc, operand)?), tokens)),
         Frame::And(left) => {
-            let left = Box::new(alloc, left)?;
-            let right = Box::new(alloc, operand)?;
+            let (left, right) = boxed(alloc, left, operand)?;
             Ok(Closed::Goes(Filter::And(left, right), tokens))
         }
         Frame::Or(left) => close_or(alloc, stack, left, operand, tokens),
@@ -200,8 +200,7 @@ fn close_or<'a>(
             Ok(Closed::Wants(rest))
         }
         _ => {
-            let left = Box::new(alloc, left)?;
-            let right = Box::new(alloc, operand)?;
+            let (left, right) = boxed(alloc, left, operand)?;
             Ok(Closed::Goes(Filter::Or(left, right), tokens))
         }
     }

@@ -8,9 +8,11 @@ ghost use Rattle.sql_conditions.specs.Parts.{Gives};
 ghost use Rattle.sql_conditions.specs.Expressions as read;
 ghost use Rattle.sql_conditions.specs.declared.expressions.Frame.TheVariants as frames;
 
+use crate::atoms::operand;
+use crate::boxes::boxed;
 use crate::stack::Stack;
-use crate::{Refusal, literal, unexpected};
-use inno_types::Expr;
+use crate::{Refusal, unexpected};
+use inno_types::{Expr, Operand};
 use sql_grammar::Token;
 use std::alloc::Global;
 
@@ -134,17 +136,20 @@ fn value_step<'a>(
     settle(alloc, stack, operand, rest)
 }
 
-#[tactic(auto, unfolding(crate::specs::Expressions::value_at))]
+#[tactic(auto, using(crate::proofs::InParts::in_parts))]
 fn value(tokens: &[Token]) -> Result<(Expr, &[Token]), Refusal>
     ensures { Gives (λ x. (x.0, x.1.now)) result (read.value_at tokens.now) }
 {
-    match tokens {
-        [Token::Bare(_, name), rest @ ..] => Ok((Expr::Column(name.copied()?), rest)),
-        [Token::Quoted(name), rest @ ..] => Ok((Expr::Column(name.copied()?), rest)),
-        _ => {
-            let (value, rest) = literal(tokens)?;
-            Ok((Expr::Literal(value), rest))
-        }
+    let (operand, rest) = operand(tokens)?;
+    Ok((expr_of(operand), rest))
+}
+
+fn expr_of(operand: Operand) -> Expr
+    ensures { result ≡ read.expr_of operand }
+{
+    match operand {
+        Operand::Column(name) => Expr::Column(name),
+        Operand::Literal(value) => Expr::Literal(value),
     }
 }
 
@@ -214,8 +219,7 @@ fn close<'a>(
     match frame {
         Frame::Negate => Ok(Closed::Goes(Expr::Negate(Box::new(alloc, operand)?), tokens)),
         Frame::Times(left) => {
-            let left = Box::new(alloc, left)?;
-            let right = Box::new(alloc, operand)?;
+            let (left, right) = boxed(alloc, left, operand)?;
             Ok(Closed::Goes(Expr::Multiply(left, right), tokens))
         }
         Frame::Plus(left) => close_plus(alloc, stack, left, operand, tokens),
@@ -241,8 +245,7 @@ fn close_plus<'a>(
             Ok(Closed::Wants(rest))
         }
         _ => {
-            let left = Box::new(alloc, left)?;
-            let right = Box::new(alloc, operand)?;
+            let (left, right) = boxed(alloc, left, operand)?;
             Ok(Closed::Goes(Expr::Add(left, right), tokens))
         }
     }
@@ -265,8 +268,7 @@ fn close_minus<'a>(
             Ok(Closed::Wants(rest))
         }
         _ => {
-            let left = Box::new(alloc, left)?;
-            let right = Box::new(alloc, operand)?;
+            let (left, right) = boxed(alloc, left, operand)?;
             Ok(Closed::Goes(Expr::Subtract(left, right), tokens))
         }
     }

@@ -3,6 +3,7 @@
 #![tactic(auto)]
 
 mod atoms;
+mod boxes;
 mod conditions;
 mod expressions;
 mod lists;
@@ -12,6 +13,6 @@ mod stack;
 
 pub use conditions::condition;
 pub use expressions::expression;
-pub use lists::{after_close, after_comma, end, names, tuple, tuples};
+pub use lists::{after_close, after_comma, after_open, end, names, tuple, tuples};
 pub use literals::{literal, name, number};
 pub use refusal::{Refusal, unexpected};

@@ -22,6 +22,16 @@ pub fn after_comma(tokens: &[Token]) -> Option<&[Token]>
     }
 }
 
+/// What follows an opening bracket.
+pub fn after_open(tokens: &[Token]) -> Result<&[Token], Refusal>
+    ensures { Gives (λ r. r.now) result (parts.after_open tokens.now) }
+{
+    match tokens {
+        [Token::Open, rest @ ..] => Ok(rest),
+        _ => Err(unexpected(tokens)),
+    }
+}
+
 /// What follows a closing bracket.
 pub fn after_close(tokens: &[Token]) -> Result<&[Token], Refusal>
     ensures { Gives (λ r. r.now) result (parts.after_close tokens.now) }
@@ -77,18 +87,14 @@ fn literals(alloc: Global, tokens: &[Token]) -> Result<(Literals, &[Token]), Ref
 }
 
 /// Literals in brackets.
-#[tactic(auto, unfolding(crate::specs::Parts::tuple_at))]
+#[tactic(auto, using(crate::proofs::InParts::in_parts))]
 pub fn tuple(alloc: Global, tokens: &[Token]) -> Result<(Literals, &[Token]), Refusal>
     ensures { Gives (λ x. (x.0, x.1.now)) result (tuple_at tokens.now) }
 {
-    match tokens {
-        [Token::Open, rest @ ..] => {
-            let (literals, rest) = literals(alloc, rest)?;
-            let rest = after_close(rest)?;
-            Ok((literals, rest))
-        }
-        _ => Err(unexpected(tokens)),
-    }
+    let rest = after_open(tokens)?;
+    let (literals, rest) = literals(alloc, rest)?;
+    let rest = after_close(rest)?;
+    Ok((literals, rest))
 }
 
 pub fn tuples(alloc: Global, tokens: &[Token]) -> Result<(Tuples, &[Token]), Refusal>

@@ -6,7 +6,7 @@ ghost use Rattle.sql_conditions.specs.declared.refusal.Refusal.TheVariants.{NoMe
 use sql_grammar::Token;
 use std::alloc::{AllocError, AllocFailed};
 
-#[derive(Debug, Drop)]
+#[derive(Drop)]
 pub enum Refusal {
     /// So many tokens were left when the first of them, or the end, could not stand there.
     Unexpected { left: usize },

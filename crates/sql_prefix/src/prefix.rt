@@ -9,7 +9,7 @@ ghost use Rattle.sql_prefix.specs.Prefix.{ends_in as ends_so, Begins, GoesOn, Go
 
 use sql_grammar::Word;
 use sql_text::tokens_left;
-use sql_tokens::{lex, other_words, reserved_words, spelling};
+use sql_tokens::{capitals, lex, other_words, reserved_words, spelling};
 use std::alloc::{AllocError, Global};
 
 /// What may finish the last token or comment of a text, apart from the rest of a key word.
@@ -104,12 +104,6 @@ fn goes_on_by_token(alloc: Global, bytes: &[u8]) -> Result<bool, AllocError>
     ensures { IfOk result (λ b. Decides b (GoesOnByToken bytes.now)) }
 {
     goes_on_by_one(alloc, &TOKEN_ENDS, bytes)
-}
-
-fn capitals(alloc: Global, bytes: &[u8]) -> Result<Vec<u8>, AllocError>
-    ensures { IfOk result (λ v. v.items ≡ key_words.capitals bytes.now) }
-{
-    bytes.iter().map(|b| b.to_ascii_uppercase()).collect(alloc)
 }
 
 /// Whether the last bytes are these, in any case of letters.

@@ -17,7 +17,7 @@ use Rattle.sql_grammar.specs.declared.token.Token.{Token}
 use Rattle.sql_grammar.specs.declared.token.Token.TheVariants.{Key, Bare, Number, Compare, Open, Close}
 use Rattle.sql_grammar.specs.Grammar.{Name, Lit, Commas, Tuple, ColumnKind, Nullable, Primary, KeyWord, Bracketed, Define, IfNotExists, Engine, Into, ColumnList, ValuesWord, Work, SavepointWord, Switch, Scope, LevelName, Statement, size_of}
 use Rattle.sql_grammar.specs.Grammar as grammar
-use Rattle.sql_conditions.specs.Parts.{◌>>=◌, name_at, tuple_at, after_close, commas_at, end_of, ends_as}
+use Rattle.sql_conditions.specs.Parts.{◌>>=◌, name_at, tuple_at, after_open, after_close, commas_at, end_of, ends_as}
 use Rattle.sql_simple_statements.specs.Statements as read
 use Rattle.sql_conditions.proofs.Sound.{bind, weaker, name_sound, tuple_sound, items_sound, close_sound, end_sound, ends_sound}
 
@@ -93,7 +93,7 @@ skips_sound (Key word.If ∷ Key word.Not ∷ rest) = tt
 skips_sound (Key word.If ∷ rest) = tt
 skips_sound (other ∷ rest) = grammar.unsaid
 
-open_sound : (xs : List Token) → IfOk (read.after_open xs) (λ ys. xs ≡ Open ∷ ys)
+open_sound : (xs : List Token) → IfOk (after_open xs) (λ ys. xs ≡ Open ∷ ys)
 open_sound [] = tt
 open_sound (Open ∷ ys) = refl
 open_sound (other ∷ ys) = tt
@@ -126,9 +126,9 @@ pub create_sound : (xs : List Token) → IfOk (read.create_of xs) (λ s. Stateme
 unfolding read.create_of
 create_sound xs =
     let Q = λ (s : Stmt). Statement (Key word.Create ∷ Key word.Table ∷ xs) s in
-    bind (read.if_not_exists_at xs) (λ skips. name_at skips.1 >>= λ table. read.after_open table.1 >>= λ inside. commas_at read.define_at inside >>= λ definitions. after_close definitions.1 >>= λ rest. read.engine_of rest >>= λ nothing. Ok (stmt.CreateTable table.0 skips.0 definitions.0)) (λ r. IfNotExists xs r.0 r.1) Q (skips_sound xs)
-    (λ skips i. bind (name_at skips.1) (λ table. read.after_open table.1 >>= λ inside. commas_at read.define_at inside >>= λ definitions. after_close definitions.1 >>= λ rest. read.engine_of rest >>= λ nothing. Ok (stmt.CreateTable table.0 skips.0 definitions.0)) (λ r. Name skips.1 r.0 r.1) Q (name_sound skips.1)
-    (λ table n. bind (read.after_open table.1) (λ inside. commas_at read.define_at inside >>= λ definitions. after_close definitions.1 >>= λ rest. read.engine_of rest >>= λ nothing. Ok (stmt.CreateTable table.0 skips.0 definitions.0)) (λ ys. table.1 ≡ Open ∷ ys) Q (open_sound table.1)
+    bind (read.if_not_exists_at xs) (λ skips. name_at skips.1 >>= λ table. after_open table.1 >>= λ inside. commas_at read.define_at inside >>= λ definitions. after_close definitions.1 >>= λ rest. read.engine_of rest >>= λ nothing. Ok (stmt.CreateTable table.0 skips.0 definitions.0)) (λ r. IfNotExists xs r.0 r.1) Q (skips_sound xs)
+    (λ skips i. bind (name_at skips.1) (λ table. after_open table.1 >>= λ inside. commas_at read.define_at inside >>= λ definitions. after_close definitions.1 >>= λ rest. read.engine_of rest >>= λ nothing. Ok (stmt.CreateTable table.0 skips.0 definitions.0)) (λ r. Name skips.1 r.0 r.1) Q (name_sound skips.1)
+    (λ table n. bind (after_open table.1) (λ inside. commas_at read.define_at inside >>= λ definitions. after_close definitions.1 >>= λ rest. read.engine_of rest >>= λ nothing. Ok (stmt.CreateTable table.0 skips.0 definitions.0)) (λ ys. table.1 ≡ Open ∷ ys) Q (open_sound table.1)
     (λ inside o. bind (commas_at read.define_at inside) (λ definitions. after_close definitions.1 >>= λ rest. read.engine_of rest >>= λ nothing. Ok (stmt.CreateTable table.0 skips.0 definitions.0)) (λ r. Commas Define inside r.0 r.1) Q (items_sound read.define_at Define define_sound (length inside) inside)
     (λ definitions d. bind (after_close definitions.1) (λ rest. read.engine_of rest >>= λ nothing. Ok (stmt.CreateTable table.0 skips.0 definitions.0)) (λ ys. definitions.1 ≡ Close ∷ ys) Q (close_sound definitions.1)
     (λ rest c. bind (read.engine_of rest) (λ nothing. Ok (stmt.CreateTable table.0 skips.0 definitions.0)) (λ _. Engine rest) Q (engine_sound rest)

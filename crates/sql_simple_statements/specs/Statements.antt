@@ -16,31 +16,46 @@ use Rattle.sql_grammar.specs.declared.token.Word.TheVariants as word
 use Rattle.sql_grammar.specs.declared.token.Token.{Token}
 use Rattle.sql_grammar.specs.declared.token.Token.TheVariants.{Key, Bare, Number, Compare, Open}
 use Rattle.sql_grammar.specs.Grammar.{size_of}
-use Rattle.sql_conditions.specs.Parts.{Read, ◌>>=◌, name_at, tuple_at, commas_at, after_close, end_of, ends_as}
+use Rattle.sql_conditions.specs.Parts.{Read, ◌>>=◌, name_at, tuple_at, commas_at, after_open, after_close, end_of, ends_as}
 
 -- ---- CREATE TABLE
 
+-- behind VARBINARY and an opening bracket
+abbrev pub sized_at : List Token → Read DeclaredKind
+sized_at (Number digits ∷ rest) = after_close rest >>= λ r. Ok (kind.VarBinary (size_of digits), r)
+sized_at rest = Err rest
+
+-- behind VARBINARY
+abbrev pub var_binary_at : List Token → Read DeclaredKind
+var_binary_at (Open ∷ rest) = sized_at rest
+var_binary_at rest = Err rest
+
 unfoldable pub kind_at : List Token → Read DeclaredKind
 kind_at (Key word.BigInt ∷ rest) = Ok (kind.BigInt, rest)
-kind_at (Key word.VarBinary ∷ Open ∷ Number digits ∷ rest) = after_close rest >>= λ r. Ok (kind.VarBinary (size_of digits), r)
-kind_at (Key word.VarBinary ∷ Open ∷ rest) = Err rest
-kind_at (Key word.VarBinary ∷ rest) = Err rest
+kind_at (Key word.VarBinary ∷ rest) = var_binary_at rest
 kind_at tokens = Err tokens
 
+-- behind NOT
+abbrev pub not_null_at : List Token → Read (Option Bool)
+not_null_at (Key word.Null ∷ rest) = Ok (Some false, rest)
+not_null_at rest = Err rest
+
 unfoldable pub nullable_at : List Token → Read (Option Bool)
-nullable_at (Key word.Not ∷ Key word.Null ∷ rest) = Ok (Some false, rest)
-nullable_at (Key word.Not ∷ rest) = Err rest
+nullable_at (Key word.Not ∷ rest) = not_null_at rest
 nullable_at (Key word.Null ∷ rest) = Ok (Some true, rest)
 nullable_at rest = Ok (None, rest)
 
+-- behind PRIMARY
+abbrev pub primary_key_at : List Token → Read Bool
+primary_key_at (Key word.Key ∷ rest) = Ok (true, rest)
+primary_key_at rest = Err rest
+
 unfoldable pub primary_at : List Token → Read Bool
-primary_at (Key word.Primary ∷ Key word.Key ∷ rest) = Ok (true, rest)
-primary_at (Key word.Primary ∷ rest) = Err rest
+primary_at (Key word.Primary ∷ rest) = primary_key_at rest
 primary_at rest = Ok (false, rest)
 
 unfoldable pub bracketed_at : List Token → Read (List ℕ)
-bracketed_at (Open ∷ rest) = name_at rest >>= λ name. after_close name.1 >>= λ r. Ok (name.0, r)
-bracketed_at tokens = Err tokens
+bracketed_at tokens = after_open tokens >>= λ inside. name_at inside >>= λ name. after_close name.1 >>= λ r. Ok (name.0, r)
 
 unfoldable pub column_at : List Token → Read Definition
 column_at tokens = do
@@ -57,17 +72,28 @@ key_at rest = do
   column ← bracketed_at name.1
   Ok (definition.Key (Some name.0) column.0, column.1)
 
+-- behind PRIMARY, where it is a definition of its own
+abbrev pub primary_column_at : List Token → Read Definition
+primary_column_at tokens = primary_key_at tokens >>= λ said. bracketed_at said.1 >>= λ column. Ok (definition.Primary column.0, column.1)
+
 unfoldable pub define_at : List Token → Read Definition
-define_at (Key word.Primary ∷ Key word.Key ∷ rest) = bracketed_at rest >>= λ column. Ok (definition.Primary column.0, column.1)
-define_at (Key word.Primary ∷ rest) = Err rest
+define_at (Key word.Primary ∷ rest) = primary_column_at rest
 define_at (Key word.Key ∷ rest) = key_at rest
 define_at (Key word.Index ∷ rest) = key_at rest
 define_at tokens = column_at tokens
 
+-- behind IF NOT
+abbrev pub exists_at : List Token → Read Bool
+exists_at (Key word.Exists ∷ rest) = Ok (true, rest)
+exists_at rest = Err rest
+
+-- behind IF
+abbrev pub not_exists_at : List Token → Read Bool
+not_exists_at (Key word.Not ∷ rest) = exists_at rest
+not_exists_at rest = Err rest
+
 unfoldable pub if_not_exists_at : List Token → Read Bool
-if_not_exists_at (Key word.If ∷ Key word.Not ∷ Key word.Exists ∷ rest) = Ok (true, rest)
-if_not_exists_at (Key word.If ∷ Key word.Not ∷ rest) = Err rest
-if_not_exists_at (Key word.If ∷ rest) = Err rest
+if_not_exists_at (Key word.If ∷ rest) = not_exists_at rest
 if_not_exists_at rest = Ok (false, rest)
 
 unfoldable pub inno_db_of : List Token → Result (Unit {0}) (List Token)
@@ -79,10 +105,6 @@ engine_of [] = Ok tt
 engine_of (Bare (Some word.Engine) a ∷ Compare Equal ∷ rest) = inno_db_of rest
 engine_of (Bare (Some word.Engine) a ∷ rest) = inno_db_of rest
 engine_of rest = Err rest
-
-abbrev pub after_open : List Token → Result (List Token) (List Token)
-after_open (Open ∷ rest) = Ok rest
-after_open rest = Err rest
 
 unfoldable pub create_of : List Token → Result Stmt (List Token)
 create_of tokens = do
@@ -107,8 +129,12 @@ abbrev pub after_into : List Token → List Token
 after_into (Key word.Into ∷ rest) = rest
 after_into rest = rest
 
+-- behind the opening bracket
+abbrev pub listed_at : List Token → Read (Option (List (List ℕ)))
+listed_at tokens = commas_at name_at tokens >>= λ names. after_close names.1 >>= λ r. Ok (Some names.0, r)
+
 unfoldable pub columns_at : List Token → Read (Option (List (List ℕ)))
-columns_at (Open ∷ rest) = commas_at name_at rest >>= λ names. after_close names.1 >>= λ r. Ok (Some names.0, r)
+columns_at (Open ∷ rest) = listed_at rest
 columns_at rest = Ok (None, rest)
 
 unfoldable pub after_values : List Token → Result (List Token) (List Token)
@@ -136,10 +162,14 @@ begin_of rest = end_of (after_work rest) >>= λ nothing. Ok (stmt.Begin false)
 unfoldable pub commit_of : List Token → Result Stmt (List Token)
 commit_of rest = end_of (after_work rest) >>= λ nothing. Ok stmt.Commit
 
+-- behind WITH CONSISTENT
+abbrev pub consistent_of : List Token → Result Stmt (List Token)
+consistent_of (Bare (Some word.Snapshot) a ∷ rest) = ends_as (stmt.Begin true) rest
+consistent_of rest = Err rest
+
 -- behind WITH
 unfoldable pub with_snapshot_of : List Token → Result Stmt (List Token)
-with_snapshot_of (Bare (Some word.Consistent) a ∷ Bare (Some word.Snapshot) b ∷ rest) = ends_as (stmt.Begin true) rest
-with_snapshot_of (Bare (Some word.Consistent) a ∷ rest) = Err rest
+with_snapshot_of (Bare (Some word.Consistent) a ∷ rest) = consistent_of rest
 with_snapshot_of rest = Err rest
 
 unfoldable pub snapshot_of : List Token → Result Stmt (List Token)
@@ -163,9 +193,13 @@ savepoint_of (Bare (Some word.Savepoint) a ∷ []) = Ok a
 savepoint_of (Bare (Some word.Savepoint) a ∷ rest) = name_of rest
 savepoint_of rest = name_of rest
 
+-- behind TO
+abbrev pub rollback_to_of : List Token → Result Stmt (List Token)
+rollback_to_of rest = savepoint_of rest >>= λ name. Ok (stmt.RollbackTo name)
+
 unfoldable pub rollback_of : List Token → Result Stmt (List Token)
 rollback_of [] = Ok stmt.Rollback
-rollback_of (Key word.To ∷ rest) = savepoint_of rest >>= λ name. Ok (stmt.RollbackTo name)
+rollback_of (Key word.To ∷ rest) = rollback_to_of rest
 rollback_of rest = Err rest
 
 unfoldable pub switch_of : List Token → Result Bool (List Token)
@@ -177,8 +211,11 @@ switch_of (Bare (Some word.On) a ∷ rest) = ends_as true rest
 switch_of (Bare (Some word.Off) a ∷ rest) = ends_as false rest
 switch_of rest = Err rest
 
+abbrev pub set_autocommit_of : List Token → Result Stmt (List Token)
+set_autocommit_of rest = switch_of rest >>= λ on. Ok (stmt.SetAutocommit on)
+
 unfoldable pub autocommit_of : List Token → Result Stmt (List Token)
-autocommit_of (Compare Equal ∷ rest) = switch_of rest >>= λ on. Ok (stmt.SetAutocommit on)
+autocommit_of (Compare Equal ∷ rest) = set_autocommit_of rest
 autocommit_of rest = Err rest
 
 -- behind READ
@@ -187,15 +224,22 @@ read_level_of (Bare (Some word.Uncommitted) a ∷ rest) = ends_as level.ReadUnco
 read_level_of (Bare (Some word.Committed) a ∷ rest) = ends_as level.ReadCommitted rest
 read_level_of rest = Err rest
 
+-- behind REPEATABLE
+abbrev pub repeatable_of : List Token → Result Level (List Token)
+repeatable_of (Bare (Some word.Read) a ∷ rest) = ends_as level.RepeatableRead rest
+repeatable_of rest = Err rest
+
 unfoldable pub level_name_of : List Token → Result Level (List Token)
 level_name_of (Bare (Some word.Read) a ∷ rest) = read_level_of rest
-level_name_of (Bare (Some word.Repeatable) a ∷ Bare (Some word.Read) b ∷ rest) = ends_as level.RepeatableRead rest
-level_name_of (Bare (Some word.Repeatable) a ∷ rest) = Err rest
+level_name_of (Bare (Some word.Repeatable) a ∷ rest) = repeatable_of rest
 level_name_of (Bare (Some word.Serializable) a ∷ rest) = ends_as level.Serializable rest
 level_name_of rest = Err rest
 
+abbrev pub set_level_of : LevelScope → List Token → Result Stmt (List Token)
+set_level_of scope rest = level_name_of rest >>= λ name. Ok (stmt.SetLevel scope name)
+
 unfoldable pub level_word_of : LevelScope → List Token → Result Stmt (List Token)
-level_word_of scope (Bare (Some word.Level) a ∷ rest) = level_name_of rest >>= λ name. Ok (stmt.SetLevel scope name)
+level_word_of scope (Bare (Some word.Level) a ∷ rest) = set_level_of scope rest
 level_word_of scope rest = Err rest
 
 unfoldable pub isolation_of : LevelScope → List Token → Result Stmt (List Token)

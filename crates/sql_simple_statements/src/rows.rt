@@ -42,13 +42,18 @@ fn columns(alloc: Global, tokens: &[Token]) -> Result<(Option<Names>, &[Token]),
     ensures { Gives (λ x. (x.0, x.1.now)) result (read.columns_at tokens.now) }
 {
     match tokens {
-        [Token::Open, rest @ ..] => {
-            let (names, rest) = names(alloc, rest)?;
-            let rest = after_close(rest)?;
-            Ok((Some(names), rest))
-        }
+        [Token::Open, rest @ ..] => listed(alloc, rest),
         _ => Ok((None, tokens)),
     }
+}
+
+/// What stands behind the opening bracket.
+fn listed(alloc: Global, tokens: &[Token]) -> Result<(Option<Names>, &[Token]), Refusal>
+    ensures { Gives (λ x. (x.0, x.1.now)) result (read.listed_at tokens.now) }
+{
+    let (names, rest) = names(alloc, tokens)?;
+    let rest = after_close(rest)?;
+    Ok((Some(names), rest))
 }
 
 #[tactic(auto, unfolding(crate::specs::Statements::after_values))]

@@ -2,7 +2,7 @@
 //! Nothing is set here; who runs the statement does that.
 
 ghost use Rattle.std.specs.Prelude.{◌≡◌};
-ghost use Rattle.sql_conditions.specs.Parts.{Gives};
+ghost use Rattle.sql_conditions.specs.Parts.{Gives, ends_as};
 ghost use Rattle.sql_simple_statements.specs.Statements as read;
 
 use inno_types::{Comparison, Level, LevelScope, Stmt};
@@ -26,12 +26,16 @@ fn autocommit(tokens: &[Token]) -> Result<Stmt, Refusal>
     ensures { Gives (λ s. s) result (read.autocommit_of tokens.now) }
 {
     match tokens {
-        [Token::Compare(Comparison::Equal), rest @ ..] => {
-            let on = switch(rest)?;
-            Ok(Stmt::SetAutocommit(on))
-        }
+        [Token::Compare(Comparison::Equal), rest @ ..] => set_autocommit(rest),
         _ => Err(unexpected(tokens)),
     }
+}
+
+fn set_autocommit(tokens: &[Token]) -> Result<Stmt, Refusal>
+    ensures { Gives (λ s. s) result (read.set_autocommit_of tokens.now) }
+{
+    let on = switch(tokens)?;
+    Ok(Stmt::SetAutocommit(on))
 }
 
 #[tactic(auto, unfolding(crate::specs::Statements::switch_of))]
@@ -41,25 +45,25 @@ fn switch(tokens: &[Token]) -> Result<bool, Refusal>
     match tokens {
         [Token::Number(digits), rest @ ..] => {
             if digits.as_slice() == b"0".as_slice() {
-                end(rest)?;
-                return Ok(false);
+                return last_switch(false, rest);
             }
             if digits.as_slice() == b"1".as_slice() {
-                end(rest)?;
-                return Ok(true);
+                return last_switch(true, rest);
             }
             Err(unexpected(tokens))
         }
-        [Token::Bare(Some(Word::On), _), rest @ ..] => {
-            end(rest)?;
-            Ok(true)
-        }
-        [Token::Bare(Some(Word::Off), _), rest @ ..] => {
-            end(rest)?;
-            Ok(false)
-        }
+        [Token::Bare(Some(Word::On), _), rest @ ..] => last_switch(true, rest),
+        [Token::Bare(Some(Word::Off), _), rest @ ..] => last_switch(false, rest),
         _ => Err(unexpected(tokens)),
     }
+}
+
+/// The switch, where nothing stands behind it.
+fn last_switch(on: bool, tokens: &[Token]) -> Result<bool, Refusal>
+    ensures { Gives (λ x. x) result (ends_as on tokens.now) }
+{
+    end(tokens)?;
+    Ok(on)
 }
 
 #[tactic(auto, unfolding(crate::specs::Statements::level_of))]
@@ -87,12 +91,16 @@ fn level_word(scope: LevelScope, tokens: &[Token]) -> Result<Stmt, Refusal>
     ensures { Gives (λ s. s) result (read.level_word_of scope tokens.now) }
 {
     match tokens {
-        [Token::Bare(Some(Word::Level), _), rest @ ..] => {
-            let level = level_name(rest)?;
-            Ok(Stmt::SetLevel { scope, level })
-        }
+        [Token::Bare(Some(Word::Level), _), rest @ ..] => set_level(scope, rest),
         _ => Err(unexpected(tokens)),
     }
+}
+
+fn set_level(scope: LevelScope, tokens: &[Token]) -> Result<Stmt, Refusal>
+    ensures { Gives (λ s. s) result (read.set_level_of scope tokens.now) }
+{
+    let level = level_name(tokens)?;
+    Ok(Stmt::SetLevel { scope, level })
 }
 
 #[tactic(auto, unfolding(crate::specs::Statements::level_name_of))]
@@ -101,21 +109,30 @@ fn level_name(tokens: &[Token]) -> Result<Level, Refusal>
 {
     match tokens {
         [Token::Bare(Some(Word::Read), _), rest @ ..] => read_level(rest),
-        [
-            Token::Bare(Some(Word::Repeatable), _),
-            Token::Bare(Some(Word::Read), _),
-            rest @ ..,
-        ] => {
-            end(rest)?;
-            Ok(Level::RepeatableRead)
-        }
-        [Token::Bare(Some(Word::Repeatable), _), rest @ ..] => Err(unexpected(rest)),
+        [Token::Bare(Some(Word::Repeatable), _), rest @ ..] => repeatable(rest),
         [Token::Bare(Some(Word::Serializable), _), rest @ ..] => {
-            end(rest)?;
-            Ok(Level::Serializable)
+            last_level(Level::Serializable, rest)
         }
         _ => Err(unexpected(tokens)),
     }
+}
+
+/// What stands behind REPEATABLE.
+fn repeatable(tokens: &[Token]) -> Result<Level, Refusal>
+    ensures { Gives (λ x. x) result (read.repeatable_of tokens.now) }
+{
+    match tokens {
+        [Token::Bare(Some(Word::Read), _), rest @ ..] => last_level(Level::RepeatableRead, rest),
+        _ => Err(unexpected(tokens)),
+    }
+}
+
+/// The level, where nothing stands behind it.
+fn last_level(level: Level, tokens: &[Token]) -> Result<Level, Refusal>
+    ensures { Gives (λ x. x) result (ends_as level tokens.now) }
+{
+    end(tokens)?;
+    Ok(level)
 }
 
 /// What stands behind READ.
@@ -125,12 +142,10 @@ fn read_level(tokens: &[Token]) -> Result<Level, Refusal>
 {
     match tokens {
         [Token::Bare(Some(Word::Uncommitted), _), rest @ ..] => {
-            end(rest)?;
-            Ok(Level::ReadUncommitted)
+            last_level(Level::ReadUncommitted, rest)
         }
         [Token::Bare(Some(Word::Committed), _), rest @ ..] => {
-            end(rest)?;
-            Ok(Level::ReadCommitted)
+            last_level(Level::ReadCommitted, rest)
         }
         _ => Err(unexpected(tokens)),
     }

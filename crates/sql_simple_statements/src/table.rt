@@ -7,7 +7,9 @@ ghost use Rattle.sql_conditions.specs.Parts.{Gives, commas_at};
 ghost use Rattle.sql_simple_statements.specs.Statements as read;
 
 use inno_types::{Bytes, Comparison, DeclaredKind, Definition, Definitions, Stmt};
-use sql_conditions::{Refusal, after_close, after_comma, end, name, number, unexpected};
+use sql_conditions::{
+    Refusal, after_close, after_comma, after_open, end, name, number, unexpected,
+};
 use sql_grammar::{Token, Word};
 use std::alloc::Global;
 
@@ -52,23 +54,27 @@ fn if_not_exists(tokens: &[Token]) -> Result<(bool, &[Token]), Refusal>
     ensures { Gives (λ x. (x.0, x.1.now)) result (read.if_not_exists_at tokens.now) }
 {
     match tokens {
-        [
-            Token::Key(Word::If),
-            Token::Key(Word::Not),
-            Token::Key(Word::Exists),
-            rest @ ..,
-        ] => { Ok((true, rest)) }
-        [Token::Key(Word::If), Token::Key(Word::Not), rest @ ..] => Err(unexpected(rest)),
-        [Token::Key(Word::If), rest @ ..] => Err(unexpected(rest)),
+        [Token::Key(Word::If), rest @ ..] => not_exists(rest),
         _ => Ok((false, tokens)),
     }
 }
 
-fn after_open(tokens: &[Token]) -> Result<&[Token], Refusal>
-    ensures { Gives (λ r. r.now) result (read.after_open tokens.now) }
+/// What stands behind IF.
+fn not_exists(tokens: &[Token]) -> Result<(bool, &[Token]), Refusal>
+    ensures { Gives (λ x. (x.0, x.1.now)) result (read.not_exists_at tokens.now) }
 {
     match tokens {
-        [Token::Open, rest @ ..] => Ok(rest),
+        [Token::Key(Word::Not), rest @ ..] => exists(rest),
+        _ => Err(unexpected(tokens)),
+    }
+}
+
+/// What stands behind IF NOT.
+fn exists(tokens: &[Token]) -> Result<(bool, &[Token]), Refusal>
+    ensures { Gives (λ x. (x.0, x.1.now)) result (read.exists_at tokens.now) }
+{
+    match tokens {
+        [Token::Key(Word::Exists), rest @ ..] => Ok((true, rest)),
         _ => Err(unexpected(tokens)),
     }
 }
@@ -95,15 +101,20 @@ fn definition(tokens: &[Token]) -> Result<(Definition, &[Token]), Refusal>
     ensures { Gives (λ x. (x.0, x.1.now)) result (read.define_at tokens.now) }
 {
     match tokens {
-        [Token::Key(Word::Primary), Token::Key(Word::Key), rest @ ..] => {
-            let (column, rest) = bracketed(rest)?;
-            Ok((Definition::Primary { column }, rest))
-        }
-        [Token::Key(Word::Primary), rest @ ..] => Err(unexpected(rest)),
+        [Token::Key(Word::Primary), rest @ ..] => primary_column(rest),
         [Token::Key(Word::Key), rest @ ..] => key(rest),
         [Token::Key(Word::Index), rest @ ..] => key(rest),
         _ => column(tokens),
     }
+}
+
+/// What stands behind PRIMARY, where it is a definition of its own.
+fn primary_column(tokens: &[Token]) -> Result<(Definition, &[Token]), Refusal>
+    ensures { Gives (λ x. (x.0, x.1.now)) result (read.primary_column_at tokens.now) }
+{
+    let (_, rest) = primary_key(tokens)?;
+    let (column, rest) = bracketed(rest)?;
+    Ok((Definition::Primary { column }, rest))
 }
 
 #[tactic(auto, unfolding(crate::specs::Statements::key_at))]
@@ -129,14 +140,10 @@ fn key(tokens: &[Token]) -> Result<(Definition, &[Token]), Refusal>
 fn bracketed(tokens: &[Token]) -> Result<(Bytes, &[Token]), Refusal>
     ensures { Gives (λ x. (x.0, x.1.now)) result (read.bracketed_at tokens.now) }
 {
-    match tokens {
-        [Token::Open, rest @ ..] => {
-            let (name, rest) = name(rest)?;
-            let rest = after_close(rest)?;
-            Ok((name, rest))
-        }
-        _ => Err(unexpected(tokens)),
-    }
+    let inside = after_open(tokens)?;
+    let (name, rest) = name(inside)?;
+    let rest = after_close(rest)?;
+    Ok((name, rest))
 }
 
 #[tactic(auto, unfolding(crate::specs::Statements::column_at))]
@@ -162,17 +169,30 @@ fn kind(tokens: &[Token]) -> Result<(DeclaredKind, &[Token]), Refusal>
 {
     match tokens {
         [Token::Key(Word::BigInt), rest @ ..] => Ok((DeclaredKind::BigInt, rest)),
-        [
-            Token::Key(Word::VarBinary),
-            Token::Open,
-            Token::Number(digits),
-            rest @ ..,
-        ] => {
+        [Token::Key(Word::VarBinary), rest @ ..] => var_binary(rest),
+        _ => Err(unexpected(tokens)),
+    }
+}
+
+/// What stands behind VARBINARY.
+fn var_binary(tokens: &[Token]) -> Result<(DeclaredKind, &[Token]), Refusal>
+    ensures { Gives (λ x. (x.0, x.1.now)) result (read.var_binary_at tokens.now) }
+{
+    match tokens {
+        [Token::Open, rest @ ..] => sized(rest),
+        _ => Err(unexpected(tokens)),
+    }
+}
+
+/// What stands behind VARBINARY and an opening bracket.
+fn sized(tokens: &[Token]) -> Result<(DeclaredKind, &[Token]), Refusal>
+    ensures { Gives (λ x. (x.0, x.1.now)) result (read.sized_at tokens.now) }
+{
+    match tokens {
+        [Token::Number(digits), rest @ ..] => {
             let rest = after_close(rest)?;
             Ok((DeclaredKind::VarBinary(size(digits.as_slice())), rest))
         }
-        [Token::Key(Word::VarBinary), Token::Open, rest @ ..] => Err(unexpected(rest)),
-        [Token::Key(Word::VarBinary), rest @ ..] => Err(unexpected(rest)),
         _ => Err(unexpected(tokens)),
     }
 }
@@ -193,10 +213,19 @@ fn nullable(tokens: &[Token]) -> Result<(Option<bool>, &[Token]), Refusal>
     ensures { Gives (λ x. (x.0, x.1.now)) result (read.nullable_at tokens.now) }
 {
     match tokens {
-        [Token::Key(Word::Not), Token::Key(Word::Null), rest @ ..] => Ok((Some(false), rest)),
-        [Token::Key(Word::Not), rest @ ..] => Err(unexpected(rest)),
+        [Token::Key(Word::Not), rest @ ..] => not_null(rest),
         [Token::Key(Word::Null), rest @ ..] => Ok((Some(true), rest)),
         _ => Ok((None, tokens)),
+    }
+}
+
+/// What stands behind NOT.
+fn not_null(tokens: &[Token]) -> Result<(Option<bool>, &[Token]), Refusal>
+    ensures { Gives (λ x. (x.0, x.1.now)) result (read.not_null_at tokens.now) }
+{
+    match tokens {
+        [Token::Key(Word::Null), rest @ ..] => Ok((Some(false), rest)),
+        _ => Err(unexpected(tokens)),
     }
 }
 
@@ -205,9 +234,18 @@ fn primary(tokens: &[Token]) -> Result<(bool, &[Token]), Refusal>
     ensures { Gives (λ x. (x.0, x.1.now)) result (read.primary_at tokens.now) }
 {
     match tokens {
-        [Token::Key(Word::Primary), Token::Key(Word::Key), rest @ ..] => Ok((true, rest)),
-        [Token::Key(Word::Primary), rest @ ..] => Err(unexpected(rest)),
+        [Token::Key(Word::Primary), rest @ ..] => primary_key(rest),
         _ => Ok((false, tokens)),
+    }
+}
+
+/// What stands behind PRIMARY.
+fn primary_key(tokens: &[Token]) -> Result<(bool, &[Token]), Refusal>
+    ensures { Gives (λ x. (x.0, x.1.now)) result (read.primary_key_at tokens.now) }
+{
+    match tokens {
+        [Token::Key(Word::Key), rest @ ..] => Ok((true, rest)),
+        _ => Err(unexpected(tokens)),
     }
 }
 

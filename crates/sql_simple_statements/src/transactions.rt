@@ -1,8 +1,9 @@
 //! Statements that begin and end transactions, and those on savepoints.
 //! Nothing is begun or ended here; who runs the statement does that.
 
-ghost use Rattle.std.specs.Prelude.{◌≡◌};
-ghost use Rattle.sql_conditions.specs.Parts.{Gives};
+ghost use Rattle.std.specs.Prelude.{◌≡◌, true};
+ghost use Rattle.inno_types.specs.declared.stmt.Stmt.TheVariants as stmt;
+ghost use Rattle.sql_conditions.specs.Parts.{Gives, ends_as};
 ghost use Rattle.sql_simple_statements.specs.Statements as read;
 
 use inno_types::{Bytes, Stmt};
@@ -73,17 +74,26 @@ fn with_snapshot(tokens: &[Token]) -> Result<Stmt, Refusal>
     ensures { Gives (λ s. s) result (read.with_snapshot_of tokens.now) }
 {
     match tokens {
-        [
-            Token::Bare(Some(Word::Consistent), _),
-            Token::Bare(Some(Word::Snapshot), _),
-            rest @ ..,
-        ] => {
-            end(rest)?;
-            Ok(Stmt::Begin { snapshot: true })
-        }
-        [Token::Bare(Some(Word::Consistent), _), rest @ ..] => Err(unexpected(rest)),
+        [Token::Bare(Some(Word::Consistent), _), rest @ ..] => consistent(rest),
         _ => Err(unexpected(tokens)),
     }
+}
+
+/// What stands behind WITH CONSISTENT.
+fn consistent(tokens: &[Token]) -> Result<Stmt, Refusal>
+    ensures { Gives (λ s. s) result (read.consistent_of tokens.now) }
+{
+    match tokens {
+        [Token::Bare(Some(Word::Snapshot), _), rest @ ..] => begin_with_snapshot(rest),
+        _ => Err(unexpected(tokens)),
+    }
+}
+
+fn begin_with_snapshot(tokens: &[Token]) -> Result<Stmt, Refusal>
+    ensures { Gives (λ s. s) result (ends_as (stmt.Begin true) tokens.now) }
+{
+    end(tokens)?;
+    Ok(Stmt::Begin { snapshot: true })
 }
 
 /// A name, and nothing behind it.
@@ -109,12 +119,17 @@ fn rollback_behind_work(tokens: &[Token]) -> Result<Stmt, Refusal>
 {
     match tokens {
         [] => Ok(Stmt::Rollback),
-        [Token::Key(Word::To), rest @ ..] => {
-            let savepoint = savepoint_behind_to(rest)?;
-            Ok(Stmt::RollbackTo { savepoint })
-        }
+        [Token::Key(Word::To), rest @ ..] => rollback_to(rest),
         _ => Err(unexpected(tokens)),
     }
+}
+
+/// What stands behind TO.
+fn rollback_to(tokens: &[Token]) -> Result<Stmt, Refusal>
+    ensures { Gives (λ s. s) result (read.rollback_to_of tokens.now) }
+{
+    let savepoint = savepoint_behind_to(tokens)?;
+    Ok(Stmt::RollbackTo { savepoint })
 }
 
 /// A savepoint behind TO. A lone SAVEPOINT is its name.

@@ -15,7 +15,7 @@ use Rattle.sql_grammar.specs.Words.{spelling}
 use Rattle.sql_grammar.specs.Grammar.{size_of, Name}
 use Rattle.sql_grammar.specs.Tokens.{after_blank, token_at, sign_at, word_token}
 use Rattle.sql_grammar.specs.Tokens as spelled
-use Rattle.sql_conditions.specs.Parts.{Read, ◌>>=◌, name_at, items_at, commas_at, after_close, end_of, ends_as}
+use Rattle.sql_conditions.specs.Parts.{Read, ◌>>=◌, name_at, items_at, commas_at, after_open, after_close, end_of, ends_as}
 use Rattle.sql_simple_statements.specs.Statements as read
 use Rattle.sql_conditions.proofs.Sound.{bind, weaker, name_sound}
 use Rattle.sql_conditions.proofs.Complete.{name_shorter}
@@ -413,7 +413,7 @@ engine_settles (Bare (Some word.Engine) a ∷ Compare Equal ∷ rest) = inno_db_
 engine_settles (Bare (Some word.Engine) a ∷ t ∷ rest) = inno_db_settles (t ∷ rest)
 engine_settles (t ∷ rest) = wrong t rest refl (λ zs. refl)
 
-open_stays : {Fits : List Token → Type 0} (xs : List Token) → Stays alone Fits (read.after_open xs) (λ zs. read.after_open (xs ++ zs))
+open_stays : {Fits : List Token → Type 0} (xs : List Token) → Stays alone Fits (after_open xs) (λ zs. after_open (xs ++ zs))
 open_stays [] = cut_off (Open ∷ []) tt refl said_open (λ zs z. refl)
 open_stays (Open ∷ rest) = reads tt rest refl (λ zs. refl)
 open_stays (t ∷ rest) = faulty t rest refl (λ zs. refl)
@@ -439,7 +439,7 @@ module _ (skips : Bool) (table : List ℕ) where
       (λ definitions. last_wanted (Close ∷ []) (stmt.CreateTable table skips definitions) refl said_close at_close refl)
 
   abbrev TableOpen : List Token → Result Stmt (List Token)
-  TableOpen xs = read.after_open xs >>= λ inside. TableBody inside
+  TableOpen xs = after_open xs >>= λ inside. TableBody inside
 
   table_open : (xs : List Token) → Settles (TableOpen xs) (λ zs. TableOpen (xs ++ zs))
   unfolding items_at

@@ -86,8 +86,13 @@ fn where_lock(alloc: Global, tokens: &[Token]) -> Result<(Option<Filter>, Option
     ensures spelled { IfOk result (λ x. (rest : List Token) × Where tokens.now x.0 rest × Locking rest x.1) }
 {
     let (filter, rest) = where_clause(alloc, tokens)?;
-    let lock = locking(rest)?;
-    Ok((filter, lock))
+    match locking(rest) {
+        Ok(lock) => Ok((filter, lock)),
+        Err(refusal) => {
+            drop(filter);
+            Err(refusal)
+        }
+    }
 }
 
 /// A condition, and nothing behind it.
@@ -97,8 +102,13 @@ fn last_where(alloc: Global, tokens: &[Token]) -> Result<Option<Filter>, Refusal
     ensures spelled { IfOk result (λ filter. Where tokens.now filter []) }
 {
     let (filter, rest) = where_clause(alloc, tokens)?;
-    end(rest)?;
-    Ok(filter)
+    match end(rest) {
+        Ok(()) => Ok(filter),
+        Err(refusal) => {
+            drop(filter);
+            Err(refusal)
+        }
+    }
 }
 
 #[tactic(auto, unfolding(crate::specs::Whole::after_where))]

@@ -12,4 +12,4 @@ mod word;
 pub use blank::after_blank;
 pub use lexed::{Lexed, lex};
 pub use token::token_at;
-pub use word::{other_words, reserved_words, spelling};
+pub use word::{capitals, other_words, reserved_words, spelling};

@@ -99,7 +99,8 @@ pub(crate) fn word_token(alloc: Global, bytes: &[u8]) -> Result<Token, AllocErro
     }
 }
 
-fn capitals(alloc: Global, bytes: &[u8]) -> Result<Vec<u8>, AllocError>
+/// The bytes with each small letter as a capital.
+pub fn capitals(alloc: Global, bytes: &[u8]) -> Result<Vec<u8>, AllocError>
     ensures { IfOk result (λ v. v.items ≡ spelled_words.capitals bytes.now) }
 {
     bytes.iter().map(|b| b.to_ascii_uppercase()).collect(alloc)

@@ -10,9 +10,9 @@ pub returns-in_ok-push_two-in-Times-clause-spelled : goal.returns-in_ok-push_two
 returns-in_ok-push_two-in-Times-clause-spelled c = λ all h.
     waits_times all (frame.Minus c.args.left ∷ c.args.stack.now) c.push_two.new.self c.args.operand c.args.tokens.now c.in-Times.rest.now c.in_ok-push_two-in-Times.ensures tt (sym c.in-Times.ensures) h
 
-pub returns-in_ok-right-in_default-clause-exact : goal.returns-in_ok-right-in_default-clause-exact
-returns-in_ok-right-in_default-clause-exact c = goes_in_difference c.args.stack.now c.args.tokens.now (no_star_at c.next_of.result c.args.tokens.now c.next_of.ensures c.in_default.not-Times)
+pub returns-in_ok-left-in_default-clause-exact : goal.returns-in_ok-left-in_default-clause-exact
+returns-in_ok-left-in_default-clause-exact c = goes_in_difference c.args.stack.now c.args.tokens.now (no_star_at c.next_of.result c.args.tokens.now c.next_of.ensures c.in_default.not-Times)
 
-pub returns-in_ok-right-in_default-clause-spelled : goal.returns-in_ok-right-in_default-clause-spelled
-returns-in_ok-right-in_default-clause-spelled c = λ all h.
-    closes_minus all c.args.stack.now c.args.left c.args.operand _ _ _ _ c.args.tokens.now (no_star_at c.next_of.result c.args.tokens.now c.next_of.ensures c.in_default.not-Times) c.in_ok-left-in_default.ensures.ok c.in_ok-right-in_default.ensures.ok h
+pub returns-in_ok-left-in_default-clause-spelled : goal.returns-in_ok-left-in_default-clause-spelled
+returns-in_ok-left-in_default-clause-spelled c = λ all h.
+    closes_minus all c.args.stack.now c.args.left c.args.operand _ _ _ _ c.args.tokens.now (no_star_at c.next_of.result c.args.tokens.now c.next_of.ensures c.in_default.not-Times) c.in_ok-left-in_default.ensures.0 c.in_ok-left-in_default.ensures.1 h
