@@ -1,11 +1,11 @@
 pub mod Moving
 pub mod Writing
 pub mod Replies
+pub mod Own
 pub mod Ends
 pub mod Touched
 pub mod MayReply
 pub mod Nothing
-pub mod Own
 pub mod TakingBack
 pub mod Closing
 pub mod Others

@@ -1,26 +1,34 @@
--- Which replies may end the item of a statement that changes rows.
-use Rattle.std.proofs.Common.{◌≡◌, ℕ, false, None, List, refl, subst, ◌⊎◌, inl, inr}
+-- What stands behind the reply of a statement that changes rows.
+use Rattle.std.proofs.Common.{◌≡◌, ℕ, true, false, List, refl, sym, subst, ◌∙◌, ◌⊎◌, inl, inr}
+use Rattle.std.proofs.lemmas.Bool.{false≢true}
 use Rattle.inno_types.specs.declared.stmt.Stmt.{Stmt}
 use Rattle.inno_types.specs.declared.stmt.Stmt.TheVariants as stmt
 use Rattle.inno_types.specs.declared.lock.Level.{Level}
-use Rattle.inno_types.specs.declared.reply.Item.TheVariants.{Sql}
 use Rattle.inno_types.specs.declared.reply.Reply.{Reply}
 use Rattle.inno_types.specs.declared.reply.Reply.TheVariants as replies
 use Rattle.inno_db.specs.Outcome.{outcome}
 use Rattle.inno_model.specs.declared.event.Event.{Event}
-use Rattle.inno_model.specs.Past.{of_item, did, before_item, level, awaits_ack}
+use Rattle.inno_model.specs.Past.{did, before_item, level}
 use Rattle.sql_grammar.specs.Grammar.{Spells}
-use Rattle.sql_history.specs.Items.{base, point, HasMade}
+use Rattle.sql_history.specs.Items.{is_over, base, point, HasMade}
 use Rattle.sql_history.specs.Answers.{Answers, MakesFor}
-use Rattle.sql_history.specs.Endings.{BacksOut, RollsBack}
-use Rattle.sql_history.specs.Legal.{Takes, IsWriting, AnswersRows, EndsRows, EndsTaken, EndsItem, IsGivenUp, IsOverfull, NextBrings, LeavesIt, WantsMemory}
-use Rattle.sql_history.specs.Legal.{BrokeOff, sight_in}
+use Rattle.sql_history.specs.Endings.{Goes, BacksOut, RollsBack}
+use Rattle.sql_history.specs.Legal.{Takes, IsWriting, AnswersRows, EndsRows, IsGivenUp, IsOverfull, NextBrings, LeavesIt, BrokeOff, IsWithin, sight_in}
 use Rattle.sql_history.specs.Waiting.{is_victim}
-use Rattle.sql_history.specs.Counts.{rows_of_reply}
-use Rattle.sql_lists.specs.Kept.{MayReply}
-use Rattle.giving_up.specs.Replies.{is_count}
-use Rattle.giving_up.specs.Replies.{HasReply, MayAnswer, PutsRows, EndsTxn}
+use Rattle.sql_lists.specs.Steps.{HasRowsAlone}
+use Rattle.giving_up.specs.Replies.{is_count, HasReply, PutsRows}
+use Rattle.giving_up.specs.Ends.{is_rows, IsAnswered, EndsWith, MayEndWith, IsClosing}
 use Rattle.giving_up.proofs.Writing.{on_rows, sees_base, no_view, some_of}
+
+-- a reply without rows fits the history
+pub brings_none : (kept : Reply) (h : List Event) → is_rows kept ≡ false → IsWithin kept h
+brings_none (replies.Rows rows) h none = absurd (false≢true (sym none))
+brings_none other h none = inl refl
+
+-- it answers no rows
+pub no_rows : (s : ℕ) (statement : Stmt) (past : List Event) (kept : Reply) → HasReply s statement kept past → is_rows kept ≡ false
+no_rows s statement past (replies.Rows rows) reply = absurd reply.answers
+no_rows s statement past other reply = refl
 
 module _ (s : ℕ) (statement : Stmt) (past : List Event) (takes : Takes Spells s statement past) (writes : IsWriting statement)
     (no-victim : did is_victim s past ≡ false) where
@@ -71,29 +79,6 @@ module _ (s : ℕ) (statement : Stmt) (past : List Event) (takes : Takes Spells 
             backs;
       }
 
-  ends_taken : (st : Stmt) (kept : Reply) → IsWriting st → AnswersRows s takes.setting st kept past → EndsRows s takes.setting kept past
-      → EndsTaken s takes.setting st kept past
-  ends_taken (stmt.Insert table columns tuples) kept is rows ends = (rows, ends)
-  ends_taken (stmt.Update table sets condition) kept is rows ends = (rows, ends)
-  ends_taken (stmt.Delete table condition) kept is rows ends = (rows, ends)
-  ends_taken other kept is rows ends = absurd is
-
-  answered : (kept : Reply) → AnswersRows s takes.setting statement kept past → EndsRows s takes.setting kept past
-      → EndsItem Spells s (Sql takes.asks.0) kept past
-  answered kept rows ends =
-      inl (
-      record {
-        statement = statement;
-        asks = takes.asks;
-        setting = takes.setting;
-        is_set = takes.is_set;
-        refusal = None;
-        found = takes.not_refused;
-        ends = ends_taken statement kept writes rows ends;
-        no_victim = no-victim;
-      }
-      )
-
   brings : (l : Level) (st : Stmt) → PutsRows st → NextBrings (sight_in l s takes.setting st past) s st 1 past
   brings l (stmt.Insert table columns tuples) puts = refl
   brings l (stmt.Update table sets condition) puts = refl
@@ -114,39 +99,50 @@ module _ (s : ℕ) (statement : Stmt) (past : List Event) (takes : Takes Spells 
         sum = reply.answers.2;
       }
 
-  no_memory : HasReply s statement replies.NoMemory past → RollsBack s past ⊎ LeavesIt Spells s past → WantsMemory Spells s past
-  no_memory reply leaves =
+  is_answered : (kept : Reply) → is_rows kept ≡ false → AnswersRows s takes.setting statement kept past → EndsRows s takes.setting kept past
+      → IsAnswered s kept past
+  is_answered kept no-rows answers ends =
       record {
-        leaves = elim leaves [ inl rolled ↦ inl rolled | inr left ↦ inr (inr (inr left)) ];
-        made = inr (statement, takes, broke_off replies.NoMemory reply);
+        statement = statement;
+        on_rows = on_rows statement writes;
+        selects = λ is. absurd (false≢true (sym no-rows ∙ is));
+        takes = takes;
+        answers = answers;
+        ends = ends;
+        no_victim = no-victim;
       }
 
-  ends_item : (kept : Reply) → HasReply s statement kept past → EndsTxn kept takes.setting s past
-      → (is_count kept ≡ false → RollsBack s past ⊎ LeavesIt Spells s past) → EndsItem Spells s (Sql takes.asks.0) kept past
-  ends_item (replies.Count n) reply ends leaves =
-      answered (replies.Count n)
+  -- its count, in a transaction that goes on or was committed
+  pub counted : (n : ℕ) → HasReply s statement (replies.Count n) past → Goes (level s (before_item s past)) takes.setting.autocommit s past
+      → EndsWith s (replies.Count n) past
+  counted n reply goes =
+      is_answered (replies.Count n) refl
       (answers_rows (replies.Count n) reply reply.answers.0
       (subst (λ count. HasMade count s (outcome statement (base s (point s past))).changes (point s past)) reply.answers.1 reply.made))
-      ends
-  ends_item (replies.Fail error) reply ends leaves =
-      answered (replies.Fail error) (answers_rows (replies.Fail error) reply reply.answers (reply.count, reply.made)) ends
-  ends_item replies.NoMemory reply ends leaves = inr (inr (no_memory reply (leaves refl)))
-  ends_item (replies.RunLimit rows) reply ends leaves = inr (inr (overfull rows reply, inl (given_up (replies.RunLimit rows) reply ends)))
-  ends_item replies.Done reply ends leaves = absurd reply.answers
-  ends_item (replies.Rows rows) reply ends leaves = absurd reply.answers
-  ends_item (replies.NotSignalled waited) reply ends leaves = absurd reply.answers
-  ends_item replies.Stopped reply ends leaves = absurd reply.answers
+      goes
 
-  no_rows : (kept : Reply) → HasReply s statement kept past → rows_of_reply kept ≡ 0
-  no_rows (replies.Rows rows) reply = absurd reply.answers
-  no_rows other reply = refl
+  -- none of its changes stands
+  pub backed_out : (kept : Reply) → is_count kept ≡ false → HasReply s statement kept past
+      → BacksOut (level s (before_item s past)) takes.setting.autocommit s past → RollsBack s past ⊎ LeavesIt Spells s past → EndsWith s kept past
+  backed_out (replies.Fail error) no-count reply backs leaves =
+      is_answered (replies.Fail error) refl (answers_rows (replies.Fail error) reply reply.answers (reply.count, reply.made)) backs
+  backed_out replies.NoMemory no-count reply backs leaves = elim leaves [ inl rolled ↦ inl rolled | inr left ↦ inr (inr (inr left)) ]
+  backed_out (replies.RunLimit rows) no-count reply backs leaves = (overfull rows reply, inl (given_up (replies.RunLimit rows) reply backs))
+  backed_out (replies.Count n) no-count reply backs leaves = absurd (false≢true (sym no-count))
+  backed_out other no-count reply backs leaves = absurd reply.answers
 
-  -- the item may end with the reply
-  pub may_reply : (kept : Reply) → HasReply s statement kept past → EndsTxn kept takes.setting s past
-      → (is_count kept ≡ false → RollsBack s past ⊎ LeavesIt Spells s past) → awaits_ack (of_item s past) ≡ false → MayReply s kept past
-  may_reply kept reply ends leaves acked =
-      record { item = Sql takes.asks.0; asked = takes.asks.1; ends = (acked, inl (no_rows kept reply), ends_item kept reply ends leaves) }
+  module _ (kept given : Reply) (same : given ≡ kept) (reply : HasReply s statement kept past) (ends : EndsWith s kept past)
+      (rows-alone : HasRowsAlone s past) where
+    pub may_end : MayEndWith s kept given past
+    may_end =
+        record {
+          same = same;
+          text = takes.asks.0;
+          item = takes.asks.1;
+          made = inr (statement, takes, broke_off kept reply);
+          ends = ends;
+          rows_alone = rows-alone;
+        }
 
--- what is answered is no Done
-pub not_done : (s : ℕ) (statement : Stmt) (past : List Event) (kept : Reply) → HasReply s statement kept past → kept ≡ replies.Done → ⊥
-not_done s statement past kept reply is = subst (λ r. MayAnswer s statement reply.count r past) is reply.answers
+    pub closing : is_over s past ≡ true → IsClosing s kept given past
+    closing over = record { may = may_end; rests = inl over; limited = λ is. absurd (false≢true (sym (no_rows s statement past kept reply) ∙ is)) }

@@ -1,11 +1,9 @@
 -- A statement that has done nothing yet, and how its item ends where no transaction can be opened for it.
-use Rattle.std.proofs.Common.{◌≡◌, ℕ, Bool, true, false, List, [], ◌∷◌, refl, sym, ap, subst, ◌∙◌, inl, inr, arith}
+use Rattle.std.proofs.Common.{◌≡◌, ℕ, Bool, true, false, List, [], ◌∷◌, refl, sym, ap, subst, ◌∙◌, inl, arith}
 use Rattle.std.proofs.lemmas.Bool.Decides.{nat_tests}
 use Rattle.std.proofs.lemmas.Bool.{false≢true}
 use Rattle.std.specs.List.{list_any}
 use Rattle.inno_types.specs.declared.stmt.Stmt.{Stmt}
-use Rattle.inno_types.specs.declared.reply.Item.TheVariants.{Sql}
-use Rattle.inno_types.specs.declared.reply.Reply.TheVariants.{NoMemory}
 use Rattle.inno_model.specs.declared.event.Event.{Event}
 use Rattle.inno_model.specs.declared.event.Event.TheVariants as events
 use Rattle.inno_model.specs.Past.{is_of, before_item, of_item, did, begins_txn, commits_txn, rolls_back_txn, closes, level, own, awaits_ack}
@@ -13,10 +11,11 @@ use Rattle.inno_model.specs.Moments.{starts}
 use Rattle.inno_model.proofs.Untouched.{untouched}
 use Rattle.sql_grammar.specs.Grammar.{Spells}
 use Rattle.sql_history.specs.Items.{of_turn, before_turn, own_before, point}
-use Rattle.sql_history.specs.Legal.{LeavesIt, WantsMemory}
+use Rattle.sql_history.specs.Legal.{LeavesIt}
+use Rattle.sql_history.specs.Statements.{is_on_rows}
 use Rattle.sql_history.specs.Waiting.{is_victim}
 use Rattle.sql_lists.specs.Steps.{IsTaken}
-use Rattle.sql_lists.specs.Kept.{MayReply}
+use Rattle.giving_up.specs.Ends.{IsFailed}
 use Rattle.sql_lists.proofs.Staying.{at_work, point_now}
 
 pub not_mine : (e : Event) (h : List Event) (s : ℕ) → starts s e ≡ false → of_item s (e ∷ h) ≡ [] → is_of s e ≡ false
@@ -85,14 +84,14 @@ made_nothing s h none =
     let turn = turn_nothing s h none in
     subst (λ p. own s p ≡ own_before s p) (sym (point_now h s (ap (list_any closes) turn.0))) (own_nothing s h none ∙ sym (ap (own s) turn.1))
 
-wants_memory : (s : ℕ) (h : List Event) → of_item s h ≡ [] → WantsMemory Spells s h
-wants_memory s h none = record { leaves = inr (inr (inr (leaves_nothing s h none))); made = inl (made_nothing s h none) }
-
-pub unopened_ends : (s : ℕ) (statement : Stmt) (h : List Event) → IsTaken s statement h → MayReply s NoMemory h
-unopened_ends s statement h taken =
+pub taken_fails : (s : ℕ) (statement : Stmt) (h : List Event) → is_on_rows statement ≡ true → IsTaken s statement h → IsFailed s false h
+taken_fails s statement h on-rows taken =
     record {
-      item = Sql taken.takes.asks.0;
-      asked = taken.takes.asks.1;
-      ends =
-          (acked_none s h taken.nothing, inl refl, inr (inr (wants_memory s h taken.nothing)));
+      statement = statement;
+      takes = taken.takes;
+      on_rows = on-rows;
+      not_committed = did_none commits_txn s h taken.nothing;
+      made = made_nothing s h taken.nothing;
+      rows_alone = taken.rows_alone;
+      gives = leaves_nothing s h taken.nothing;
     }

@@ -1,5 +1,5 @@
 -- An entry of another session leaves what is known of a statement that ends.
-use Rattle.std.proofs.Common.{◌≡◌, ◌≢◌, ◌<◌, ℕ, Bool, true, false, Some, None, List, ◌++◌, length, take, reverse, refl, sym, ap, subst, ◌∙◌, ◌⊎◌, inl, inr}
+use Rattle.std.proofs.Common.{◌≡◌, ◌≢◌, ◌<◌, ℕ, Bool, true, false, Some, None, List, ◌∷◌, ◌++◌, length, take, reverse, refl, sym, ap, subst, ◌∙◌, ◌⊎◌, inl, inr}
 use Rattle.std.specs.Prelude.{is_some}
 use Rattle.std.specs.List.{AllByRecursion, list_any}
 use Rattle.inno_types.specs.declared.value.Schema.{Schema}
@@ -13,7 +13,7 @@ use Rattle.inno_model.specs.Past.{is_of, under_way, before_item, of_item, did, b
 use Rattle.inno_model.specs.Moments.{Sometime}
 use Rattle.inno_model.proofs.Untouched.{untouched}
 use Rattle.sql_grammar.specs.Grammar.{Spells}
-use Rattle.sql_history.specs.Items.{is_over, own_before, base, point, HasMade, undoes}
+use Rattle.sql_history.specs.Items.{is_over, own_before, base, point, HasMade}
 use Rattle.sql_history.specs.Settings.{Setting, HasSet}
 use Rattle.sql_history.specs.Statements.{refused_at_once}
 use Rattle.sql_history.specs.Legal.{Takes}
@@ -32,11 +32,12 @@ use Rattle.law_claims.proofs.Keeping.{kept_on, goes_beside}
 use Rattle.giving_up.specs.declared.leaving.Work.{Work}
 use Rattle.giving_up.specs.declared.leaving.Leaving.{Leaving}
 use Rattle.giving_up.specs.declared.leaving.Leaving.TheVariants as leaving
-use Rattle.giving_up.specs.Replies.{AnswersAlike, HasReply, MayAnswer, EndsTxn}
-use Rattle.giving_up.specs.Leaving.{Joins, HasOpened, InTxn, IsWorking, MovesOn, IsBackingOut, MayGoBack, IsClosing, IsLeaving}
+use Rattle.giving_up.specs.Replies.{AnswersAlike, HasReply, MayAnswer}
+use Rattle.giving_up.specs.Ends.{IsClosing, IsFailed}
+use Rattle.giving_up.specs.Leaving.{Joins, HasOpened, InTxn, IsWorking, MovesOn, IsBackingOut, MayGoBack, IsLeaving}
 use Rattle.giving_up.proofs.Touched.{later_rows, touched_later}
 use Rattle.giving_up.proofs.Replies.{reply_stays, reply_goes_on}
-use Rattle.giving_up.proofs.Ends.{rolls_back_on, txn_ends_on}
+use Rattle.giving_up.proofs.Ends.{Spares, spares_other, closing_on, failed_on}
 
 module _ (old new : State) (t s : ℕ) (differ : t ≢ s) (adding : AddingOne t old new) (keeps : old.writer ≡ Some s → new.writer ≡ Some s)
     (task-is : task_of s new ≡ task_of s old) where
@@ -250,27 +251,9 @@ module _ (old new : State) (t s : ℕ) (differ : t ≢ s) (adding : AddingOne t 
 
   -- ---- a transaction that has ended
 
-  ends_on : (kept : Reply) (setting : Setting) → EndsTxn kept setting s old.past → EndsTxn kept setting s new.past
-  ends_on kept setting ends =
-      txn_ends_on old.past new.past s level_is own_is before_is (did_is begins_txn) (did_is commits_txn) (did_is rolls_back_txn) (did_is undoes) kept setting
-      ends
-
-  closing_on : (kept given : Reply) → IsClosing s kept given old.past → IsClosing s kept given new.past
-  closing_on kept given c =
-      record {
-        same = c.same;
-        statement = c.statement;
-        takes = takes_on c.statement c.takes;
-        writes = c.writes;
-        over = over_is ∙ c.over;
-        no_victim = did_is is_victim ∙ c.no_victim;
-        rows_alone = subst (AllByRecursion IsOfRow) (sym own_is) c.rows_alone;
-        reply = reply_stays s old.past new.past some_on (point_is c.over) c.statement kept c.reply;
-        ends = ends_on kept c.takes.setting c.ends;
-        leaves =
-            λ no-count. rolls_back_on old.past new.past s level_is own_is before_is (did_is begins_txn) (did_is commits_txn) (did_is rolls_back_txn)
-            (did_is undoes) (c.leaves no-count);
-      }
+  by_entry : (P : List Event → Type 0) → ((e : Event) → Spares e old.past s → P old.past → P (e ∷ old.past)) → P old.past → P new.past
+  by_entry P on was =
+      elim adding [ inl same ↦ subst P (sym same) was | inr a ↦ subst P (sym a.2) (on a.0 (spares_other a.0 old.past s (other a.0 a.1)) was) ]
 
   acks_are : awaits_ack (of_item s new.past) ≡ awaits_ack (of_item s old.past)
   acks_are = ap awaits_ack entries_are
@@ -278,9 +261,11 @@ module _ (old new : State) (t s : ℕ) (differ : t ≢ s) (adding : AddingOne t 
   -- all that is known
   pub leaving_on : (m : Leaving) → IsLeaving old s m → IsLeaving new s m
   leaving_on (leaving.BackingOut work) r = (backing_on work r.0, back_on work.before r.1)
-  leaving_on (leaving.Unacked kept given) r = (closing_on kept given r.0, acks_are ∙ r.1, level_is ∙ r.2, task-is ∙ r.3)
-  leaving_on (leaving.Ending kept given) r = (closing_on kept given r.0, acks_are ∙ r.1, task-is ∙ r.2)
-  leaving_on leaving.Unopened r = (record { statement = r.0.statement; taken = taken_on r.0.statement r.0.taken }, task-is ∙ r.1)
+  leaving_on (leaving.Failed alone) r = (by_entry (IsFailed s alone) (λ e spares. failed_on e old.past s spares alone) r.0, task-is ∙ r.1)
+  leaving_on (leaving.Unacked kept given) r =
+      (by_entry (IsClosing s kept given) (λ e spares. closing_on e old.past s spares kept given) r.0, acks_are ∙ r.1, level_is ∙ r.2, task-is ∙ r.3)
+  leaving_on (leaving.Ending kept given) r =
+      (by_entry (IsClosing s kept given) (λ e spares. closing_on e old.past s spares kept given) r.0, acks_are ∙ r.1, task-is ∙ r.2)
 
 pub stays : StaysRunning IsLeaving
 stays = stays_running IsLeaving (λ old new t s m differ adding keeps task-is known. leaving_on old new t s differ adding keeps task-is m known)

@@ -1,12 +1,11 @@
 -- A statement that was refused or given up takes its changes back, and its own transaction with them.
-use Rattle.std.proofs.Common.{◌≡◌, ℕ, ◌+◌, ◌-◌, ◌<◌, ◌≤◌, true, false, eqb, Option, Some, None, List, [], ◌∷◌, ◌++◌, length, drop, zero, suc}
+use Rattle.std.proofs.Common.{◌≡◌, ℕ, ◌-◌, ◌<◌, ◌≤◌, true, false, eqb, Option, Some, None, List, [], ◌∷◌, ◌++◌, length, drop, zero, suc}
 use Rattle.std.proofs.Common.{refl, sym, ap, subst, ◌∙◌, inl, inr, arith}
 use Rattle.std.proofs.lemmas.Bool.Decides.{nat_tests}
 use Rattle.std.proofs.lemmas.List.{length-append}
 use Rattle.std.specs.Prelude.{◌&&◌, is_none}
 use Rattle.std.specs.List.{AllByRecursion}
 use Rattle.inno_types.specs.declared.stmt.Stmt.{Stmt}
-use Rattle.inno_types.specs.declared.reply.Reply.TheVariants as replies
 use Rattle.inno_db.specs.declared.change.Change.{Change}
 use Rattle.inno_model.specs.declared.event.Event.{Event}
 use Rattle.inno_model.specs.declared.event.Event.TheVariants as events
@@ -14,27 +13,27 @@ use Rattle.inno_types.specs.Order.{IsBelow}
 use Rattle.inno_model.specs.Past.{before_item, of_item, begins_txn, commits_txn, rolls_back_txn, level, own, oldest, started, awaits_ack}
 use Rattle.sql_grammar.specs.Grammar.{Spells}
 use Rattle.sql_history.specs.Items.{own_before}
-use Rattle.sql_history.specs.Settings.{Setting, Either}
-use Rattle.sql_history.specs.Endings.{Goes, BacksOut, RollsBack}
-use Rattle.sql_history.specs.Legal.{IsWriting, UndoesBy, MayUndo, RollsBackBy, MayRollBack, LeavesIt, MayLeaveOpen, is_alone}
+use Rattle.sql_history.specs.Settings.{Setting}
+use Rattle.sql_history.specs.Endings.{BacksOut, RollsBack}
+use Rattle.sql_history.specs.Legal.{IsWriting, UndoesBy, MayUndo, RollsBackBy, MayRollBack, LeavesIt, MayLeaveOpen, IsWithin, is_alone}
 use Rattle.sql_history.specs.Waiting.{is_victim}
 use Rattle.law_past_agreement.specs.Order.{IsOfRow, IsUndoable}
 use Rattle.shared_lists.specs.declared.answers.Undone.{Undone}
 use Rattle.shared_lists.specs.declared.answers.Undone.TheVariants as undone
 use Rattle.shared_lists.specs.Tasks.{Task, Idle, MayTakeBack}
-use Rattle.shared_lists.specs.State.{State, Closes, task_of}
+use Rattle.shared_lists.specs.State.{State, task_of}
 use Rattle.shared_lists.specs.Steps.{TakesBack}
-use Rattle.sql_lists.specs.Kept.{MayReply}
-use Rattle.sql_lists.specs.Steps.{Moves, Steps}
+use Rattle.sql_lists.specs.Steps.{Steps}
 use Rattle.sql_lists.specs.declared.advance.Advance.TheVariants as advance
-use Rattle.giving_up.specs.Leaving.{InTxn, IsBackingOut, MayGoBack, IsClosing, IsLeaving}
+use Rattle.giving_up.specs.Ends.{MayEndWith, IsClosing}
+use Rattle.giving_up.specs.Leaving.{InTxn, IsBackingOut, MayGoBack, IsLeaving}
 use Rattle.giving_up.specs.declared.leaving.Work.{Work}
 use Rattle.giving_up.specs.declared.leaving.Leaving.TheVariants.{BackingOut}
 use Rattle.giving_up.specs.Going.{to_leave}
 use Rattle.giving_up.proofs.Writing.{of_writing, some_of}
-use Rattle.sql_lists.proofs.Moving.{moves_closes, moves_takes_back, below_first, below_second, fewer_stand}
-use Rattle.giving_up.proofs.Own.{acked_of, did_same, did_now, over_now, entries_are, takes_own, reply_closed, working_own}
-use Rattle.giving_up.proofs.MayReply.{may_reply, not_done}
+use Rattle.sql_lists.proofs.Moving.{moves_takes_back, below_first, below_second, fewer_stand}
+use Rattle.giving_up.proofs.Own.{acked_of, did_same, did_now, over_now, takes_own, reply_closed, working_own}
+use Rattle.giving_up.proofs.MayReply.{no_rows, brings_none, backed_out, closing, may_end as end_with}
 
 undoes_by : (s keep : ℕ) (setting : Setting) (past : List Event) → length (own_before s past) ≤ keep → (statement : Stmt) → IsWriting statement
     → UndoesBy s keep setting statement past
@@ -169,25 +168,16 @@ module _ (h : List Event) (writer : Option ℕ) (s : ℕ) (work : Work) (r : IsB
           subst (λ l. BacksOut l r.working.takes.setting.autocommit s gone) (sym txn.0.was_closed)
           (subst (λ autocommit. BacksOut None autocommit s gone) (sym txn.1) here)
 
-      closing_then : IsClosing s work.kept work.given gone
+      pub closing_then : IsClosing s work.kept work.given gone
       closing_then =
-          record {
-            same = r.same;
-            statement = r.statement;
-            takes = takes_own (events.RolledBack s) h s mine refl refl r.statement r.working.takes;
-            writes = r.working.writes;
-            over = over_now (events.RolledBack s) h s mine refl refl refl;
-            no_victim = did_same (events.RolledBack s) h s mine refl refl is_victim refl ∙ r.working.no_victim;
-            rows_alone = (let none : own s gone ≡ [] = rw mine refl in subst (AllByRecursion IsOfRow) (sym none) tt);
-            reply = reply_closed (events.RolledBack s) h s mine refl refl refl r.statement work.kept r.reply;
-            ends =
-                subst (λ b. Either b (Goes (level s (before_item s gone)) r.working.takes.setting.autocommit s gone)
-                (BacksOut (level s (before_item s gone)) r.working.takes.setting.autocommit s gone)) (sym r.backs) backs;
-            leaves = λ no-count. rolled_back;
-          }
-
-      pub rolled_then : IsClosing s work.kept work.given gone × (awaits_ack (of_item s gone) ≡ false)
-      rolled_then = (closing_then, ap awaits_ack (entries_are (events.RolledBack s) h s mine refl refl))
+          let e = events.RolledBack s in
+          let takes = takes_own e h s mine refl refl r.statement r.working.takes in
+          let no-victim = did_same e h s mine refl refl is_victim refl ∙ r.working.no_victim in
+          let reply = reply_closed e h s mine refl refl refl r.statement work.kept r.reply in
+          let none : own s gone ≡ [] = rw mine refl in
+          closing s r.statement gone takes r.working.writes no-victim work.kept work.given r.same reply
+          (backed_out s r.statement gone takes r.working.writes no-victim work.kept r.backs reply backs (inl rolled_back))
+          (subst (AllByRecursion IsOfRow) (sym none) tt) (over_now e h s mine refl refl refl)
 
     -- of one that stays open
     module _ (not-own : work.alone ≡ false) where
@@ -232,28 +222,17 @@ module _ (h : List Event) (writer : Option ℕ) (s : ℕ) (work : Work) (r : IsB
             ];
           }
 
-      pub may_end : MayReply s work.kept h
+      pub may_end : MayEndWith s work.kept work.given h
       may_end =
-          may_reply s r.statement h r.working.takes r.working.writes r.working.no_victim work.kept r.reply
-          (subst (λ b. Either b (Goes (level s (before_item s h)) r.working.takes.setting.autocommit s h)
-          (BacksOut (level s (before_item s h)) r.working.takes.setting.autocommit s h)) (sym r.backs) backs_open) (λ no-count. inr leaves)
-          (acked_of (of_item s h) r.working.not_committed)
+          end_with s r.statement h r.working.takes r.working.writes r.working.no_victim work.kept work.given r.same r.reply
+          (backed_out s r.statement h r.working.takes r.working.writes r.working.no_victim work.kept r.backs r.reply backs_open (inr leaves))
+          r.working.rows_alone
 
-  pub ends_not_done : work.kept ≡ replies.Done → ⊥
-  ends_not_done is = not_done s r.statement h work.kept r.reply is
+      pub acks_none : awaits_ack (of_item s h) ≡ false
+      acks_none = acked_of (of_item s h) r.working.not_committed
 
-pub rolled : (old new : State) (s : ℕ) (work : Work) (r : IsBackingOut old.past old.writer s work) (undone-all : own s old.past ≡ own_before s old.past)
-    (its-own : work.alone ≡ true) → task_of s old ≡ Idle → Closes (events.RolledBack s) s old new
-    → Moves s old new × (IsClosing s work.kept work.given new.past × (awaits_ack (of_item s new.past) ≡ false) × (task_of s new ≡ Idle)) ×
-    (started s new.past ≡ started s old.past)
-rolled old new s work r undone-all its-own idle closes-it =
-    let then =
-    subst (λ h. IsClosing s work.kept work.given h × (awaits_ack (of_item s h) ≡ false)) (sym closes-it.past_is)
-    (rolled_then old.past old.writer s work r undone-all its-own) in (
-      moves_closes s (events.RolledBack s) old new (grind (arith, nat_tests)) refl refl closes-it,
-      (then.0, then.1, closes-it.task_is ∙ idle),
-      ap (started s) closes-it.past_is,
-    )
+      pub fits : IsWithin work.kept h
+      fits = brings_none work.kept h (no_rows s r.statement h work.kept r.reply)
 
 -- ---- the steps of taking back
 

@@ -9,6 +9,6 @@ use Rattle.giving_up.specs.declared.leaving.Leaving.TheVariants as leaving
 
 abbrev pub to_leave : ℕ → State → Leaving → List ℕ
 to_leave s state (leaving.BackingOut work) = left 3 (length (own s state.past)) (undo_to_go (task_of s state)) 0
+to_leave s state (leaving.Failed alone) = left 2 0 0 0
 to_leave s state (leaving.Unacked kept given) = left 2 0 0 0
-to_leave s state (leaving.Ending kept given) = left 1 0 0 0
-to_leave s state leaving.Unopened = left 0 0 0 0
+to_leave s state (leaving.Ending kept given) = left 0 0 0 0

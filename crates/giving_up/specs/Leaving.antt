@@ -1,5 +1,5 @@
--- What is known of a statement that changes rows between the steps by which it ends: of the past, of who may write, and of what
--- the session has under way.
+-- What is known of a statement on rows between the steps by which it ends: of the past, of who may write, and of what the session
+-- has under way.
 use Rattle.std.specs.Prelude.{◌≡◌, ◌⊎◌, ℕ, ◌<◌, Bool, true, false, Option, List, [], ◌++◌, length}
 use Rattle.inno_types.specs.declared.stmt.Stmt.{Stmt}
 use Rattle.inno_types.specs.declared.reply.Reply.{Reply}
@@ -10,16 +10,16 @@ use Rattle.inno_model.specs.Past.{before_item, of_item, did, begins_txn, commits
 use Rattle.sql_grammar.specs.Grammar.{Spells}
 use Rattle.sql_history.specs.Items.{is_over, own_before}
 use Rattle.sql_history.specs.Settings.{Setting}
-use Rattle.sql_history.specs.Endings.{RollsBack}
 use Rattle.sql_history.specs.Legal.{Takes, IsWriting}
 use Rattle.sql_history.specs.Waiting.{is_victim}
 use Rattle.shared_lists.specs.Tasks.{Task, Idle, MayTakeBack}
 use Rattle.shared_lists.specs.State.{State, task_of}
-use Rattle.sql_lists.specs.Steps.{HasRowsAlone, IsTaken}
+use Rattle.sql_lists.specs.Steps.{HasRowsAlone}
 use Rattle.giving_up.specs.declared.leaving.Work.{Work}
 use Rattle.giving_up.specs.declared.leaving.Leaving.{Leaving}
 use Rattle.giving_up.specs.declared.leaving.Leaving.TheVariants as leaving
-use Rattle.giving_up.specs.Replies.{is_count, EndsTxn, HasReply, KeepsReply}
+use Rattle.giving_up.specs.Replies.{is_count, HasReply, KeepsReply}
+use Rattle.giving_up.specs.Ends.{IsClosing, IsFailed}
 
 -- ---- its transaction
 
@@ -80,24 +80,6 @@ given_up alone before = record { alone = alone; before = before; kept = NoMemory
 
 -- ---- the end
 
--- Its own transaction has ended.
-pub record IsClosing (s : ℕ) (kept given : Reply) (past : List Event) : Type 0 where
-  pub same : given ≡ kept
-  pub statement : Stmt
-  pub takes : Takes Spells s statement past
-  pub writes : IsWriting statement
-  pub over : is_over s past ≡ true
-  pub no_victim : did is_victim s past ≡ false
-  pub rows_alone : HasRowsAlone s past
-  pub reply : HasReply s statement kept past
-  pub ends : EndsTxn kept takes.setting s past
-  pub leaves : is_count kept ≡ false → RollsBack s past
-
--- no transaction could be opened
-pub record IsUnopened (s : ℕ) (past : List Event) : Type 0 where
-  pub statement : Stmt
-  pub taken : IsTaken s statement past
-
 -- its commit is yet to be acknowledged
 abbrev pub owes_ack : Leaving → Bool
 owes_ack (leaving.Unacked kept given) = true
@@ -110,7 +92,7 @@ acked other = other
 
 abbrev pub IsLeaving : State → ℕ → Leaving → Type 0
 IsLeaving state s (leaving.BackingOut work) = IsBackingOut state.past state.writer s work × MayGoBack work.before s state.past (task_of s state)
+IsLeaving state s (leaving.Failed alone) = IsFailed s alone state.past × (task_of s state ≡ Idle)
 IsLeaving state s (leaving.Unacked kept given) =
     IsClosing s kept given state.past × (awaits_ack (of_item s state.past) ≡ true) × IsClosed s state.past × (task_of s state ≡ Idle)
 IsLeaving state s (leaving.Ending kept given) = IsClosing s kept given state.past × (awaits_ack (of_item s state.past) ≡ false) × (task_of s state ≡ Idle)
-IsLeaving state s leaving.Unopened = IsUnopened s state.past × (task_of s state ≡ Idle)

@@ -8,10 +8,8 @@ use Rattle.inno_db.specs.Database.{Database, Place}
 use Rattle.inno_db.specs.Outcome.{outcome}
 use Rattle.inno_model.specs.declared.event.Event.{Event}
 use Rattle.inno_model.specs.Moments.{Sometime}
-use Rattle.inno_model.specs.Past.{before_item, level, own, IsOpen}
+use Rattle.inno_model.specs.Past.{own, IsOpen}
 use Rattle.sql_history.specs.Items.{base, point, HasMade}
-use Rattle.sql_history.specs.Settings.{Setting, Either}
-use Rattle.sql_history.specs.Endings.{Goes, BacksOut}
 use Rattle.sql_history.specs.Counts.{rows_kept, most_rows}
 use Rattle.law_beside.specs.Beside.{touches}
 use Rattle.law_claims.specs.Claims.{Basis, KeepsBasis, Stands}
@@ -45,11 +43,6 @@ pub record HasReply (s : ℕ) (statement : Stmt) (kept : Reply) (past : List Eve
   pub count : ℕ
   pub made : HasMade count s (outcome statement (base s (point s past))).changes (point s past)
   pub answers : MayAnswer s statement count kept past
-
--- what becomes of its transaction
-abbrev pub EndsTxn : Reply → Setting → ℕ → List Event → Type 0
-EndsTxn kept setting s past =
-    Either (is_count kept) (Goes (level s (before_item s past)) setting.autocommit s past) (BacksOut (level s (before_item s past)) setting.autocommit s past)
 
 -- ---- what a reply rests on
 

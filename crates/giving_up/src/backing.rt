@@ -10,7 +10,7 @@ ghost use Rattle.sql_lists.specs.Going.{Nears};
 ghost use Rattle.giving_up.specs.Going.{to_leave};
 ghost use Rattle.giving_up.specs.Leaving.{IsLeaving};
 
-use crate::ending::end;
+use crate::ending::{end, roll_back};
 use crate::leaving::{Leaving, Work};
 use shared_lists::{SharedLists, Undone};
 use sql_lists::{Advance, SqlLists};
@@ -64,8 +64,7 @@ fn leave<L: SharedLists>(work: Work, session: u32, lists: &mut SqlLists<L>) -> (
         given,
     } = work;
     if alone {
-        lists.roll_back(session);
-        return (Leaving::Ending { kept, given }, Advance::Went);
+        return roll_back(kept, given, session, lists);
     }
     end(kept, given, session, lists)
 }

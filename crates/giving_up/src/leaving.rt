@@ -10,7 +10,7 @@ ghost use Rattle.giving_up.specs.Going.{to_leave};
 ghost use Rattle.giving_up.specs.Leaving.{IsLeaving, owes_ack, acked, given_up};
 
 use crate::backing::step_backing;
-use crate::ending::{step_ending, step_unopened};
+use crate::ending::{step_ending, step_failed};
 use inno_types::Reply;
 use shared_lists::SharedLists;
 use sql_lists::{Advance, SqlLists};
@@ -20,12 +20,12 @@ use sql_lists::{Advance, SqlLists};
 pub enum Leaving {
     /// It takes its changes back.
     BackingOut(Work),
+    /// No memory was found, and nothing is changed. A transaction of its own is to be rolled back.
+    Failed { alone: bool },
     /// Its own transaction is committed.
     Unacked { kept: Reply, given: Reply },
-    /// Its own transaction has ended, and nothing awaits an acknowledgement.
+    /// Its own transaction has ended or it leaves none, and nothing awaits an acknowledgement.
     Ending { kept: Reply, given: Reply },
-    /// No transaction could be opened for it.
-    Unopened,
 }
 
 /// A statement that was refused or given up. `alone` says that the transaction is its own, which had made so many changes before.
@@ -79,9 +79,9 @@ impl Leaving {
     {
         match self {
             Leaving::BackingOut(work) => step_backing(work, session, lists),
+            Leaving::Failed { alone } => step_failed(alone, session, lists),
             Leaving::Unacked { .. } => unreachable!(),
             Leaving::Ending { kept, given } => step_ending(kept, given, session, lists),
-            Leaving::Unopened => step_unopened(session, lists),
         }
     }
 }

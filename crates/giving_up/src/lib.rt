@@ -1,13 +1,13 @@
-//! How a statement that changes rows ends. One that was refused or given up takes its changes back, and its own transaction with
-//! them; a transaction of its own that was committed awaits its acknowledgement; the reply comes last. The machine of a statement
-//! hands over to these steps, whatever it did before.
+//! How a statement on rows ends. One that was refused or given up takes its changes back, and its own transaction with them; a
+//! transaction of its own that was committed awaits its acknowledgement; the reply comes last. The machine of a statement hands over
+//! to these steps, whatever it did before.
 #![tactic(auto)]
 
 mod backing;
 mod ending;
 mod leaving;
 
-pub use ending::end;
+pub use ending::{commit, end, overfull_by, roll_back};
 pub use leaving::{
     Leaving, Work, a_commit_that_is_owed_is_acknowledged, one_that_leaves_tells_no_change,
     others_leave_it,

@@ -1,5 +1,5 @@
 -- What an item that has done little leaves as it was, and what entries make of an item.
-use Rattle.std.proofs.Common.{◌≡◌, ℕ, Bool, true, false, Option, Some, None, List, [], ◌∷◌, refl, sym, ap, subst, ◌∙◌, inl, inr, arith}
+use Rattle.std.proofs.Common.{◌≡◌, ℕ, Bool, true, false, List, [], ◌∷◌, refl, sym, ap, subst, ◌∙◌, inr, arith}
 use Rattle.std.proofs.lemmas.Bool.Decides.{nat_tests}
 use Rattle.std.proofs.lemmas.Bool.{false≢true}
 use Rattle.std.specs.Prelude.{is_some}
@@ -7,41 +7,14 @@ use Rattle.std.specs.List.{list_any}
 use Rattle.inno_types.specs.declared.stmt.Stmt.{Stmt}
 use Rattle.inno_model.specs.declared.event.Event.{Event}
 use Rattle.inno_model.specs.declared.event.Event.TheVariants as events
-use Rattle.inno_model.specs.Past.{before_item, of_item, did, closes, level, own, commits_txn, rolls_back_txn, awaits_ack, IsOpen, IsClosed}
-use Rattle.inno_model.specs.Moments.{Sometime}
+use Rattle.inno_model.specs.Past.{of_item, did, closes, commits_txn, rolls_back_txn, awaits_ack, IsOpen, IsClosed}
 use Rattle.sql_grammar.specs.Grammar.{Spells}
-use Rattle.sql_history.specs.Items.{is_over, before_turn, undoes}
+use Rattle.sql_history.specs.Items.{is_over, undoes}
 use Rattle.sql_history.specs.Waiting.{is_victim}
 use Rattle.sql_history.specs.Settings.{HasSet}
 use Rattle.sql_history.specs.Legal.{Takes}
 use Rattle.sql_lists.proofs.Staying.{is_within, item_within, before_within, starts_not}
 use Rattle.read_statement.specs.Running.{strays}
-
--- ---- nothing is done yet
-
-pub quiet_own : (s : ℕ) (h : List Event) → of_item s h ≡ [] → own s h ≡ own s (before_item s h)
-quiet_own s [] nothing = refl
-quiet_own s (events.Started t j item ∷ h) nothing = grind (arith, nat_tests, quiet_own s h, nothing)
-quiet_own s (events.Begin t n l ∷ h) nothing = grind (arith, nat_tests, quiet_own s h, nothing)
-quiet_own s (events.Changed t change ∷ h) nothing = grind (arith, nat_tests, quiet_own s h, nothing)
-quiet_own s (events.Undone t keep ∷ h) nothing = grind (arith, nat_tests, quiet_own s h, nothing)
-quiet_own s (events.Committed t ∷ h) nothing = grind (arith, nat_tests, quiet_own s h, nothing)
-quiet_own s (events.RolledBack t ∷ h) nothing = grind (arith, nat_tests, quiet_own s h, nothing)
-quiet_own s (e ∷ h) nothing = grind (arith, nat_tests, quiet_own s h, nothing)
-
-pub quiet_level : (s : ℕ) (h : List Event) → of_item s h ≡ [] → level s h ≡ level s (before_item s h)
-quiet_level s [] nothing = refl
-quiet_level s (events.Started t j item ∷ h) nothing = grind (arith, nat_tests, quiet_level s h, nothing)
-quiet_level s (events.Begin t n l ∷ h) nothing = grind (arith, nat_tests, quiet_level s h, nothing)
-quiet_level s (events.Committed t ∷ h) nothing = grind (arith, nat_tests, quiet_level s h, nothing)
-quiet_level s (events.RolledBack t ∷ h) nothing = grind (arith, nat_tests, quiet_level s h, nothing)
-quiet_level s (e ∷ h) nothing = grind (arith, nat_tests, quiet_level s h, nothing)
-
-pub quiet_turn : (s : ℕ) (h : List Event) → of_item s h ≡ [] → before_turn s h ≡ before_item s h
-quiet_turn s [] nothing = refl
-quiet_turn s (events.Started t j item ∷ h) nothing = grind (arith, nat_tests, quiet_turn s h, nothing)
-quiet_turn s (events.Begin t n l ∷ h) nothing = grind (arith, nat_tests, quiet_turn s h, nothing)
-quiet_turn s (e ∷ h) nothing = grind (arith, nat_tests, quiet_turn s h, nothing)
 
 -- ---- what an item that has only begun has not done
 
@@ -112,13 +85,5 @@ takes_on e h s within stmt takes =
       not_refused = inr (starts_not e h s within, takes.not_refused);
     }
 
-pub some_past : (P : List Event → Type 0) (s : ℕ) (h : List Event) → Sometime P s h → (Q : List Event → Type 0) → Q h → Sometime Q s h
-some_past P s [] when Q now = absurd when
-some_past P s (e ∷ h) when Q now = inl now
-
 pub not_closed : (s : ℕ) (h : List Event) → IsOpen s h → IsClosed s h → ⊥
 not_closed s h is-open closed = false≢true (sym (ap is_some closed) ∙ is-open)
-
-pub none_of : {X : Type 0} (o : Option X) → is_some o ≡ false → o ≡ None
-none_of None is = refl
-none_of (Some x) is = cc

@@ -5,10 +5,9 @@ pub mod MoreTables
 pub mod Planned
 pub mod Searched
 pub mod Moving
-pub mod Ending
 pub mod Staying
 pub mod Entries
-pub mod Finishing
+pub mod Ending
 pub mod Settling
 pub mod Newest
 pub mod Unviewed

@@ -61,7 +61,7 @@ module _ (h : List Event) (s : ℕ) (standing : AreStanding h) where
   same_rows n table = ap (λ (l : List Schema). rows_of table (changed (record (opening h) { schemas = l }) (seen h s n))) (sym tables)
 
   pub seen_reply : (found : Found) → HasFound h s found → IsOrdered h → FitsThen h
-      → (answer : Outcome) → ((db : Database) → IsReadFrom (created h) found.rows found.stmt db → answer ≡ outcome found.stmt db) → IsSeen h h s found.stmt
+      → (answer : Outcome) → ((db : Database) → IsReadFrom (created h) found.rows found.stmt db → answer ≡ outcome found.stmt db) → IsSeen h s found.stmt
       answer.reply
   seen_reply found f ordered fits answer answers =
       let v = f.view in
@@ -93,7 +93,7 @@ module _ (h : List Event) (s : ℕ) (standing : AreStanding h) where
   -- the same, of what a call gives that may find no memory
   pub seen_outcome : {E : Type 0} (found : Found) → HasFound h s found → IsOrdered h → FitsThen h → (schemas : List Schema) → schemas ≡ created h
       → (r : Result Outcome E) → IfOk r (λ answer. (db : Database) → IsReadFrom schemas found.rows found.stmt db → answer ≡ outcome found.stmt db) → IfOk r
-      (λ answer. IsSeen h h s found.stmt answer.reply)
+      (λ answer. IsSeen h s found.stmt answer.reply)
   seen_outcome found f ordered fits schemas same (Ok answer) is =
       seen_reply found f ordered fits answer (λ db from. is db (subst (λ l. IsReadFrom l found.rows found.stmt db) (sym same) from))
   seen_outcome found f ordered fits schemas same (Err e) is = is

@@ -1,11 +1,10 @@
 -- A reply by the rows that were found is settled, or too many rows; and what becomes of a search.
-use Rattle.std.proofs.Common.{◌≡◌, ℕ, ◌+◌, ◌<◌, Bool, true, None, List, refl, sym, ap, subst, ◌∙◌}
+use Rattle.std.proofs.Common.{◌≡◌, ℕ, ◌+◌, ◌<◌, Bool, true, List, refl, sym, ap, subst, ◌∙◌}
 use Rattle.inno_types.specs.declared.reply.Reply.{Reply}
 use Rattle.inno_types.specs.declared.reply.Reply.TheVariants as replies
 use Rattle.inno_types.specs.declared.stmt.Stmt.{Stmt}
 use Rattle.inno_model.specs.declared.event.Event.{Event}
 use Rattle.inno_model.specs.Past.{started, IsOpen}
-use Rattle.sql_history.specs.Statements.{refused_at_once}
 use Rattle.sql_history.specs.Counts.{rows_of_reply, rows_kept, most_rows}
 use Rattle.law_past_agreement.specs.Order.{created, IsOrdered}
 use Rattle.sql_plan.specs.declared.choice.Plan.{Plan}
@@ -19,18 +18,17 @@ use Rattle.read_statement.specs.declared.machine.Read.{Read}
 use Rattle.read_statement.specs.declared.machine.Found.{Found}
 use Rattle.read_statement.specs.Planning.{IsPlanned}
 use Rattle.read_statement.specs.Running.{IsEarly, HasView, IsSearching, HasFound, IsSeen, IsSettledBy, IsAnswered, answers_rows}
-use Rattle.read_statement.proofs.Items.{some_past}
 use Rattle.read_statement.proofs.Searched.{seen_tabled}
 
-pub settled_by : (h : List Event) (s : ℕ) (stmt : Stmt) (reply : Reply) → answers_rows reply ≡ true → IsSeen h h s stmt reply → IsSettledBy reply h h s stmt
+pub settled_by : (h : List Event) (s : ℕ) (stmt : Stmt) (reply : Reply) → answers_rows reply ≡ true → IsSeen h s stmt reply → IsSettledBy reply h s stmt
 settled_by h s stmt (replies.Rows rows) kind seen = seen
 settled_by h s stmt (replies.Fail error) kind seen = seen
 settled_by h s stmt other kind seen = (let x = kind in cc)
 
 module _ (h : List Event) (s : ℕ) (stmt : Stmt) (alone : Bool) (early : IsEarly h s stmt alone) (is_open : IsOpen s h) (reply : Reply)
-    (seen : IsSeen h h s stmt reply) where
+    (seen : IsSeen h s stmt reply) where
   pub settled : answers_rows reply ≡ true → (kept : Reply) → kept ≡ reply → IsAnswered h s alone kept reply
-  settled kind kept is = record { same = sym is; stmt = stmt; early = early; is_open = λ a. is_open; settled = rw is (settled_by h s stmt reply kind seen) }
+  settled kind kept is = record { same = sym is; stmt = stmt; early = early; is_open = is_open; settled = rw is (settled_by h s stmt reply kind seen) }
 
   pub limited : (rows : ℕ) → most_rows < rows → rows ≡ rows_kept h + rows_of_reply reply → IsAnswered h s alone (replies.RunLimit rows) (replies.RunLimit rows)
   limited rows many sum =
@@ -38,15 +36,8 @@ module _ (h : List Event) (s : ℕ) (stmt : Stmt) (alone : Bool) (early : IsEarl
         same = refl;
         stmt = stmt;
         early = early;
-        is_open = λ a. is_open;
-        settled = record {
-          many = many;
-          reply = reply;
-          found = seen.found;
-          sum =
-              some_past (λ g. refused_at_once s early.takes.setting stmt g ≡ None) s h early.takes.not_refused
-              (λ g. rows ≡ rows_kept g + rows_of_reply reply) sum;
-        };
+        is_open = is_open;
+        settled = record { many = many; reply = reply; found = seen.found; sum = sum };
       }
 
 -- ---- the search

@@ -1,7 +1,6 @@
 -- The newest rows of all at one moment are a database that a dirty read may see.
 use Rattle.std.proofs.Common.{◌≡◌, ◌≢◌, ℕ, true, Some, List, [], ◌∷◌, ◌++◌, refl, sym, ap, subst, ◌∙◌, inl, inr}
 use Rattle.std.proofs.lemmas.List.{append-nil}
-use Rattle.std.specs.List.{list_any}
 use Rattle.std.specs.Prelude.{All, Result, Ok, Err, IfOk, slice_get}
 use Rattle.inno_types.specs.declared.lock.Level.TheVariants.{ReadUncommitted}
 use Rattle.inno_types.specs.declared.value.Value.{Value}
@@ -16,7 +15,7 @@ use Rattle.inno_model.specs.Past.{own, level, commits, opening, changed}
 use Rattle.plain_sql.specs.Finding.{IsReadFrom}
 use Rattle.sql_history.specs.LooseReading.{newest, IsQuiet, IsLooseReading}
 use Rattle.sql_history.specs.Readings.{is_plain_select}
-use Rattle.law_past_agreement.specs.Order.{created, is_creation, IsOrdered}
+use Rattle.law_past_agreement.specs.Order.{created, IsOrdered}
 use Rattle.law_past_agreement.specs.Rows.{seen}
 use Rattle.law_past_agreement.specs.DatabaseTables.{with_all_tables}
 use Rattle.sql_plan.specs.declared.choice.Plan.{Plan}
@@ -98,7 +97,7 @@ has_past (e ∷ h) s dirty none = cc
 
 -- what a statement answers over it
 seen_now : (h : List Event) (s : ℕ) (stmt : Stmt) (answer : Outcome) → h ≢ [] → level s h ≡ Some ReadUncommitted → answer ≡ outcome stmt (newest h)
-    → IsSeen h h s stmt answer.reply
+    → IsSeen h s stmt answer.reply
 seen_now h s stmt answer some dirty is =
     record {
       found = record {
@@ -117,7 +116,7 @@ pub newest_outcome : {E : Type 0} (h : List Event) (w s : ℕ) (stmt : Stmt) (ta
     → IsOrdered h
     → AreStanding h → IsInOrder h → FitsThen h → level s h ≡ Some ReadUncommitted → is_plain_select stmt ≡ true → AreRead h stmt table rows
     → (schemas : List Schema) → schemas ≡ created h → (r : Result Outcome E) → IfOk r
-    (λ answer. (db : Database) → IsReadFrom schemas rows stmt db → answer ≡ outcome stmt db) → IfOk r (λ answer. IsSeen h h s stmt answer.reply)
+    (λ answer. (db : Database) → IsReadFrom schemas rows stmt db → answer ≡ outcome stmt db) → IfOk r (λ answer. IsSeen h s stmt answer.reply)
 newest_outcome h w s stmt table rows alone ordered stands in-order fits dirty plain read schemas same (Err e) answers = answers
 newest_outcome h w s stmt table rows alone ordered stands in-order fits dirty plain read schemas same (Ok answer) answers =
     seen_now h s stmt answer (has_past h s dirty) dirty

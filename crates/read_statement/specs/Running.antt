@@ -12,17 +12,14 @@ use Rattle.inno_db.specs.Outcome.{outcome}
 use Rattle.inno_db.specs.Refusals.{refusal}
 use Rattle.inno_model.specs.declared.event.Event.{Event}
 use Rattle.inno_model.specs.declared.event.Event.TheVariants as events
-use Rattle.inno_model.specs.Past.{before_item, of_item, did, begins_txn, takes_view, commits_txn, rolls_back_txn, level, own, view_of, awaits_ack, IsOpen}
-use Rattle.inno_model.specs.Past.{IsClosed}
-use Rattle.inno_model.specs.Moments.{Sometime}
+use Rattle.inno_model.specs.Past.{before_item, of_item, did, begins_txn, takes_view, level, own, view_of, IsOpen, IsClosed}
 use Rattle.sql_grammar.specs.Grammar.{Spells}
-use Rattle.sql_history.specs.Items.{is_over, point, own_before, undoes}
+use Rattle.sql_history.specs.Items.{own_before}
 use Rattle.sql_history.specs.Settings.{next_level}
 use Rattle.sql_history.specs.Statements.{Sight, plain_sight}
 use Rattle.sql_history.specs.Readings.{is_plain_select}
 use Rattle.sql_history.specs.Answers.{MaySee}
 use Rattle.sql_history.specs.Counts.{rows_of_reply, rows_kept, most_rows}
-use Rattle.sql_history.specs.Waiting.{is_victim}
 use Rattle.sql_history.specs.Legal.{Takes, TakesView}
 use Rattle.law_past_agreement.specs.Order.{created, IsTabled}
 use Rattle.law_past_agreement.specs.Rows.{seen}
@@ -32,6 +29,7 @@ use Rattle.shared_lists.specs.Tasks.{Task, Idle, Searching}
 use Rattle.shared_lists.specs.State.{State, task_of}
 use Rattle.shared_lists.specs.Steps.{AreRowsSeen, AreNewestRows}
 use Rattle.sql_lists.specs.Steps.{IsTaken, HasRowsAlone}
+use Rattle.giving_up.specs.Leaving.{IsLeaving, owes_ack as leaving_owes_ack, acked as leaving_acked}
 use Rattle.read_statement.specs.declared.machine.Asked.{Asked}
 use Rattle.read_statement.specs.declared.machine.Read.{Read}
 use Rattle.read_statement.specs.declared.machine.Found.{Found}
@@ -123,45 +121,35 @@ pub record AreRead (h : List Event) (stmt : Stmt) (table : ℕ) (rows : List (Li
   pub planned : IsPlanned (created h) stmt table plan
   pub newest : (writer : ℕ) → ((other : ℕ) → other ≢ writer → own other h ≡ []) → AreNewestRows table plan h writer rows
 
-pub record IsFailing (h : List Event) (s : ℕ) (alone : Bool) : Type 0 where
-  pub stmt : Stmt
-  pub early : IsEarly h s stmt alone
-  pub is_open : alone ≡ true → IsOpen s h
-
 -- ---- a settled reply
 
--- the reply is that of the statement over a database that it may see at its point
-pub record IsFound (point : List Event) (s : ℕ) (stmt : Stmt) (reply : Reply) : Type 0 where
+-- the reply is that of the statement over a database that it may see
+pub record IsFound (h : List Event) (s : ℕ) (stmt : Stmt) (reply : Reply) : Type 0 where
   pub l : Level
-  pub level_is : level s point ≡ Some l
+  pub level_is : level s h ≡ Some l
   pub alike : plain_sight l true ≡ plain_sight l false
   pub db : Database
-  pub sees : MaySee (plain_sight l false) s stmt db point
+  pub sees : MaySee (plain_sight l false) s stmt db h
   pub answer : reply ≡ (outcome stmt db).reply
 
 -- that reply, of an item that has the view which it reads by
-pub record IsSeen (h point : List Event) (s : ℕ) (stmt : Stmt) (reply : Reply) : Type 0 where
-  pub found : IsFound point s stmt reply
+pub record IsSeen (h : List Event) (s : ℕ) (stmt : Stmt) (reply : Reply) : Type 0 where
+  pub found : IsFound h s stmt reply
   pub viewed : HasViewed found.l s h
 
--- with so many rows more the history held too many, at some moment of the item
-pub record IsTooMany (rows : ℕ) (h point : List Event) (s : ℕ) (stmt : Stmt) : Type 0 where
+-- with so many rows more the history held too many
+pub record IsTooMany (rows : ℕ) (h : List Event) (s : ℕ) (stmt : Stmt) : Type 0 where
   pub many : most_rows < rows
   pub reply : Reply
-  pub found : IsFound point s stmt reply
-  pub sum : Sometime (λ g. rows ≡ rows_kept g + rows_of_reply reply) s h
+  pub found : IsFound h s stmt reply
+  pub sum : rows ≡ rows_kept h + rows_of_reply reply
 
--- what stands behind a reply: rows or a refusal, and where it is broken off the limit or want of memory
-abbrev pub IsSettledBy : Reply → List Event → List Event → ℕ → Stmt → Type 0
-IsSettledBy (replies.Rows rows) h point s stmt = IsSeen h point s stmt (replies.Rows rows)
-IsSettledBy (replies.Fail error) h point s stmt = IsSeen h point s stmt (replies.Fail error)
-IsSettledBy (replies.RunLimit rows) h point s stmt = IsTooMany rows h point s stmt
-IsSettledBy replies.NoMemory h point s stmt = Unit {0}
-IsSettledBy other h point s stmt = ⊥
-
-abbrev pub is_rows : Reply → Bool
-is_rows (replies.Rows rows) = true
-is_rows other = false
+-- what stands behind a reply: rows or a refusal, and where it is broken off the limit
+abbrev pub IsSettledBy : Reply → List Event → ℕ → Stmt → Type 0
+IsSettledBy (replies.Rows rows) h s stmt = IsSeen h s stmt (replies.Rows rows)
+IsSettledBy (replies.Fail error) h s stmt = IsSeen h s stmt (replies.Fail error)
+IsSettledBy (replies.RunLimit rows) h s stmt = IsTooMany rows h s stmt
+IsSettledBy other h s stmt = ⊥
 
 -- rows or a refusal
 abbrev pub answers_rows : Reply → Bool
@@ -174,47 +162,12 @@ pub record IsAnswered (h : List Event) (s : ℕ) (alone : Bool) (kept given : Re
   pub same : given ≡ kept
   pub stmt : Stmt
   pub early : IsEarly h s stmt alone
-  pub is_open : alone ≡ true → IsOpen s h
-  pub settled : IsSettledBy kept h h s stmt
-
--- rows are answered by what has committed its transaction, and other replies by what has rolled it back
-abbrev pub HasClosed : Bool → ℕ → List Event → Type 0
-HasClosed true s h = (did commits_txn s h ≡ true) × (did rolls_back_txn s h ≡ false)
-HasClosed false s h = (did rolls_back_txn s h ≡ true) × (did commits_txn s h ≡ false)
-
--- The reply is settled, and the statement's own transaction has ended.
-pub record IsClosing (h : List Event) (s : ℕ) (kept given : Reply) : Type 0 where
-  pub same : given ≡ kept
-  pub stmt : Stmt
-  pub takes : Takes Spells s stmt h
-  pub plain : is_plain_select stmt ≡ true
-  pub over : is_over s h ≡ true
-  pub autocommit_is : takes.setting.autocommit ≡ true
-  pub closed_before : IsClosed s (before_item s h)
-  pub closed : IsClosed s h
-  pub begun : did begins_txn s h ≡ true
-  pub no_victim : did is_victim s h ≡ false
-  pub none_undone : did undoes s h ≡ false
-  pub nothing : own s h ≡ []
-  pub nothing_then : own s (point s h) ≡ []
-  pub nothing_before : own_before s (point s h) ≡ []
-  pub settled : IsSettledBy kept h (point s h) s stmt
-  pub ended : HasClosed (is_rows kept) s h
+  pub is_open : IsOpen s h
+  pub settled : IsSettledBy kept h s stmt
 
 -- where a view is to be taken
 abbrev pub MayTakeView : ℕ → List Event → Type 0
 MayTakeView s h = (l : Level) × (level s h ≡ Some l) × ((alone : Bool) → plain_sight l alone ≡ Sight.of_view) × (l ≢ Serializable) × TakesView l s h
-
--- what a SELECT knows of the past, and of what its session has under way
-abbrev pub IsAt : List Event → Task → ℕ → ReadStatement → Type 0
-IsAt h task s (machine.Opening asked) = IsOpening h s asked × (task ≡ Idle)
-IsAt h task s (machine.Open stmt alone) = IsEarly h s stmt alone × IsOpen s h × (did takes_view s h ≡ false) × (task ≡ Idle)
-IsAt h task s (machine.Viewed stmt alone) = IsEarly h s stmt alone × IsOpen s h × HasView h s × (task ≡ Idle)
-IsAt h task s (machine.Searching read) = IsSearching h s task read
-IsAt h task s (machine.Found found) = HasFound h s found × (task ≡ Idle)
-IsAt h task s (machine.Unacked kept given) = IsClosing h s kept given × (is_rows kept ≡ true) × (awaits_ack (of_item s h) ≡ true) × (task ≡ Idle)
-IsAt h task s (machine.Ending kept given) = IsClosing h s kept given × (awaits_ack (of_item s h) ≡ false) × (task ≡ Idle)
-IsAt h task s (machine.Failed alone) = IsFailing h s alone × (task ≡ Idle)
 
 -- it searches its table
 abbrev pub is_searching : ReadStatement → Bool
@@ -223,13 +176,20 @@ is_searching other = false
 
 -- its commit is yet to be acknowledged
 abbrev pub owes_ack : ReadStatement → Bool
-owes_ack (machine.Unacked kept given) = true
+owes_ack (machine.Leaving leaving) = leaving_owes_ack leaving
 owes_ack other = false
 
 -- the statement behind that
 abbrev pub acked : ReadStatement → ReadStatement
-acked (machine.Unacked kept given) = machine.Ending kept given
+acked (machine.Leaving leaving) = machine.Leaving (leaving_acked leaving)
 acked other = other
 
+-- what a SELECT knows of the past, and of what its session has under way
 abbrev pub IsRunning : State → ℕ → ReadStatement → Type 0
-IsRunning state s statement = IsAt state.past (task_of s state) s statement
+IsRunning state s (machine.Opening asked) = IsOpening state.past s asked × (task_of s state ≡ Idle)
+IsRunning state s (machine.Open stmt alone) =
+    IsEarly state.past s stmt alone × IsOpen s state.past × (did takes_view s state.past ≡ false) × (task_of s state ≡ Idle)
+IsRunning state s (machine.Viewed stmt alone) = IsEarly state.past s stmt alone × IsOpen s state.past × HasView state.past s × (task_of s state ≡ Idle)
+IsRunning state s (machine.Searching read) = IsSearching state.past s (task_of s state) read
+IsRunning state s (machine.Found found) = HasFound state.past s found × (task_of s state ≡ Idle)
+IsRunning state s (machine.Leaving leaving) = IsLeaving state s leaving

@@ -1,16 +1,18 @@
 //! How a SELECT answers by the rows that it has found, in one step.
 
-ghost use Rattle.std.specs.Prelude.{◌≡◌, ◌≢◌, ◌<◌, ◌+◌, length, IfOk, IfSome, IfNone, Some, true};
+ghost use Rattle.std.specs.Prelude.{◌≡◌, ◌<◌, length, IfOk, true};
 ghost use Rattle.inno_model.specs.Past.{IsOpen};
-ghost use Rattle.sql_history.specs.Counts.{rows_kept, rows_of_reply, most_rows};
 ghost use Rattle.sql_history.specs.Legal.{IsWithin};
+ghost use Rattle.shared_lists.specs.Tasks.{Idle};
+ghost use Rattle.shared_lists.specs.State.{task_of};
 ghost use Rattle.sql_lists.specs.Going.{Nears};
 ghost use Rattle.sql_lists.specs.Steps.{Steps};
-ghost use Rattle.read_statement.specs.Going.{to_go};
-ghost use Rattle.read_statement.specs.Running.{IsRunning, IsEarly, HasFound, IsSeen, IsAnswered, answers_rows, is_rows};
+ghost use Rattle.giving_up.specs.Ends.{is_rows};
+ghost use Rattle.read_statement.specs.Going.{to_go, NearsTo};
+ghost use Rattle.read_statement.specs.Running.{IsRunning, IsEarly, HasFound, IsSeen, IsAnswered, answers_rows};
 
-use crate::closing::close;
 use crate::machine::{Found, ReadStatement};
+use giving_up::{Leaving, commit, end, overfull_by, roll_back};
 use inno_db::Outcome;
 use inno_types::{Reply, Stmt};
 use plain_sql::plain_on_rows;
@@ -36,7 +38,10 @@ pub fn step_found<L: SharedLists>(
     drop(found);
     match settled {
         Ok(settled) => close(alone, settled, session, lists),
-        Err(_) => (ReadStatement::Failed { alone }, Advance::NoMemory),
+        Err(_) => (
+            ReadStatement::Leaving(Leaving::Failed { alone }),
+            Advance::NoMemory,
+        ),
     }
 }
 
@@ -63,7 +68,7 @@ fn reply_by<L: SharedLists>(
     lists: &SqlLists<L>,
 ) -> Result<Reply, NoMemory>
     requires found { HasFound lists.now.past session found.now }
-    ensures seen { IfOk result (λ reply. IsSeen lists.now.past lists.now.past session found.now.stmt reply) }
+    ensures seen { IfOk result (λ reply. IsSeen lists.now.past session found.now.stmt reply) }
     ensures kind { IfOk result (λ reply. answers_rows reply ≡ true) }
 {
     let Outcome { reply, .. } = outcome_by(alloc, found, session, lists)?;
@@ -78,7 +83,7 @@ fn outcome_by<L: SharedLists>(
     lists: &SqlLists<L>,
 ) -> Result<Outcome, NoMemory>
     requires found { HasFound lists.now.past session found.now }
-    ensures { IfOk result (λ outcome. IsSeen lists.now.past lists.now.past session found.now.stmt outcome.reply) }
+    ensures { IfOk result (λ outcome. IsSeen lists.now.past session found.now.stmt outcome.reply) }
 {
     let _ = session;
     plain_on_rows(
@@ -124,7 +129,7 @@ pub fn settle<L: SharedLists>(
 ) -> Result<Settled, NoMemory>
     requires early { IsEarly lists.now.past session stmt.now alone }
     requires is_open { IsOpen session lists.now.past }
-    requires seen { IsSeen lists.now.past lists.now.past session stmt.now given }
+    requires seen { IsSeen lists.now.past session stmt.now given }
     requires kind { answers_rows given ≡ true }
     ensures answered { IfOk result (λ settled. IsAnswered lists.now.past session alone settled.kept settled.given) }
     ensures within { IfOk result (λ settled. IsWithin settled.kept lists.now.past) }
@@ -144,20 +149,35 @@ pub fn settle<L: SharedLists>(
     }
 }
 
-/// How many rows the history would hold with a reply, where these are too many.
-pub fn overfull_by<L: SharedLists>(reply: &Reply, lists: &SqlLists<L>) -> Option<u64>
-    ensures fits { IfNone result (IsWithin reply.now lists.now.past) }
-    ensures many { IfSome result (λ rows. (most_rows < rows) × (rows ≡ rows_kept lists.now.past + rows_of_reply reply.now)) }
-    ensures rows { IfSome result (λ rows. is_rows reply.now ≡ true) }
+/// A settled reply ends the item, or first the statement's own transaction: rows by its commit.
+pub fn close<L: SharedLists>(
+    alone: bool,
+    settled: Settled,
+    session: u32,
+    lists: &mut SqlLists<L>,
+) -> (ReadStatement, Advance)
+    requires joined { session < length lists.old.names }
+    requires answered { IsAnswered lists.old.past session alone settled.kept settled.given }
+    requires within { IsWithin settled.kept lists.old.past }
+    requires idle { task_of session lists.old ≡ Idle }
+    ensures steps { Steps IsRunning session lists.old lists.new result.0 result.1 }
+    ensures nears { NearsTo 4 session lists.new result.0 result.1 }
 {
-    match reply {
-        Reply::Rows(rows) => lists.overfull(rows.as_slice().len() as u64),
-        Reply::Fail(_)
-        | Reply::Done
-        | Reply::Count(_)
-        | Reply::RunLimit { .. }
-        | Reply::NotSignalled { .. }
-        | Reply::Stopped
-        | Reply::NoMemory => None,
+    let Settled { kept, given } = settled;
+    if !alone {
+        let (leaving, answer) = end(kept, given, session, lists);
+        return (ReadStatement::Leaving(leaving), answer);
     }
+    if is_rows(&kept) {
+        let (leaving, answer) = commit(kept, given, session, lists);
+        return (ReadStatement::Leaving(leaving), answer);
+    }
+    let (leaving, answer) = roll_back(kept, given, session, lists);
+    (ReadStatement::Leaving(leaving), answer)
+}
+
+fn is_rows(reply: &Reply) -> bool
+    ensures { result ≡ is_rows reply.now }
+{
+    matches!(reply, Reply::Rows(_))
 }

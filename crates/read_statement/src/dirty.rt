@@ -12,10 +12,10 @@ ghost use Rattle.sql_lists.specs.Steps.{Steps};
 ghost use Rattle.read_statement.specs.Going.{to_go, NearsTo};
 ghost use Rattle.read_statement.specs.Running.{IsRunning, IsEarly, IsSeen, IsAnswered, AreRead, IsUnrefused, answers_rows};
 
-use crate::answering::{Settled, only_answer, settle};
-use crate::closing::close;
+use crate::answering::{Settled, close, only_answer, settle};
 use crate::machine::ReadStatement;
 use crate::planning::{Planned, plan_search};
+use giving_up::Leaving;
 use inno_db::Outcome;
 use inno_types::{Reply, Rows, Stmt};
 use plain_sql::plain_on_rows;
@@ -43,7 +43,10 @@ pub fn step_dirty<L: SharedLists>(
         Ok(read) => answer_newest(alloc, stmt, alone, &read, session, lists),
         Err(_) => {
             drop(stmt);
-            (ReadStatement::Failed { alone }, Advance::NoMemory)
+            (
+                ReadStatement::Leaving(Leaving::Failed { alone }),
+                Advance::NoMemory,
+            )
         }
     }
 }
@@ -93,7 +96,10 @@ fn answer_newest<L: SharedLists>(
     drop(stmt);
     match settled {
         Ok(settled) => close(alone, settled, session, lists),
-        Err(_) => (ReadStatement::Failed { alone }, Advance::NoMemory),
+        Err(_) => (
+            ReadStatement::Leaving(Leaving::Failed { alone }),
+            Advance::NoMemory,
+        ),
     }
 }
 
@@ -129,7 +135,7 @@ fn newest_reply<L: SharedLists>(
     requires unrefused { IsUnrefused stmt.now lists.now.past }
     requires dirty { level session lists.now.past ≡ Some ReadUncommitted }
     requires read { AreRead lists.now.past stmt.now read.now.table read.now.rows }
-    ensures seen { IfOk result (λ reply. IsSeen lists.now.past lists.now.past session stmt.now reply) }
+    ensures seen { IfOk result (λ reply. IsSeen lists.now.past session stmt.now reply) }
     ensures kind { IfOk result (λ reply. answers_rows reply ≡ true) }
 {
     let Outcome { reply, .. } = newest_outcome(alloc, stmt, read, session, lists)?;
@@ -147,7 +153,7 @@ fn newest_outcome<L: SharedLists>(
     requires unrefused { IsUnrefused stmt.now lists.now.past }
     requires dirty { level session lists.now.past ≡ Some ReadUncommitted }
     requires read { AreRead lists.now.past stmt.now read.now.table read.now.rows }
-    ensures { IfOk result (λ outcome. IsSeen lists.now.past lists.now.past session stmt.now outcome.reply) }
+    ensures { IfOk result (λ outcome. IsSeen lists.now.past session stmt.now outcome.reply) }
 {
     let _writer = only_writer(session, lists);
     plain_on_rows(alloc, lists.lists().schemas(), read.table, &read.rows, stmt)

@@ -1,9 +1,9 @@
 //! A SELECT as a machine: each step is one of its search or adds one entry, and steps of other sessions may come between.
-//! It takes its view, searches its table by a plan, and answers in the step that ends its transaction or its item.
+//! It takes its view, searches its table by a plan, and answers in the step that ends its transaction or its item. How it ends is
+//! told by `giving_up`.
 #![tactic(auto)]
 
 mod answering;
-mod closing;
 mod dirty;
 mod laws;
 mod machine;

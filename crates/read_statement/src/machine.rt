@@ -13,10 +13,10 @@ ghost use Rattle.read_statement.specs.Going.{to_go};
 ghost use Rattle.read_statement.specs.Running.{IsRunning, IsTakenWith, is_searching, owes_ack, acked};
 
 use crate::answering::step_found;
-use crate::closing::{step_ending, step_failed};
 use crate::opening::{step_open, step_opening, step_viewed};
 use crate::searching::step_searching;
-use inno_types::{Level, Reply, Rows, Stmt};
+use giving_up::Leaving;
+use inno_types::{Level, Rows, Stmt};
 use shared_lists::SharedLists;
 use sql_lists::{Advance, SqlLists};
 use std::alloc::Global;
@@ -48,8 +48,7 @@ pub struct Found {
     pub rows: Rows,
 }
 
-/// A SELECT under way. `alone` says that it is a transaction of its own. Of a reply the history is to keep one copy,
-/// and the caller is given the other.
+/// A SELECT under way. `alone` says that it is a transaction of its own.
 #[derive(Drop)]
 pub enum ReadStatement {
     Opening(Asked),
@@ -59,12 +58,8 @@ pub enum ReadStatement {
     Viewed { stmt: Stmt, alone: bool },
     Searching(Read),
     Found(Found),
-    /// Its own transaction is committed.
-    Unacked { kept: Reply, given: Reply },
-    /// Its own transaction has ended, and nothing awaits an acknowledgement.
-    Ending { kept: Reply, given: Reply },
-    /// No memory was found: what it began is to be given up.
-    Failed { alone: bool },
+    /// It ends.
+    Leaving(Leaving),
 }
 
 impl ReadStatement {
@@ -98,7 +93,10 @@ impl ReadStatement {
     pub fn owes_ack(&self) -> bool
         ensures { result ≡ owes_ack self.now }
     {
-        matches!(self, ReadStatement::Unacked { .. })
+        match self {
+            ReadStatement::Leaving(leaving) => leaving.owes_ack(),
+            _ => false,
+        }
     }
 
     /// The statement after the acknowledgement of its commit.
@@ -106,7 +104,7 @@ impl ReadStatement {
         ensures { result ≡ acked self }
     {
         match self {
-            ReadStatement::Unacked { kept, given } => ReadStatement::Ending { kept, given },
+            ReadStatement::Leaving(leaving) => ReadStatement::Leaving(leaving.acked()),
             other => other,
         }
     }
@@ -170,9 +168,11 @@ impl ReadStatement {
                 alloc, stmt, alone, session, lists,
             ),
             ReadStatement::Found(found) => step_found(alloc, found, session, lists),
-            ReadStatement::Ending { kept, given } => step_ending(kept, given, session, lists),
-            ReadStatement::Failed { alone } => step_failed(alone, session, lists),
-            ReadStatement::Searching(_) | ReadStatement::Unacked { .. } => unreachable!(),
+            ReadStatement::Leaving(leaving) => {
+                let (leaving, answer) = leaving.step(session, lists);
+                (ReadStatement::Leaving(leaving), answer)
+            }
+            ReadStatement::Searching(_) => unreachable!(),
         }
     }
 
@@ -180,7 +180,10 @@ impl ReadStatement {
     fn taken(&mut self) -> Self
         ensures { result ≡ self.old }
     {
-        mem::replace(self, ReadStatement::Failed { alone: false })
+        mem::replace(
+            self,
+            ReadStatement::Leaving(Leaving::Failed { alone: false }),
+        )
     }
 
     /// The search under way, which is taken out of it.

@@ -11,6 +11,7 @@ ghost use Rattle.read_statement.specs.Running.{IsRunning, MayTakeView};
 use crate::dirty::step_dirty;
 use crate::machine::{Asked, Read, ReadStatement};
 use crate::planning::{Planned, plan_search};
+use giving_up::Leaving;
 use inno_types::{Level, Stmt};
 use shared_lists::{Reading, SharedLists};
 use sql_lists::{Advance, SqlLists};
@@ -43,7 +44,10 @@ pub fn step_opening<L: SharedLists>(
         }
         Err(_) => {
             drop(stmt);
-            (ReadStatement::Failed { alone: false }, Advance::NoMemory)
+            (
+                ReadStatement::Leaving(Leaving::Failed { alone: false }),
+                Advance::NoMemory,
+            )
         }
     }
 }
@@ -73,7 +77,10 @@ pub fn step_open<L: SharedLists>(
         // A transaction is open here, and a SELECT at SERIALIZABLE was refused before.
         Some(Level::Serializable) | None => {
             drop(stmt);
-            (ReadStatement::Failed { alone }, Advance::NoMemory)
+            (
+                ReadStatement::Leaving(Leaving::Failed { alone }),
+                Advance::NoMemory,
+            )
         }
     }
 }
@@ -95,7 +102,10 @@ fn view_first<L: SharedLists>(
         Ok(()) => (ReadStatement::Viewed { stmt, alone }, Advance::Went),
         Err(_) => {
             drop(stmt);
-            (ReadStatement::Failed { alone }, Advance::NoMemory)
+            (
+                ReadStatement::Leaving(Leaving::Failed { alone }),
+                Advance::NoMemory,
+            )
         }
     }
 }
@@ -117,7 +127,10 @@ pub fn step_viewed<L: SharedLists>(
         Ok(planned) => begin_search(planned, stmt, alone, session, lists),
         Err(_) => {
             drop(stmt);
-            (ReadStatement::Failed { alone }, Advance::NoMemory)
+            (
+                ReadStatement::Leaving(Leaving::Failed { alone }),
+                Advance::NoMemory,
+            )
         }
     }
 }
@@ -144,7 +157,10 @@ fn begin_search<L: SharedLists>(
         ),
         Err(_) => {
             drop(stmt);
-            (ReadStatement::Failed { alone }, Advance::NoMemory)
+            (
+                ReadStatement::Leaving(Leaving::Failed { alone }),
+                Advance::NoMemory,
+            )
         }
     }
 }

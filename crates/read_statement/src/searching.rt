@@ -7,6 +7,7 @@ ghost use Rattle.read_statement.specs.Going.{to_go};
 ghost use Rattle.read_statement.specs.Running.{IsRunning};
 
 use crate::machine::{Found, Read, ReadStatement};
+use giving_up::Leaving;
 use shared_lists::{Searched, SharedLists};
 use sql_lists::{Advance, SqlLists};
 
@@ -40,7 +41,7 @@ pub fn step_searching<L: SharedLists>(
             let read = statement.read();
             let alone = read.alone;
             drop(read);
-            *statement = ReadStatement::Failed { alone };
+            *statement = ReadStatement::Leaving(Leaving::Failed { alone });
             Advance::NoMemory
         }
     }

@@ -25,7 +25,9 @@ use Rattle.read_statement.specs.declared.machine.ReadStatement.{ReadStatement}
 use Rattle.read_statement.specs.declared.machine.ReadStatement.TheVariants as readings
 use Rattle.read_statement.specs.Running as of_read
 use Rattle.read_statement.proofs.Items.{none_closed, turn_goes_on}
+use Rattle.giving_up.specs.declared.leaving.Leaving.{Leaving}
 use Rattle.giving_up.specs.declared.leaving.Leaving.TheVariants as leaving
+use Rattle.giving_up.specs.Leaving.{IsLeaving}
 use Rattle.write_statement.specs.declared.machine.WriteStatement.{WriteStatement}
 use Rattle.write_statement.specs.declared.machine.WriteStatement.TheVariants as writings
 use Rattle.write_statement.specs.declared.machine.Part.{Part}
@@ -96,25 +98,7 @@ of_creations state s (creations.Committed statement) legal r = created s state.p
 of_creations state s (creations.Ending statement) legal r = created s state.past legal statement r.0.0
 of_creations state s creations.Failed legal r = inl r.0.made
 
--- ---- SELECT
-
-reading : (s : ℕ) (past : List Event) (statement : Stmt) (alone : Bool) → of_read.IsEarly past s statement alone → MadeSome Spells s past
-reading s past statement alone early = inl (none_there s past (turn_goes_on s past (none_closed s past early.goes_on)) early.before_is)
-
-pub of_readings : (state : State) (s : ℕ) (m : ReadStatement) → of_read.IsRunning state s m → MadeSome Spells s state.past
-of_readings state s (readings.Opening asked) r = inl (none_yet s state.past r.0.nothing)
-of_readings state s (readings.Open statement alone) r = reading s state.past statement alone r.0
-of_readings state s (readings.Viewed statement alone) r = reading s state.past statement alone r.0
-of_readings state s (readings.Searching read) r = reading s state.past read.stmt read.alone r.early
-of_readings state s (readings.Found found) r = reading s state.past found.stmt found.alone r.0.early
-of_readings state s (readings.Unacked kept given) r = inl (r.0.nothing_then ∙ sym r.0.nothing_before)
-of_readings state s (readings.Ending kept given) r = inl (r.0.nothing_then ∙ sym r.0.nothing_before)
-of_readings state s (readings.Failed alone) r = reading s state.past r.0.stmt alone r.0.early
-
--- ---- INSERT, UPDATE and DELETE
-
-early : (s : ℕ) (past : List Event) (statement : Stmt) (alone : Bool) → of_write.IsEarly s statement alone past → MadeSome Spells s past
-early s past statement alone e = inl (none_there s past e.goes_on.not_over e.unchanged)
+-- ---- a statement on rows that ends
 
 -- the first changes of its outcome over the latest rows
 replied : (s : ℕ) (past : List Event) (statement : Stmt) (takes : Takes Spells s statement past) → IsWriting statement → IsOpen s (point s past) → (count : ℕ)
@@ -131,6 +115,31 @@ replied s past statement takes writes was-open count made =
       }),
     )
 
+leaves : (state : State) (s : ℕ) (m : Leaving) → IsLeaving state s m → MadeSome Spells s state.past
+leaves state s (leaving.BackingOut work) r =
+    replied s state.past r.0.statement r.0.working.takes r.0.working.writes r.0.reply.was_open r.0.reply.count r.0.reply.made
+leaves state s (leaving.Failed alone) r = inl r.0.made
+leaves state s (leaving.Unacked kept given) r = r.0.may.made
+leaves state s (leaving.Ending kept given) r = r.0.may.made
+
+-- ---- SELECT
+
+reading : (s : ℕ) (past : List Event) (statement : Stmt) (alone : Bool) → of_read.IsEarly past s statement alone → MadeSome Spells s past
+reading s past statement alone early = inl (none_there s past (turn_goes_on s past (none_closed s past early.goes_on)) early.before_is)
+
+pub of_readings : (state : State) (s : ℕ) (m : ReadStatement) → of_read.IsRunning state s m → MadeSome Spells s state.past
+of_readings state s (readings.Opening asked) r = inl (none_yet s state.past r.0.nothing)
+of_readings state s (readings.Open statement alone) r = reading s state.past statement alone r.0
+of_readings state s (readings.Viewed statement alone) r = reading s state.past statement alone r.0
+of_readings state s (readings.Searching read) r = reading s state.past read.stmt read.alone r.early
+of_readings state s (readings.Found found) r = reading s state.past found.stmt found.alone r.0.early
+of_readings state s (readings.Leaving m) r = leaves state s m r
+
+-- ---- INSERT, UPDATE and DELETE
+
+early : (s : ℕ) (past : List Event) (statement : Stmt) (alone : Bool) → of_write.IsEarly s statement alone past → MadeSome Spells s past
+early s past statement alone e = inl (none_there s past e.goes_on.not_over e.unchanged)
+
 changing : (state : State) (s : ℕ) (part : Part) (next : Database → Outcome) (todo : List Change)
     → of_write.IsChanging state.past state.writer s part next todo → MadeSome Spells s state.past
 changing state s part next todo c =
@@ -139,18 +148,12 @@ changing state s part next todo c =
 
 pub of_writings : (state : State) (s : ℕ) (m : WriteStatement) → of_write.IsRunning state s m → MadeSome Spells s state.past
 of_writings state s (writings.Fresh statement) r = inl (none_yet s state.past r.0.nothing)
-of_writings state s (writings.Leaving leaving.Unopened) r = inl (none_yet s state.past r.0.taken.nothing)
 of_writings state s (writings.Locking statement alone) r = early s state.past statement alone r.0
 of_writings state s (writings.Searching part) r = changing state s part (of_part part) [] r.reading.changing
 of_writings state s (writings.Changing part todo) r = changing state s part (of_rest part) todo.items r.0
 of_writings state s (writings.Making part todo rows) r = changing state s part (of_rest part) (todo.items ++ r.change ∷ []) r.changing
 of_writings state s (writings.Finishing part todo) r = changing state s part (of_rest part) todo.items r.changing
-of_writings state s (writings.Leaving (leaving.BackingOut work)) r =
-    replied s state.past r.0.statement r.0.working.takes r.0.working.writes r.0.reply.was_open r.0.reply.count r.0.reply.made
-of_writings state s (writings.Leaving (leaving.Unacked kept given)) r =
-    replied s state.past r.0.statement r.0.takes r.0.writes r.0.reply.was_open r.0.reply.count r.0.reply.made
-of_writings state s (writings.Leaving (leaving.Ending kept given)) r =
-    replied s state.past r.0.statement r.0.takes r.0.writes r.0.reply.was_open r.0.reply.count r.0.reply.made
+of_writings state s (writings.Leaving m) r = leaves state s m r
 
 -- ---- whichever
 

@@ -6,8 +6,8 @@ use Rattle.inno_types.specs.declared.stmt.Stmt.TheVariants as stmt
 use Rattle.inno_model.specs.declared.event.Event.{Event}
 use Rattle.sql_grammar.specs.Grammar.{Spells}
 use Rattle.sql_history.specs.Items.{Asks}
-use Rattle.sql_history.specs.Legal.{IsCreation, IsWriting}
-use Rattle.sql_history.specs.Readings.{is_plain_select}
+use Rattle.sql_history.specs.Legal.{IsCreation}
+use Rattle.sql_history.specs.Statements.{is_on_rows}
 use Rattle.transaction_statements.specs.declared.committer.Committer.{Committer}
 use Rattle.transaction_statements.specs.declared.committer.Committer.TheVariants as committers
 use Rattle.transaction_statements.specs.Committing.{stmt_of}
@@ -35,13 +35,9 @@ creation_same s past a b p q kind =
     let same = one_tree p.0 a b p.2 (subst (λ (text : List ℕ). Spells text b) (sym same_text) q.2) in
     from_tree a (subst TreeCreates (sym same) (to_tree b kind))
 
-pub reading_makes_none : (a : Stmt) → is_plain_select a ≡ true → IsCreation a → ⊥
-reading_makes_none (stmt.CreateTable table if_not_exists definitions) plain kind = false≢true plain
-reading_makes_none other plain kind = kind
-
-pub writing_makes_none : (a : Stmt) → IsWriting a → IsCreation a → ⊥
-writing_makes_none (stmt.CreateTable table if_not_exists definitions) writes kind = writes
-writing_makes_none other writes kind = kind
+pub rows_make_none : (a : Stmt) → is_on_rows a ≡ true → IsCreation a → ⊥
+rows_make_none (stmt.CreateTable table if_not_exists definitions) on-rows kind = false≢true on-rows
+rows_make_none other on-rows kind = kind
 
 pub committer_makes_none : (committer : Committer) → IsCreation (stmt_of committer) → ⊥
 committer_makes_none committers.Commit kind = kind

@@ -1,11 +1,10 @@
 -- What is known where a statement begins, or is refused at once.
 use Rattle.std.specs.Prelude.{◌⊎◌}
-use Rattle.std.proofs.Common.{◌≡◌, ◌≢◌, ℕ, Bool, true, false, Option, Some, None, List, [], ◌∷◌, refl, sym, ap, subst, ◌∙◌, inl, inr, arith}
-use Rattle.std.proofs.lemmas.Bool.Decides.{nat_tests, eqb_tells}
+use Rattle.std.proofs.Common.{◌≡◌, ◌≢◌, ℕ, Bool, true, false, Option, Some, None, List, [], ◌∷◌, refl, sym, ap, subst, ◌∙◌, inl, inr}
+use Rattle.std.proofs.lemmas.Bool.Decides.{eqb_tells}
 use Rattle.std.proofs.lemmas.Bool.{false≢true}
 use Rattle.inno_types.specs.declared.stmt.Stmt.{Stmt}
 use Rattle.inno_types.specs.declared.lock.Level.{Level}
-use Rattle.inno_types.specs.declared.reply.Item.{Item}
 use Rattle.inno_types.specs.declared.reply.Item.TheVariants.{Sql}
 use Rattle.inno_types.specs.declared.reply.SqlError.{SqlError}
 use Rattle.inno_types.specs.declared.reply.Reply.TheVariants as replies
@@ -21,11 +20,9 @@ use Rattle.sql_history.specs.Waiting.{is_victim}
 use Rattle.sql_lists.proofs.Staying.{at_work, point_now}
 use Rattle.sql_grammar.specs.Grammar.{Spells}
 use Rattle.sql_history.specs.Items.{Asks, is_over, point, before_turn, own_before}
-use Rattle.sql_history.specs.Settings.{Setting, HasSet, next_level}
+use Rattle.sql_history.specs.Settings.{Setting, HasSet}
 use Rattle.sql_history.specs.Statements.{session_refusal, refused_at_once, first_of, schemas_now}
-use Rattle.sql_history.specs.Legal.{Takes}
 use Rattle.sql_lists.specs.Kept.{MayReply}
-use Rattle.sql_lists.specs.Steps.{IsTaken}
 use Rattle.read_statement.specs.Running.{IsTakenWith}
 use Rattle.statement.specs.declared.under_way.Look.TheVariants as looks
 use Rattle.statement.specs.Running.{HasOnlyStarted, LooksAs}

@@ -15,7 +15,8 @@ use Rattle.sql_history.specs.Items.{Asks, of_turn, is_over, point, before_turn, 
 use Rattle.sql_history.specs.Legal.{IsLegal, ChangesBy, MayChange}
 use Rattle.sql_lists.specs.Steps.{changes_rows}
 use Rattle.sql_lists.proofs.Staying.{at_work, is_within, item_within, within_of_other, point_now, point_stays, point_before}
-use Rattle.read_statement.proofs.Items.{quiet_own, quiet_turn, turn_goes_on}
+use Rattle.giving_up.proofs.Nothing.{own_nothing, turn_nothing}
+use Rattle.read_statement.proofs.Items.{turn_goes_on}
 use Rattle.statement.proofs.Same.{changes_same}
 
 -- the item has changed nothing up to its point
@@ -32,7 +33,7 @@ none_now s h goes none = subst (λ p. own s p ≡ own_before s p) (point_now h s
 -- an item that has done nothing
 pub none_yet : (s : ℕ) (h : List Event) → of_item s h ≡ [] → HasMadeNone s h
 none_yet s h nothing =
-    none_there s h (turn_goes_on s h (ap (list_any closes) nothing)) (quiet_own s h nothing ∙ ap (own s) (sym (quiet_turn s h nothing)))
+    none_there s h (turn_goes_on s h (ap (list_any closes) nothing)) (own_nothing s h nothing ∙ ap (own s) (sym (turn_nothing s h nothing).1))
 
 -- ---- one entry more
 

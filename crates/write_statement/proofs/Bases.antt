@@ -34,7 +34,7 @@ use Rattle.law_claims.proofs.Outcomes.{search_stands, counted_stands, refusal_st
 use Rattle.giving_up.proofs.Touched.{front_rows, touched_front}
 use Rattle.write_statement.specs.declared.machine.Part.{Part}
 use Rattle.giving_up.specs.Replies.{is_count, is_refusal}
-use Rattle.write_statement.specs.Parts.{has_parts, IsCut, behind, of_part}
+use Rattle.write_statement.specs.Parts.{has_parts, IsCut, of_part}
 use Rattle.write_statement.specs.Running.{IsChanging, basis_for, search_of, refused_at}
 use Rattle.write_statement.proofs.Changed.{changed_all, current_changed}
 

@@ -13,7 +13,7 @@ use Rattle.inno_db.specs.declared.change.Change.{Change}
 use Rattle.inno_db.specs.Outcome.{outcome}
 use Rattle.inno_model.specs.declared.event.Event.{Event}
 use Rattle.inno_model.specs.declared.event.Event.TheVariants as events
-use Rattle.inno_model.specs.Past.{before_item, of_item, begins_txn, commits_txn, rolls_back_txn, level, own, started, awaits_ack, IsClosed}
+use Rattle.inno_model.specs.Past.{before_item, of_item, begins_txn, commits_txn, rolls_back_txn, level, own, awaits_ack}
 use Rattle.sql_grammar.specs.Grammar.{Spells}
 use Rattle.sql_history.specs.Items.{own_before, base, point, HasMade, undoes}
 use Rattle.sql_history.specs.Answers.{MakesFor}
@@ -21,22 +21,21 @@ use Rattle.sql_history.specs.Endings.{Commits, Goes}
 use Rattle.sql_history.specs.Legal.{IsSettled, CommitsBy, MayCommit, is_alone}
 use Rattle.sql_history.specs.Waiting.{is_victim}
 use Rattle.law_past_agreement.specs.Order.{IsOfRow}
-use Rattle.shared_lists.specs.Tasks.{Idle}
-use Rattle.shared_lists.specs.State.{State, Closes, task_of}
-use Rattle.sql_lists.specs.Kept.{MayReply, OwesAck}
+use Rattle.shared_lists.specs.State.{State}
+use Rattle.sql_lists.specs.Kept.{OwesAck}
 use Rattle.sql_lists.specs.Going.{NearsAcked}
-use Rattle.sql_lists.specs.Steps.{Moves, GoesOnAcked}
+use Rattle.sql_lists.specs.Steps.{GoesOnAcked}
 use Rattle.sql_lists.proofs.Staying.{point_now}
 use Rattle.write_statement.specs.declared.machine.WriteStatement.{WriteStatement}
 use Rattle.write_statement.specs.declared.machine.WriteStatement.TheVariants as machine
 use Rattle.write_statement.specs.Going.{to_go}
 use Rattle.giving_up.specs.Replies.{HasReply}
-use Rattle.giving_up.specs.Leaving.{InTxn, IsClosing}
+use Rattle.giving_up.specs.Ends.{MayEndWith, IsClosing}
+use Rattle.giving_up.specs.Leaving.{InTxn}
 use Rattle.write_statement.specs.Running.{IsMade, IsRunning, owes_ack, acked}
 use Rattle.giving_up.proofs.Writing.{of_writing, some_of, sees_base}
-use Rattle.sql_lists.proofs.Moving.{moves_closes}
-use Rattle.giving_up.proofs.Own.{acked_of, did_same, did_now, over_now, entries_are, takes_own, reply_closed}
-use Rattle.giving_up.proofs.MayReply.{may_reply}
+use Rattle.giving_up.proofs.Own.{acked_of, did_same, did_now, over_now, takes_own, reply_closed}
+use Rattle.giving_up.proofs.MayReply.{counted, closing, may_end as end_with}
 use Rattle.giving_up.proofs.Closing as of_leaving
 
 makes_all : (s n : ℕ) (kept : Reply) (changes : List Change) (at : List Event) → kept ≡ replies.Count n → HasMade (length changes) s changes at
@@ -120,10 +119,13 @@ module _ (h : List Event) (writer : Option ℕ) (s : ℕ) (alone : Bool) (before
           (subst (λ autocommit. Goes None autocommit s h) (sym opened.1) here)
     ]
 
-    pub may_end : MayReply s kept h
+    pub may_end : MayEndWith s kept kept h
     may_end =
-        may_reply s r.statement h r.working.takes r.working.writes r.working.no_victim kept reply
-        goes_open (λ no-count. absurd (false≢true (sym no-count))) (acked_of (of_item s h) r.working.not_committed)
+        end_with s r.statement h r.working.takes r.working.writes r.working.no_victim kept kept refl reply
+        (counted s r.statement h r.working.takes r.working.writes r.working.no_victim n reply goes_open) r.working.rows_alone
+
+    pub acks_none : awaits_ack (of_item s h) ≡ false
+    acks_none = acked_of (of_item s h) r.working.not_committed
 
   -- ---- in one of its own
 
@@ -183,37 +185,16 @@ module _ (h : List Event) (writer : Option ℕ) (s : ℕ) (alone : Bool) (before
         subst (λ l. Goes l r.working.takes.setting.autocommit s after) (sym txn.0.was_closed)
         (subst (λ autocommit. Goes None autocommit s after) (sym txn.1) here)
 
-    closing : IsClosing s kept kept after
-    closing =
-        record {
-          same = refl;
-          statement = r.statement;
-          takes = takes_own (events.Committed s) h s mine refl refl r.statement r.working.takes;
-          writes = r.working.writes;
-          over = over_now (events.Committed s) h s mine refl refl refl;
-          no_victim = did_same (events.Committed s) h s mine refl refl is_victim refl ∙ r.working.no_victim;
-          rows_alone = (let none : own s after ≡ [] = rw mine refl in subst (AllByRecursion IsOfRow) (sym none) tt);
-          reply = reply_closed (events.Committed s) h s mine refl refl refl r.statement kept reply;
-          ends = goes;
-          leaves = λ no-count. absurd (false≢true (sym no-count));
-        }
-
-    pub closing_then : IsClosing s kept kept after × (awaits_ack (of_item s after) ≡ true) × IsClosed s after
-    closing_then = (closing, ap awaits_ack (entries_are (events.Committed s) h s mine refl refl), commits.closed)
-
-pub committed : (old new : State) (s : ℕ) (alone : Bool) (before n : ℕ) (r : IsMade old.past old.writer s alone before)
-    → n ≡ length (outcome r.statement (base s old.past)).changes → alone ≡ true → task_of s old ≡ Idle → Closes (events.Committed s) s old new
-    → Moves s old new
-    × (IsClosing s (replies.Count n) (replies.Count n) new.past × (awaits_ack (of_item s new.past) ≡ true) × IsClosed s new.past × (task_of s new ≡ Idle))
-    × (started s new.past ≡ started s old.past)
-committed old new s alone before n r counts its-own idle closes-it =
-    let then =
-    subst (λ h. IsClosing s (replies.Count n) (replies.Count n) h × (awaits_ack (of_item s h) ≡ true) × IsClosed s h) (sym closes-it.past_is)
-    (closing_then old.past old.writer s alone before n r counts its-own) in (
-      moves_closes s (events.Committed s) old new (grind (arith, nat_tests)) refl refl closes-it,
-      (then.0, then.1, then.2, closes-it.task_is ∙ idle),
-      ap (started s) closes-it.past_is,
-    )
+    pub closing_then : IsClosing s kept kept after
+    closing_then =
+        let e = events.Committed s in
+        let takes = takes_own e h s mine refl refl r.statement r.working.takes in
+        let no-victim = did_same e h s mine refl refl is_victim refl ∙ r.working.no_victim in
+        let reply-then = reply_closed e h s mine refl refl refl r.statement kept reply in
+        let none : own s after ≡ [] = rw mine refl in
+        closing s r.statement after takes r.working.writes no-victim kept kept refl reply-then
+        (counted s r.statement after takes r.working.writes no-victim n reply-then goes) (subst (AllByRecursion IsOfRow) (sym none) tt)
+        (over_now e h s mine refl refl refl)
 
 -- ---- its commit is acknowledged
 

@@ -11,7 +11,7 @@ use Rattle.inno_db.specs.declared.change.Change.TheVariants as changes
 use Rattle.inno_db.proofs.Outcomes.{table_read}
 use Rattle.inno_model.specs.declared.event.Event.{Event}
 use Rattle.inno_model.specs.declared.event.Event.TheVariants as events
-use Rattle.inno_model.specs.Past.{under_way, own}
+use Rattle.inno_model.specs.Past.{own}
 use Rattle.sql_history.specs.Items.{own_before, base, undoes}
 use Rattle.sql_history.specs.Legal.{IsWriting}
 use Rattle.shared_lists.specs.Tasks.{is_changing, asked}

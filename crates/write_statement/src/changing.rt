@@ -16,7 +16,7 @@ use crate::answering::{give_up, give_up_at, refuse};
 use crate::machine::{Part, WriteStatement};
 use crate::opening::search_part;
 use crate::parting::with_tuple;
-use giving_up::{Leaving, end};
+use giving_up::{Leaving, commit, end};
 use inno_db::Change;
 use inno_types::Reply;
 use shared_lists::SharedLists;
@@ -178,9 +178,8 @@ fn finish<L: SharedLists>(
     let made = (lists.lists().change_count(session) - before) as u64;
     let (kept, given) = (Reply::Count(made), Reply::Count(made));
     if alone {
-        lists.commit(session);
-        let leaving = Leaving::Unacked { kept, given };
-        return (WriteStatement::Leaving(leaving), Advance::Went);
+        let (leaving, answer) = commit(kept, given, session, lists);
+        return (WriteStatement::Leaving(leaving), answer);
     }
     let (leaving, answer) = end(kept, given, session, lists);
     (WriteStatement::Leaving(leaving), answer)

@@ -179,7 +179,10 @@ impl WriteStatement {
         ensures steps { Steps IsRunning session lists.old lists.new self.new result }
         ensures nears { Nears to_go session lists.old self.old lists.new self.new result }
     {
-        let statement = mem::replace(self, WriteStatement::Leaving(Leaving::Unopened));
+        let statement = mem::replace(
+            self,
+            WriteStatement::Leaving(Leaving::Failed { alone: false }),
+        );
         let (next, answer) = statement.stepped(alloc, session, lists);
         *self = next;
         answer
@@ -222,7 +225,10 @@ impl WriteStatement {
         requires { is_searching self.old ≡ true }
         ensures { self.old ≡ WriteStatement.Searching result }
     {
-        match mem::replace(self, WriteStatement::Leaving(Leaving::Unopened)) {
+        match mem::replace(
+            self,
+            WriteStatement::Leaving(Leaving::Failed { alone: false }),
+        ) {
             WriteStatement::Searching(part) => part,
             _ => unreachable!(),
         }
@@ -233,7 +239,10 @@ impl WriteStatement {
         requires { is_at_change self.old ≡ true }
         ensures { AreParts self.old result.0 result.1 }
     {
-        match mem::replace(self, WriteStatement::Leaving(Leaving::Unopened)) {
+        match mem::replace(
+            self,
+            WriteStatement::Leaving(Leaving::Failed { alone: false }),
+        ) {
             WriteStatement::Making { part, todo, .. } => (part, todo),
             WriteStatement::Finishing { part, todo } => (part, todo),
             _ => unreachable!(),

@@ -70,7 +70,7 @@ fn open<L: SharedLists>(
         Err(_) => {
             drop(stmt);
             (
-                WriteStatement::Leaving(Leaving::Unopened),
+                WriteStatement::Leaving(Leaving::Failed { alone: false }),
                 Advance::NoMemory,
             )
         }

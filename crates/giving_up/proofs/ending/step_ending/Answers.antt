@@ -1,14 +1,14 @@
-use Rattle.giving_up.proofs.Closing.{closing_ends, closing_not_done}
+use Rattle.std.proofs.Common.{refl, inl}
+use Rattle.giving_up.proofs.Closing.{limited}
 use Rattle.giving_up.proofs.ending.step_ending.Goals as goal
 
 pub end-requires-clause-may : goal.end-requires-clause-may
-end-requires-clause-may g c = closing_ends c.args.lists.now.past c.args.session c.args.kept c.args.given c.requires.leaving.0 c.requires.leaving.1
+end-requires-clause-may g c =
+    let many = c.in-Some.ensures.many in
+    limited c.args.session c.in-Some.rows c.args.lists.now.past many.0 c.args.kept c.args.given c.requires.leaving.0 c.in-Some.ensures.rows many.1
 
-pub end-requires-clause-not_done : goal.end-requires-clause-not_done
-end-requires-clause-not_done g c = closing_not_done c.args.lists.now.past c.args.session c.args.kept c.args.given c.requires.leaving.0
+pub end-requires-clause-within : goal.end-requires-clause-within
+end-requires-clause-within g c = inl refl
 
-pub end-requires-clause-same : goal.end-requires-clause-same
-end-requires-clause-same g c = c.requires.leaving.0.same
-
-pub end-requires-clause-rows_alone : goal.end-requires-clause-rows_alone
-end-requires-clause-rows_alone g c = c.requires.leaving.0.rows_alone
+pub end-requires-in-None-clause-may : goal.end-requires-in-None-clause-may
+end-requires-in-None-clause-may g c = c.requires.leaving.0.may

@@ -1,5 +1,6 @@
 use Rattle.sql_lists.proofs.Moving.{stays_none}
-use Rattle.read_statement.proofs.Entries.{fails, rests}
+use Rattle.read_statement.proofs.Entries.{rests}
+use Rattle.read_statement.proofs.Ending.{fails}
 use Rattle.read_statement.proofs.Moving.{nears_found}
 use Rattle.read_statement.proofs.answering.step_found.Goals as goal
 
@@ -11,4 +12,4 @@ pub returns-in-Err-clause-steps : goal.returns-in-Err-clause-steps
 returns-in-Err-clause-steps g c =
     let r = c.requires.running in
     fails c.args.session c.args.lists.now c.args.lists.now c.args.found.stmt c.args.found.alone
-    (rests c.args.session c.args.lists.now c.args.lists.now r.1 (stays_none c.args.session c.args.lists.now)) r.0.early (λ is. r.0.is_open)
+    (rests c.args.session c.args.lists.now c.args.lists.now r.1 (stays_none c.args.session c.args.lists.now)) r.0.early r.0.is_open

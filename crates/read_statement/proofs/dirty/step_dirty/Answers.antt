@@ -1,4 +1,5 @@
-use Rattle.read_statement.proofs.Entries.{fails, rests}
+use Rattle.read_statement.proofs.Entries.{rests}
+use Rattle.read_statement.proofs.Ending.{fails}
 use Rattle.read_statement.proofs.Moving.{nears_open, steps_then}
 use Rattle.read_statement.proofs.dirty.step_dirty.Goals as goal
 
@@ -16,4 +17,4 @@ pub returns-in-Err-clause-steps : goal.returns-in-Err-clause-steps
 returns-in-Err-clause-steps g c =
     let r = c.requires.running in
     fails c.args.session c.args.lists.now c.read_newest.new.lists c.args.stmt c.args.alone
-    (rests c.args.session c.args.lists.now c.read_newest.new.lists r.3 c.read_newest.ensures.same) r.0 (λ is. r.1)
+    (rests c.args.session c.args.lists.now c.read_newest.new.lists r.3 c.read_newest.ensures.same) r.0 r.1

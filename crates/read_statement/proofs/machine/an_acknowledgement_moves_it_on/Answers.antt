@@ -1,5 +1,4 @@
-use Rattle.read_statement.proofs.Finishing.{owes_it}
-use Rattle.read_statement.proofs.Entries.{goes_on_acked, acked_nears}
+use Rattle.read_statement.proofs.Entries.{owes_it, goes_on_acked, acked_nears}
 use Rattle.read_statement.proofs.machine.an_acknowledgement_moves_it_on.Goals as goal
 
 pub returns-clause-owed : goal.returns-clause-owed

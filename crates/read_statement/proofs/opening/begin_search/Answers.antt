@@ -1,6 +1,7 @@
 use Rattle.std.proofs.Common.{ap}
 use Rattle.std.specs.Prelude.{is_some}
-use Rattle.read_statement.proofs.Entries.{fails, rests}
+use Rattle.read_statement.proofs.Entries.{rests}
+use Rattle.read_statement.proofs.Ending.{fails}
 use Rattle.read_statement.proofs.Settling.{search_begins}
 use Rattle.read_statement.proofs.opening.begin_search.Goals as goal
 
@@ -20,4 +21,4 @@ pub returns-in-Err-clause-steps : goal.returns-in-Err-clause-steps
 returns-in-Err-clause-steps g c =
     let r = c.requires.running in
     fails c.args.session c.args.lists.now c.begin_search.new.self c.args.stmt c.args.alone
-    (rests c.args.session c.args.lists.now c.begin_search.new.self r.3 c.in-Err.ensures.err) r.0 (λ is. r.1)
+    (rests c.args.session c.args.lists.now c.begin_search.new.self r.3 c.in-Err.ensures.err) r.0 r.1

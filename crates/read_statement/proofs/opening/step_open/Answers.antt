@@ -3,7 +3,8 @@ use Rattle.std.specs.Prelude.{is_some}
 use Rattle.inno_types.specs.declared.lock.Level.TheVariants.{RepeatableRead}
 use Rattle.inno_model.specs.Past.{level, view_of}
 use Rattle.sql_lists.proofs.Moving.{moves_none, stays_none}
-use Rattle.read_statement.proofs.Entries.{has_view, fails, rests}
+use Rattle.read_statement.proofs.Entries.{has_view, rests}
+use Rattle.read_statement.proofs.Ending.{fails}
 use Rattle.read_statement.proofs.opening.step_open.Goals as goal
 
 pub returns-then-has_view-clause-steps : goal.returns-then-has_view-clause-steps
@@ -17,4 +18,4 @@ pub returns-in-Some-Serializable-clause-steps : goal.returns-in-Some-Serializabl
 returns-in-Some-Serializable-clause-steps g c =
     let r = c.requires.running in
     fails c.args.session c.args.lists.now c.args.lists.now c.args.stmt c.args.alone
-    (rests c.args.session c.args.lists.now c.args.lists.now r.3 (stays_none c.args.session c.args.lists.now)) r.0 (λ is. r.1)
+    (rests c.args.session c.args.lists.now c.args.lists.now r.3 (stays_none c.args.session c.args.lists.now)) r.0 r.1

@@ -2,8 +2,11 @@ use Rattle.std.proofs.Common.{◌≡◌, true, false, None, [], subst}
 use Rattle.std.specs.Prelude.{is_some}
 use Rattle.inno_model.specs.Past.{level, own}
 use Rattle.shared_lists.specs.State.{State}
-use Rattle.read_statement.proofs.Items.{none_of}
-use Rattle.read_statement.proofs.Entries.{may_begin, stays_open, begun, fails, rests, early_in, never}
+use Rattle.giving_up.proofs.Writing.{none_of}
+use Rattle.giving_up.proofs.Nothing.{taken_fails}
+use Rattle.read_statement.proofs.Selects.{rows_of_plain}
+use Rattle.read_statement.proofs.Entries.{may_begin, stays_open, begun, rests, taken_still}
+use Rattle.read_statement.proofs.Ending.{fails_with}
 use Rattle.read_statement.proofs.opening.step_opening.Goals as goal
 
 pub returns-then-is_some-clause-steps : goal.returns-then-is_some-clause-steps
@@ -26,6 +29,8 @@ returns-in-Ok-clause-steps g c =
 
 pub returns-in-Err-clause-steps : goal.returns-in-Err-clause-steps
 returns-in-Err-clause-steps g c =
-    fails c.args.session c.args.lists.now c.begin.new.self c.args.asked.stmt false
+    let opening = c.requires.running.0 in
+    fails_with c.args.session c.args.lists.now c.begin.new.self false
     (rests c.args.session c.args.lists.now c.begin.new.self c.requires.running.1 c.in-Err.ensures.err)
-    (early_in c.args.session c.args.lists.now.past c.args.asked c.requires.running.0) (λ is. never is)
+    (taken_fails c.args.session c.args.asked.stmt c.args.lists.now.past (rows_of_plain c.args.asked.stmt opening.plain)
+    (taken_still c.args.session c.args.lists.now.past c.args.asked opening))

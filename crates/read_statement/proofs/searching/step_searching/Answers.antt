@@ -3,7 +3,7 @@ use Rattle.shared_lists.specs.declared.answers.Reading.TheVariants.{View}
 use Rattle.sql_lists.proofs.Moving.{search_nears}
 use Rattle.read_statement.specs.declared.machine.ReadStatement.{ReadStatement}
 use Rattle.read_statement.specs.Running.{IsRunning}
-use Rattle.read_statement.proofs.Entries.{fails}
+use Rattle.read_statement.proofs.Ending.{fails}
 use Rattle.read_statement.proofs.Settling.{search_goes_on, search_finds}
 use Rattle.read_statement.proofs.searching.step_searching.Goals as goal
 
@@ -35,4 +35,4 @@ returns-in-NoMemory-clause-steps g c =
     let read = c.read-read.result in
     let is = subst (λ (m : ReadStatement). IsRunning c.args.lists.now c.args.session m) c.read-read.ensures c.requires.running in
     fails c.args.session c.args.lists.now c.search.new.self read.stmt read.alone
-    (c.in-NoMemory.ensures.searches read.table is.plan View is.task_is) is.early (λ alone. is.is_open)
+    (c.in-NoMemory.ensures.searches read.table is.plan View is.task_is) is.early is.is_open

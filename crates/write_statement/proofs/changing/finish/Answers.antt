@@ -1,19 +1,19 @@
-use Rattle.std.proofs.Common.{◌-◌, length, ap, refl, ◌∙◌}
+use Rattle.std.proofs.Common.{◌-◌, length, ap, refl, ◌∙◌, inl}
 use Rattle.shared_lists.specs.State.{State}
 use Rattle.inno_model.specs.Past.{own}
-use Rattle.write_statement.proofs.Committing.{count_is, may_commit, committed, may_end}
+use Rattle.write_statement.proofs.Committing.{count_is, may_commit, closing_then, may_end, acks_none}
 use Rattle.write_statement.proofs.changing.finish.Goals as goal
 
-pub commit-requires-clause-may : goal.commit-requires-clause-may
-commit-requires-clause-may g c =
+pub commit-leaving-requires-clause-may : goal.commit-leaving-requires-clause-may
+commit-leaving-requires-clause-may g c =
     may_commit c.args.lists.now.past c.args.lists.now.writer c.args.session c.args.alone c.args.before _ c.requires.made refl c.if-alone.true
 
-pub returns-then-alone-clause-steps : goal.returns-then-alone-clause-steps
-returns-then-alone-clause-steps g c =
+pub commit-leaving-requires-clause-closing : goal.commit-leaving-requires-clause-closing
+commit-leaving-requires-clause-closing g c =
     let many = c.change_count.ensures ∙ ap (λ (st : State). length (own c.args.session st.past)) c.lists.ensures.same in
-    committed c.args.lists.now c.commit.new.self c.args.session c.args.alone c.args.before _ c.requires.made
+    closing_then c.args.lists.now.past c.args.lists.now.writer c.args.session c.args.alone c.args.before _ c.requires.made
     (ap (λ n. n - c.args.before) many ∙ count_is c.args.lists.now.past c.args.lists.now.writer c.args.session c.args.alone c.args.before c.requires.made)
-    c.if-alone.true c.requires.idle c.commit.ensures
+    c.if-alone.true
 
 pub end-leaving-requires-clause-may : goal.end-leaving-requires-clause-may
 end-leaving-requires-clause-may g c =
@@ -21,3 +21,10 @@ end-leaving-requires-clause-may g c =
     may_end c.args.lists.now.past c.args.lists.now.writer c.args.session c.args.alone c.args.before _ c.requires.made
     (ap (λ n. n - c.args.before) many ∙ count_is c.args.lists.now.past c.args.lists.now.writer c.args.session c.args.alone c.args.before c.requires.made)
     c.if-alone.false
+
+pub end-leaving-requires-clause-acked : goal.end-leaving-requires-clause-acked
+end-leaving-requires-clause-acked g c =
+    acks_none c.args.lists.now.past c.args.lists.now.writer c.args.session c.args.alone c.args.before _ c.requires.made refl c.if-alone.false
+
+pub end-leaving-requires-clause-within : goal.end-leaving-requires-clause-within
+end-leaving-requires-clause-within g c = inl refl

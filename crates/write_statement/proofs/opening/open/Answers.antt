@@ -1,7 +1,9 @@
-use Rattle.std.proofs.Common.{◌≡◌, sym, ◌∙◌}
+use Rattle.std.proofs.Common.{◌≡◌, false, sym, ◌∙◌}
 use Rattle.shared_lists.specs.Tasks.{Idle}
 use Rattle.sql_lists.proofs.Moving.{moves_stays, carried}
-use Rattle.giving_up.specs.Leaving.{IsUnopened}
+use Rattle.giving_up.specs.Ends.{IsFailed}
+use Rattle.giving_up.proofs.Nothing.{taken_fails}
+use Rattle.giving_up.proofs.Writing.{on_rows}
 use Rattle.write_statement.proofs.Joining.{may_begin, opened}
 use Rattle.write_statement.proofs.opening.open.Goals as goal
 
@@ -24,7 +26,7 @@ returns-in-Err-clause-steps g c =
     let r = c.requires.running in
     let stays = c.in-Err.ensures.err in (
       moves_stays c.args.session c.args.lists.now c.begin.new.self stays,
-      carried (λ h w task. IsUnopened c.args.session h × (task ≡ Idle)) c.args.session c.args.lists.now c.begin.new.self stays
-          (record { statement = c.args.stmt; taken = r.0 }, r.2),
+      carried (λ h w task. IsFailed c.args.session false h × (task ≡ Idle)) c.args.session c.args.lists.now c.begin.new.self stays
+          (taken_fails c.args.session c.args.stmt c.args.lists.now.past (on_rows c.args.stmt r.1) r.0, r.2),
       stays.past_is,
     )
