@@ -14,7 +14,6 @@ use Rattle.inno_db.specs.Outcome.{outcome}
 use Rattle.inno_model.specs.declared.event.Event.{Event}
 use Rattle.inno_model.specs.declared.event.Event.TheVariants as events
 use Rattle.inno_model.specs.Past.{is_of, of_item, started, level, own, begins, txn, awaits_ack, IsOpen, IsClosed}
-use Rattle.sql_grammar.specs.Grammar.{Spells}
 use Rattle.sql_history.specs.Items.{base}
 use Rattle.sql_history.specs.Counts.{rows_kept, most_rows}
 use Rattle.law_past_agreement.specs.Order.{created}
@@ -29,12 +28,15 @@ use Rattle.sql_lists.proofs.Moving.{stays_none, moves_none, moves_stays, moves_a
 use Rattle.create_statement.specs.declared.machine.CreateStatement.{CreateStatement}
 use Rattle.create_statement.specs.declared.machine.CreateStatement.TheVariants as machine
 use Rattle.create_statement.specs.Making.{Makes}
-use Rattle.create_statement.specs.Knowing.{IsAt, IsToBegin, IsEmptied, IsCommitted, IsFinished, IsGivingUp}
+use Rattle.giving_up.specs.Ends.{IsEmptied, IsGivingUp}
+use Rattle.create_statement.specs.Knowing.{IsAt, IsToBegin, IsCommitted, IsFinished}
 use Rattle.create_statement.specs.Running.{RunsBy, IsRunning, owes_ack, acked}
 use Rattle.create_statement.specs.Going.{to_go}
+use Rattle.giving_up.proofs.Ends.{spares_ack, emptied_on}
+use Rattle.create_statement.proofs.Staying.{to_begin_spared, committed_spared}
 use Rattle.create_statement.proofs.Tables.{tables_met, tables_begun}
 use Rattle.create_statement.proofs.Stepping.{HasOpened, rows_of_none, emptied_committed, emptied_closed, to_begin_committed, acks_now, committed_skipped}
-use Rattle.create_statement.proofs.Stepping.{committed_made, acked_now, to_begin_acked, emptied_acked, committed_acked, opened_begun, at_begun, may_begin}
+use Rattle.create_statement.proofs.Stepping.{committed_made, acked_now, opened_begun, at_begun, may_begin}
 use Rattle.create_statement.proofs.Stepping.{may_create, may_commit_made, may_roll_back, opened_created, at_created, gives_up_closed, gives_up_rolled}
 
 -- ---- by the answer
@@ -195,14 +197,18 @@ owes_it s state (machine.Committed statement) owes r = record { owed = r.0.1; cl
 owes_it s state m owes r = absurd (false≢true owes)
 
 pub goes_on_acked : (m : CreateStatement) → owes_ack m ≡ true → GoesOnAcked IsRunning m (acked m)
-goes_on_acked (machine.Unacked statement l) owes old new s moment r adds = (
-  subst (λ h. IsToBegin s statement l h × IsEmptied s h × (awaits_ack (of_item s h) ≡ false)) (sym adds.past_is)
-      (to_begin_acked s statement old.past moment l r.0.0, emptied_acked s statement old.past moment r.0.1, acked_now s statement old.past moment),
-  adds.task_is ∙ r.1,
-)
+goes_on_acked (machine.Unacked statement l) owes old new s moment r adds =
+    let spared = spares_ack s moment old.past in (
+      subst (λ h. IsToBegin s statement l h × IsEmptied s h × (awaits_ack (of_item s h) ≡ false)) (sym adds.past_is) (
+        to_begin_spared (events.Acked s moment) old.past s spared statement l r.0.0,
+        emptied_on (events.Acked s moment) old.past s spared r.0.1,
+        acked_now s statement old.past moment,
+      ),
+      adds.task_is ∙ r.1,
+    )
 goes_on_acked (machine.Committed statement) owes old new s moment r adds = (
   subst (λ h. IsCommitted s statement h × (awaits_ack (of_item s h) ≡ false)) (sym adds.past_is)
-      (committed_acked s statement old.past moment r.0.0, acked_now s statement old.past moment),
+      (committed_spared (events.Acked s moment) old.past s (spares_ack s moment old.past) statement r.0.0, acked_now s statement old.past moment),
   adds.task_is ∙ r.1,
 )
 goes_on_acked m owes old new s moment r adds = absurd (false≢true owes)

@@ -1,35 +1,36 @@
 -- What entries of its own make of a CREATE TABLE, and how its item may end.
 use Rattle.std.proofs.Common.{◌≡◌, ◌≢◌, ℕ, ◌+◌, ◌≤◌, true, false, Option, Some, None, List, [], ◌∷◌, refl, sym, ap, subst, ◌∙◌, inl, inr, arith, length}
 use Rattle.std.proofs.lemmas.Bool.Decides.{nat_tests}
-use Rattle.std.proofs.lemmas.Bool.{false≢true}
 use Rattle.std.specs.Prelude.{is_some}
 use Rattle.std.specs.List.{AllByRecursion, list_any}
 use Rattle.inno_types.specs.declared.lock.Level.{Level}
 use Rattle.inno_types.specs.declared.value.Schema.{Schema}
 use Rattle.inno_types.specs.declared.reply.Item.TheVariants.{Sql}
-use Rattle.inno_types.specs.declared.reply.Reply.TheVariants.{Done, NoMemory}
+use Rattle.inno_types.specs.declared.reply.Reply.TheVariants.{Done}
 use Rattle.inno_types.specs.declared.stmt.Stmt.{Stmt}
 use Rattle.inno_db.specs.declared.change.Change.{Change}
 use Rattle.inno_db.specs.declared.change.Change.TheVariants.{Create}
 use Rattle.inno_db.specs.Outcome.{outcome}
 use Rattle.inno_model.specs.declared.event.Event.{Event}
 use Rattle.inno_model.specs.declared.event.Event.TheVariants as events
-use Rattle.inno_model.specs.Moments.{Sometime}
-use Rattle.inno_model.specs.Past.{is_of, of_item, did, begins_txn, commits_txn, rolls_back_txn, closes, level, own, begins, awaits_ack, IsOpen, IsClosed}
+use Rattle.inno_model.specs.Past.{of_item, did, begins_txn, rolls_back_txn, closes, level, own, begins, awaits_ack, IsOpen, IsClosed}
 use Rattle.sql_grammar.specs.Grammar.{Spells}
 use Rattle.sql_history.specs.Items.{own_before, of_turn, is_over, point, base, HasMade}
 use Rattle.sql_history.specs.Settings.{Setting, HasSet, next_level}
-use Rattle.sql_history.specs.Counts.{last_moment, rows_kept, most_rows}
+use Rattle.sql_history.specs.Counts.{rows_kept, most_rows}
 use Rattle.sql_history.specs.Waiting.{is_victim}
 use Rattle.sql_history.specs.Legal.{IsCreation, EndsCreate, MayBegin, MayChange, MayCommit, MayRollBack}
 use Rattle.law_past_agreement.specs.Order.{IsOfRow}
 use Rattle.shared_lists.specs.State.{State}
 use Rattle.sql_lists.specs.Kept.{MayReply}
 use Rattle.sql_lists.specs.Steps.{HasRowsAlone, IsTaken}
-use Rattle.sql_lists.proofs.Staying.{point_now, point_before, point_stays}
-use Rattle.create_statement.specs.Knowing.{IsAt, IsToBegin, HasMadeNone, IsEmptied, IsCommitted, IsFinished, IsGivingUp}
+use Rattle.sql_lists.proofs.Staying.{point_now, point_before}
+use Rattle.giving_up.specs.Ends.{HasMadeNone, IsEmptied, IsGivingUp}
+use Rattle.create_statement.specs.Knowing.{IsAt, IsToBegin, IsCommitted, IsFinished}
 use Rattle.create_statement.proofs.Creations.{begins_by, commits_by, rolls_back_by, changes_by, ends_taken, brings, same_refusal}
-use Rattle.create_statement.proofs.Staying.{at_on, to_begin_on, made_on, ends_on, still, goes_on_still, made_still, set_before}
+use Rattle.giving_up.proofs.Writing.{none_of}
+use Rattle.giving_up.proofs.Nothing.{own_now, over_nothing, made_nothing, set_before, sometime_too}
+use Rattle.create_statement.proofs.Staying.{at_on, to_begin_on}
 
 -- the item has its own transaction, and is not at the end of its changes
 pub record HasOpened (s : ℕ) (past : List Event) : Type 0 where
@@ -43,10 +44,6 @@ pub not_some : {X : Type 0} (x : X) → None ≡ Some x → ⊥
 not_some x is = cc
 
 -- ---- what the lists say of a transaction
-
-pub none_of : {X : Type 0} (o : Option X) → is_some o ≡ false → o ≡ None
-none_of None is = refl
-none_of (Some x) is = cc
 
 module _ (s : ℕ) (seen state : State) (o : Option Level) (same : seen ≡ state) (told : o ≡ level s seen.past) where
   pub closed_as_told : is_some o ≡ false → level s state.past ≡ None
@@ -63,11 +60,6 @@ rows_of_none s past none = rw none tt
 
 -- ---- a beginning
 
-sometime_too : (P Q : List Event → Type 0) → ((h : List Event) → P h → Q h) → (s : ℕ) (past : List Event) → Sometime P s past → Sometime Q s past
-sometime_too P Q too s [] some = some
-sometime_too P Q too s (e ∷ past) (inl now) = inl (too (e ∷ past) now)
-sometime_too P Q too s (e ∷ past) (inr before) = inr (before.0, sometime_too P Q too s past before.1)
-
 module _ (s : ℕ) (statement : Stmt) (h : List Event) where
   -- what was found set is what counts
   pub begins_so : (l : Level) (setting : Setting) → (taken : IsTaken s statement h) → IsCreation statement → HasSet Spells s h setting
@@ -83,7 +75,7 @@ module _ (s : ℕ) (statement : Stmt) (h : List Event) where
           };
           kind = kind;
           no_victim = ap (list_any is_victim) taken.nothing;
-          rows_before = subst (AllByRecursion IsOfRow) (still s h taken.nothing).own_same taken.rows_alone;
+          rows_before = subst (AllByRecursion IsOfRow) (own_now s h taken.nothing) taken.rows_alone;
         };
         level_is = is;
       }
@@ -134,7 +126,7 @@ module _ (s : ℕ) (statement : Stmt) (h : List Event) where
         new = new_now;
         not_begun = not_begun_now none;
         not_rolled_back = not_rolled_now (ap (list_any rolls_back_txn) none);
-        made = subst (λ p. own s p ≡ own_before s p) (sym (point_is (goes_on_still s h none))) (still s h none).own_same;
+        made = subst (λ p. own s p ≡ own_before s p) (sym (point_is (over_nothing s h none))) (own_now s h none);
       }
 
   pub emptied_closed : of_item s h ≡ [] → IsClosed s h → own s h ≡ [] → IsEmptied s h
@@ -144,8 +136,7 @@ module _ (s : ℕ) (statement : Stmt) (h : List Event) where
         new = new;
         not_begun = ap (list_any begins_txn) none;
         not_rolled_back = ap (list_any rolls_back_txn) none;
-        made = made_still
-            s h none;
+        made = made_nothing s h none;
       }
 
   ends_as : (p : List Event) (changes : List Change) → point s p ≡ h → (outcome statement (base s h)).changes ≡ changes → EndsCreate s changes p
@@ -157,7 +148,7 @@ module _ (s : ℕ) (statement : Stmt) (h : List Event) where
       record {
         at = at_committed at;
         ends =
-            ends_as (events.Committed s ∷ h) [] (point_is (goes_on_still s h none)) is
+            ends_as (events.Committed s ∷ h) [] (point_is (over_nothing s h none)) is
             (closed_now, not_begun_now none, not_rolled_now (ap (list_any rolls_back_txn) none));
         over = over_now;
         closed = closed_now;
@@ -169,7 +160,7 @@ module _ (s : ℕ) (statement : Stmt) (h : List Event) where
   finished_skipped at none rows closed is =
       record {
         at = at;
-        ends = ends_as h [] (point_now h s (goes_on_still s h none)) is (closed, ap (list_any begins_txn) none, ap (list_any rolls_back_txn) none);
+        ends = ends_as h [] (point_now h s (over_nothing s h none)) is (closed, ap (list_any begins_txn) none, ap (list_any rolls_back_txn) none);
         acked = ap awaits_ack none;
         rows_alone = rows;
       }
@@ -210,34 +201,6 @@ module _ (s : ℕ) (statement : Stmt) (h : List Event) where
 
   pub acked_now : (moment : ℕ) → awaits_ack (of_item s (events.Acked s moment ∷ h)) ≡ false
   acked_now moment = grind (arith, nat_tests)
-
-  pub to_begin_acked : (moment : ℕ) (l : Level) → IsToBegin s statement l h → IsToBegin s statement l (events.Acked s moment ∷ h)
-  to_begin_acked moment l b =
-      to_begin_on s statement l (events.Acked s moment) h refl b.at.rows_before (let x = b.at.no_victim in grind (arith, nat_tests, x)) b
-
-  pub emptied_acked : (moment : ℕ) → IsEmptied s h → IsEmptied s (events.Acked s moment ∷ h)
-  emptied_acked moment empty =
-      record {
-        closed = empty.closed;
-        new = empty.new;
-        not_begun = (let x = empty.not_begun in grind (arith, nat_tests, x));
-        not_rolled_back = (let x = empty.not_rolled_back in grind (arith, nat_tests, x));
-        made = made_on s (events.Acked s moment) h (grind (arith, nat_tests)) refl refl empty.made;
-      }
-
-  pub committed_acked : (moment : ℕ) → IsCommitted s statement h → IsCommitted s statement (events.Acked s moment ∷ h)
-  committed_acked moment c =
-      let over : is_over s (events.Acked s moment ∷ h) ≡ true = (let x = c.over in grind (arith, nat_tests, x)) in
-      let stays : point s (events.Acked s moment ∷ h) ≡ point s h = point_stays (events.Acked s moment) h s c.over over in
-      record {
-        at = at_on s statement (events.Acked s moment) h refl c.at.rows_before (let x = c.at.no_victim in grind (arith, nat_tests, x)) c.at;
-        ends = subst (λ p. EndsCreate s (outcome statement (base s p)).changes (events.Acked s moment ∷ h)) (sym stays)
-            (ends_on s (events.Acked s moment) h (outcome statement (base s (point s h))).changes refl (grind (arith, nat_tests)) (grind (arith, nat_tests))
-            (grind (arith, nat_tests)) stays c.ends);
-        over = over;
-        closed = c.closed;
-        new = c.new;
-      }
 
   -- ---- its own transaction
 
@@ -371,7 +334,3 @@ module _ (s : ℕ) (statement : Stmt) (h : List Event) where
           }),
         );
       }
-
-pub may_fail : (s : ℕ) (past : List Event) → IsGivingUp s past → MayReply s NoMemory past
-may_fail s past g =
-    record { item = Sql g.text; asked = g.item; ends = (g.acked, inl refl, inr (inr (record { leaves = inr (inr g.leaves); made = inl g.made }))) }

@@ -1,17 +1,16 @@
 -- What is known of the past in the midst of a CREATE TABLE.
-use Rattle.std.specs.Prelude.{◌≡◌, ◌⊎◌, ℕ, true, false, List, [], Some}
+use Rattle.std.specs.Prelude.{◌≡◌, ℕ, true, false, List, []}
 use Rattle.std.specs.List.{AllByRecursion}
 use Rattle.inno_types.specs.declared.lock.Level.{Level}
-use Rattle.inno_types.specs.declared.reply.Item.TheVariants.{Sql}
 use Rattle.inno_types.specs.declared.stmt.Stmt.{Stmt}
 use Rattle.inno_db.specs.Outcome.{outcome}
 use Rattle.inno_model.specs.declared.event.Event.{Event}
-use Rattle.inno_model.specs.Past.{under_way, of_item, did, begins_txn, rolls_back_txn, own, awaits_ack, IsClosed}
+use Rattle.inno_model.specs.Past.{of_item, did, own, awaits_ack, IsClosed}
 use Rattle.sql_grammar.specs.Grammar.{Spells}
 use Rattle.sql_history.specs.Items.{is_over, point, own_before, base}
 use Rattle.sql_history.specs.Settings.{next_level}
 use Rattle.sql_history.specs.Waiting.{is_victim}
-use Rattle.sql_history.specs.Legal.{Takes, IsCreation, EndsCreate, LeavesIt, CommittedFirst}
+use Rattle.sql_history.specs.Legal.{Takes, IsCreation, EndsCreate}
 use Rattle.law_past_agreement.specs.Order.{IsOfRow}
 use Rattle.sql_lists.specs.Steps.{HasRowsAlone}
 
@@ -27,18 +26,6 @@ pub record IsToBegin (s : ℕ) (statement : Stmt) (l : Level) (past : List Event
   pub at : IsAt s statement past
   pub level_is : l ≡ next_level at.takes.setting
 
--- the item has changed nothing up to its point
-abbrev pub HasMadeNone : ℕ → List Event → Type 0
-HasMadeNone s past = own s (point s past) ≡ own_before s (point s past)
-
--- what was open is committed, and nothing else has been done
-pub record IsEmptied (s : ℕ) (past : List Event) : Type 0 where
-  pub closed : IsClosed s past
-  pub new : own s past ≡ []
-  pub not_begun : did begins_txn s past ≡ false
-  pub not_rolled_back : did rolls_back_txn s past ≡ false
-  pub made : HasMadeNone s past
-
 -- what it was to do is committed
 pub record IsCommitted (s : ℕ) (statement : Stmt) (past : List Event) : Type 0 where
   pub at : IsAt s statement past
@@ -52,13 +39,4 @@ pub record IsFinished (s : ℕ) (statement : Stmt) (past : List Event) : Type 0 
   pub at : IsAt s statement past
   pub ends : EndsCreate s (outcome statement (base s (point s past))).changes past
   pub acked : awaits_ack (of_item s past) ≡ false
-  pub rows_alone : HasRowsAlone s past
-
--- it found no memory
-pub record IsGivingUp (s : ℕ) (past : List Event) : Type 0 where
-  pub text : List ℕ
-  pub item : under_way s past ≡ Some (Sql text)
-  pub acked : awaits_ack (of_item s past) ≡ false
-  pub leaves : CommittedFirst Spells s past ⊎ LeavesIt Spells s past
-  pub made : HasMadeNone s past
   pub rows_alone : HasRowsAlone s past

@@ -6,7 +6,8 @@ use Rattle.shared_lists.specs.State.{State, task_of}
 use Rattle.sql_lists.specs.Steps.{HasRowsAlone}
 use Rattle.create_statement.specs.declared.machine.CreateStatement.{CreateStatement}
 use Rattle.create_statement.specs.declared.machine.CreateStatement.TheVariants as machine
-use Rattle.create_statement.specs.Knowing.{IsToBegin, IsEmptied, IsCommitted, IsGivingUp}
+use Rattle.giving_up.specs.Ends.{IsEmptied, IsGivingUp}
+use Rattle.create_statement.specs.Knowing.{IsToBegin, IsCommitted}
 
 abbrev pub RunsBy : State → ℕ → CreateStatement → Type 0
 RunsBy state s (machine.Asked stmt level) = IsToBegin s stmt level state.past × (of_item s state.past ≡ []) × HasRowsAlone s state.past

@@ -27,7 +27,7 @@ use Rattle.sql_lists.proofs.Moving.{moves_closes, below_phase}
 use Rattle.giving_up.specs.declared.leaving.Leaving.{Leaving}
 use Rattle.giving_up.specs.declared.leaving.Leaving.TheVariants as leaving
 use Rattle.giving_up.specs.Going.{to_leave}
-use Rattle.giving_up.specs.Ends.{is_rows, IsAnswered, EndsWith, MayEndWith, IsClosing, IsFailed}
+use Rattle.giving_up.specs.Ends.{is_rows, IsAnswered, EndsWith, MayEndWith, IsClosing, IsFailed, IsGivingUp}
 use Rattle.giving_up.specs.Leaving.{IsLeaving, owes_ack, acked}
 use Rattle.giving_up.proofs.Ends.{spares_ack, closing_on}
 use Rattle.giving_up.proofs.Own.{acked_of, did_same, did_now, point_same}
@@ -71,6 +71,10 @@ module _ (s : ℕ) (h : List Event) (kept given : Reply) (m : MayEndWith s kept 
   pub not_done : kept ≢ replies.Done
   not_done is = subst (λ (reply : Reply). EndsWith s reply h) is m.ends
 
+pub may_fail : (s : ℕ) (past : List Event) → IsGivingUp s past → MayReply s replies.NoMemory past
+may_fail s past g =
+    record { item = Sql g.text; asked = g.item; ends = (g.acked, inl refl, inr (inr (record { leaves = inr (inr g.leaves); made = inl g.made }))) }
+
 -- ---- rows that are too many by now
 
 next_brings : (s : ℕ) (h : List Event) (reply : Reply) (sight : Sight) (db : Database) (statement : Stmt) → is_select statement ≡ true
@@ -78,7 +82,7 @@ next_brings : (s : ℕ) (h : List Event) (reply : Reply) (sight : Sight) (db : D
 next_brings s h reply sight db (stmt.Select selected table condition lock) is sees answer = (db, sees, ap rows_of_reply answer)
 next_brings s h reply sight db other is sees answer = absurd (false≢true is)
 
-some_now : (P Q : List Event → Type 0) (s : ℕ) (h : List Event) → Sometime P s h → Q h → Sometime Q s h
+pub some_now : (P Q : List Event → Type 0) (s : ℕ) (h : List Event) → Sometime P s h → Q h → Sometime Q s h
 some_now P Q s [] when now = absurd when
 some_now P Q s (e ∷ h) when now = inl now
 

@@ -12,19 +12,27 @@ use Rattle.inno_db.specs.Database.{Database}
 use Rattle.inno_db.specs.Outcome.{outcome}
 use Rattle.inno_model.specs.declared.event.Event.{Event}
 use Rattle.inno_model.specs.declared.event.Event.TheVariants as events
-use Rattle.inno_model.specs.Past.{is_of, before_item, did, begins_txn, takes_view, commits_txn, rolls_back_txn, level, own}
+use Rattle.inno_model.specs.Past.{is_of, of_item, before_item, awaits_ack, did, begins_txn, takes_view, commits_txn, rolls_back_txn, level, own}
 use Rattle.inno_model.specs.Moments.{Sometime}
 use Rattle.inno_model.proofs.Untouched.{untouched}
 use Rattle.sql_grammar.specs.Grammar.{Spells}
-use Rattle.sql_history.specs.{Items.is_over, Items.point, Items.own_before, Items.undoes, Items.HasMade, Settings.Setting, Settings.HasSet, Waiting.is_victim}
-use Rattle.sql_history.specs.{Counts.rows_kept, Statements.sight_of, Statements.refused_at_once, Answers.MaySee, Answers.MakesFor}
+use Rattle.sql_history.specs.{Items.is_over, Items.point, Items.own_before, Items.undoes, Items.HasMade, Settings.Setting, Waiting.is_victim}
+use Rattle.sql_history.specs.{Counts.rows_kept, Statements.sight_of, Answers.MaySee, Answers.MakesFor}
 use Rattle.sql_history.specs.Endings.{StaysIn, Opens, Commits, RollsBack, Goes, BacksOut}
-use Rattle.sql_history.specs.Legal.{Takes, sight_in, EndsRows, BrokeOff, MadeSome, IsGivenUp, WasCommitted, NextBrings, IsOverfull, LeavesIt}
+use Rattle.sql_history.specs.Legal.{sight_in, EndsRows, BrokeOff, MadeSome, IsGivenUp, WasCommitted, NextBrings, IsOverfull, LeavesIt}
 use Rattle.sql_history.specs.Legal.{CommittedFirst}
 use Rattle.law_past_agreement.specs.Order.{IsOfRow}
 use Rattle.sql_lists.proofs.Staying.{is_within, item_within, before_within, starts_not, within_of_other, at_work, point_now, point_stays}
-use Rattle.giving_up.specs.Ends.{IsAnswered, EndsWith, IsClosing, GivesUp, IsFailed}
-use Rattle.giving_up.proofs.Own.{did_same, over_same}
+use Rattle.giving_up.specs.Ends.{IsAnswered, EndsWith, IsClosing, GivesUp, IsFailed, IsEmptied, IsGivingUp}
+use Rattle.giving_up.proofs.Own.{entries_are, did_same, over_same, takes_on}
+
+-- what is said of the past and of its point stays at an entry by which the item doesn't come to the end of its changes
+pub point_kept : {X : Type 0} (f : List Event → X) (e : Event) (h : List Event) (s : ℕ) → is_over s (e ∷ h) ≡ is_over s h → f (e ∷ h) ≡ f h
+    → f (point s (e ∷ h)) ≡ f (point s h)
+point_kept f e h s same-over same = go (is_over s h) refl where
+  go : (b : Bool) → is_over s h ≡ b → f (point s (e ∷ h)) ≡ f (point s h)
+  go true over = ap f (point_stays e h s over (same-over ∙ over))
+  go false goes = ap f (point_now (e ∷ h) s (same-over ∙ goes)) ∙ (same ∙ ap f (sym (point_now h s goes)))
 
 -- what is told of the session's item and transaction stays, but that a commit may be acknowledged
 pub record Spares (e : Event) (h : List Event) (s : ℕ) : Type 0 where
@@ -33,6 +41,7 @@ pub record Spares (e : Event) (h : List Event) (s : ℕ) : Type 0 where
   pub own_is : own s (e ∷ h) ≡ own s h
   pub had_is : own_before s (e ∷ h) ≡ own_before s h
   pub over_is : is_over s (e ∷ h) ≡ is_over s h
+  pub acks_none : awaits_ack (of_item s h) ≡ false → awaits_ack (of_item s (e ∷ h)) ≡ false
   pub did_is : (test : Event → Bool) → ((t moment : ℕ) → test (events.Acked t moment) ≡ false) → did test s (e ∷ h) ≡ did test s h
 
 pub spares_other : (e : Event) (h : List Event) (s : ℕ) → is_of s e ≡ false → Spares e h s
@@ -45,6 +54,7 @@ spares_other e h s other =
       own_is = same.own_is;
       had_is = turn.own_is;
       over_is = turn.over;
+      acks_none = λ none. ap awaits_ack same.entries ∙ none;
       did_is = λ test spares. ap (list_any test) same.entries;
     }
 
@@ -57,6 +67,7 @@ spares_ack s moment h =
       own_is = refl;
       had_is = refl;
       over_is = over_same (events.Acked s moment) h s its refl refl refl;
+      acks_none = λ none. ap awaits_ack (entries_are (events.Acked s moment) h s its refl refl);
       did_is = λ test spares. did_same (events.Acked s moment) h s its refl refl test (spares s moment);
     }
 
@@ -76,28 +87,19 @@ module _ (e : Event) (h : List Event) (s : ℕ) (sp : Spares e h s) where
   some_on : (P : List Event → Type 0) → Sometime P s h → Sometime P s after
   some_on P was = inr (starts_not e h s sp.within, was)
 
-  abbrev takes_on : (statement : Stmt) → Takes Spells s statement h → Takes Spells s statement after
-  takes_on statement takes =
-      record {
-        asks = (takes.asks.0, item_within e h s sp.within ∙ takes.asks.1, takes.asks.2);
-        setting = takes.setting;
-        is_set = subst (λ p. HasSet Spells s p takes.setting) (sym before_same) takes.is_set;
-        not_refused = some_on (λ g. refused_at_once s takes.setting statement g ≡ None) takes.not_refused;
-      }
-
-  begins_same : did begins_txn s after ≡ did begins_txn s h
+  pub begins_same : did begins_txn s after ≡ did begins_txn s h
   begins_same = sp.did_is begins_txn (λ t moment. refl)
 
-  commits_same : did commits_txn s after ≡ did commits_txn s h
+  pub commits_same : did commits_txn s after ≡ did commits_txn s h
   commits_same = sp.did_is commits_txn (λ t moment. refl)
 
-  rolls_same : did rolls_back_txn s after ≡ did rolls_back_txn s h
+  pub rolls_same : did rolls_back_txn s after ≡ did rolls_back_txn s h
   rolls_same = sp.did_is rolls_back_txn (λ t moment. refl)
 
   undone_same : did undoes s after ≡ did undoes s h
   undone_same = sp.did_is undoes (λ t moment. refl)
 
-  victim_same : did is_victim s after ≡ did is_victim s h
+  pub victim_same : did is_victim s after ≡ did is_victim s h
   victim_same = sp.did_is is_victim (λ t moment. refl)
 
   -- ---- what becomes of its transaction
@@ -142,24 +144,18 @@ module _ (e : Event) (h : List Event) (s : ℕ) (sp : Spares e h s) where
 
   -- ---- what it had changed at its point
 
-  point_cases : (X : Type 0) (f : List Event → X) → f after ≡ f h → f (point s after) ≡ f (point s h)
-  point_cases X f same = go (is_over s h) refl where
-    go : (b : Bool) → is_over s h ≡ b → f (point s after) ≡ f (point s h)
-    go true over = ap f (point_stays e h s over (sp.over_is ∙ over))
-    go false goes = ap f (point_now after s (sp.over_is ∙ goes)) ∙ (same ∙ ap f (sym (point_now h s goes)))
-
   own_then : own s (point s after) ≡ own s (point s h)
-  own_then = point_cases (List _) (own s) sp.own_is
+  own_then = point_kept (own s) e h s sp.over_is sp.own_is
 
-  none_made : own s (point s h) ≡ own_before s (point s h) → own s (point s after) ≡ own_before s (point s after)
-  none_made none = own_then ∙ (none ∙ sym (point_cases (List _) (own_before s) sp.had_is))
+  pub none_made : own s (point s h) ≡ own_before s (point s h) → own s (point s after) ≡ own_before s (point s after)
+  none_made none = own_then ∙ (none ∙ sym (point_kept (own_before s) e h s sp.over_is sp.had_is))
 
   was_committed_on : WasCommitted Spells s h → WasCommitted Spells s after
   was_committed_on w =
       record {
         statement = w.statement;
         select = w.select;
-        takes = takes_on w.statement w.takes;
+        takes = takes_on e h s sp.within w.statement w.takes;
         begun = begins_same ∙ w.begun;
         commits = commits_on w.commits;
         nothing = own_then ∙ w.nothing;
@@ -169,7 +165,7 @@ module _ (e : Event) (h : List Event) (s : ℕ) (sp : Spares e h s) where
   committed_first_on c =
       record {
         statement = c.statement;
-        takes = takes_on c.statement c.takes;
+        takes = takes_on e h s sp.within c.statement c.takes;
         brings = c.brings;
         closed = sp.level_is ∙ c.closed;
         made = none_made c.made;
@@ -184,7 +180,7 @@ module _ (e : Event) (h : List Event) (s : ℕ) (sp : Spares e h s) where
         not_committed = commits_same ∙ x.not_committed;
         not_rolled_back = rolls_same ∙ x.not_rolled_back;
         no_victim = victim_same ∙ x.no_victim;
-        begun = elim x.begun [ inl none ↦ inl (begins_same ∙ none) | inr stays ↦ inr (stays.0, takes_on stays.0 stays.1, stays.2) ];
+        begun = elim x.begun [ inl none ↦ inl (begins_same ∙ none) | inr stays ↦ inr (stays.0, takes_on e h s sp.within stays.0 stays.1, stays.2) ];
       }
 
   no_memory_on : EndsWith s replies.NoMemory h → EndsWith s replies.NoMemory after
@@ -218,7 +214,7 @@ module _ (e : Event) (h : List Event) (s : ℕ) (sp : Spares e h s) where
           statement = a.statement;
           on_rows = a.on_rows;
           selects = a.selects;
-          takes = takes_on a.statement a.takes;
+          takes = takes_on e h s sp.within a.statement a.takes;
           answers = record {
             l = b.l;
             level_is = ap (level s) there ∙ b.level_is;
@@ -248,7 +244,7 @@ module _ (e : Event) (h : List Event) (s : ℕ) (sp : Spares e h s) where
     made_on : MadeSome Spells s h → MadeSome Spells s after
     made_on made = elim made [
       | inl none ↦ inl (none_made none)
-      | inr some ↦ inr (some.0, takes_on some.0 some.1, broke_on some.1.setting some.0 some.2)
+      | inr some ↦ inr (some.0, takes_on e h s sp.within some.0 some.1, broke_on some.1.setting some.0 some.2)
     ]
 
     given_up_on : IsGivenUp Spells s h → IsGivenUp Spells s after
@@ -256,7 +252,7 @@ module _ (e : Event) (h : List Event) (s : ℕ) (sp : Spares e h s) where
         record {
           statement = g.statement;
           on_rows = g.on_rows;
-          takes = takes_on g.statement g.takes;
+          takes = takes_on e h s sp.within g.statement g.takes;
           no_victim = victim_same ∙ g.no_victim;
           broke_off = broke_on g.takes.setting g.statement g.broke_off;
           backs_out = backs_on g.takes.setting.autocommit g.backs_out;
@@ -273,7 +269,7 @@ module _ (e : Event) (h : List Event) (s : ℕ) (sp : Spares e h s) where
         record {
           many = o.many;
           statement = o.statement;
-          takes = takes_on o.statement o.takes;
+          takes = takes_on e h s sp.within o.statement o.takes;
           l = o.l;
           level_is = ap (level s) there ∙ o.level_is;
           more = o.more;
@@ -319,10 +315,33 @@ module _ (e : Event) (h : List Event) (s : ℕ) (sp : Spares e h s) where
   failed_on alone f =
       record {
         statement = f.statement;
-        takes = takes_on f.statement f.takes;
+        takes = takes_on e h s sp.within f.statement f.takes;
         on_rows = f.on_rows;
         not_committed = commits_same ∙ f.not_committed;
         made = none_made f.made;
         rows_alone = subst (AllByRecursion IsOfRow) (sym sp.own_is) f.rows_alone;
         gives = gives_on alone f.takes.setting f.gives;
+      }
+
+  -- ---- whatever the statement is
+
+  pub emptied_on : IsEmptied s h → IsEmptied s after
+  emptied_on x =
+      record {
+        closed = sp.level_is ∙ x.closed;
+        new = sp.own_is ∙ x.new;
+        not_begun = begins_same ∙ x.not_begun;
+        not_rolled_back = rolls_same ∙ x.not_rolled_back;
+        made = none_made x.made;
+      }
+
+  pub gives_up_on : IsGivingUp s h → IsGivingUp s after
+  gives_up_on g =
+      record {
+        text = g.text;
+        item = item_within e h s sp.within ∙ g.item;
+        acked = sp.acks_none g.acked;
+        leaves = elim g.leaves [ inl first ↦ inl (committed_first_on first) | inr left ↦ inr (leaves_it_on left) ];
+        made = none_made g.made;
+        rows_alone = subst (AllByRecursion IsOfRow) (sym sp.own_is) g.rows_alone;
       }

@@ -1,5 +1,5 @@
 -- What an entry of the session's own makes of what its statement knows.
-use Rattle.std.proofs.Common.{◌≡◌, ℕ, Bool, true, false, None, List, [], ◌∷◌, refl, sym, ap, subst, ◌∙◌, inl, inr, arith}
+use Rattle.std.proofs.Common.{◌≡◌, ℕ, Bool, true, false, List, [], ◌∷◌, refl, sym, ap, subst, ◌∙◌, inl, inr, arith}
 use Rattle.std.proofs.lemmas.Bool.Decides.{nat_tests}
 use Rattle.std.proofs.lemmas.Bool.{false≢true}
 use Rattle.std.specs.Prelude.{is_some}
@@ -13,7 +13,6 @@ use Rattle.inno_model.specs.Moments.{Sometime}
 use Rattle.sql_grammar.specs.Grammar.{Spells}
 use Rattle.sql_history.specs.Items.{of_turn, before_turn, is_over, own_before, point}
 use Rattle.sql_history.specs.Settings.{Setting, HasSet}
-use Rattle.sql_history.specs.Statements.{refused_at_once}
 use Rattle.sql_history.specs.Legal.{Takes}
 use Rattle.sql_history.specs.Waiting.{is_victim}
 use Rattle.law_past_agreement.specs.Order.{IsOfRow}
@@ -27,6 +26,17 @@ pub acked_of : (es : List Event) → list_any commits_txn es ≡ false → await
 acked_of [] none = refl
 acked_of (events.Committed t ∷ es) none = absurd (false≢true (sym none))
 acked_of (e ∷ es) none = refl
+
+-- what the item asks for is the same at an entry within it, with the same settings
+abbrev pub takes_on : (e : Event) (h : List Event) (s : ℕ) → is_within s e ≡ true → (statement : Stmt) → Takes Spells s statement h
+    → Takes Spells s statement (e ∷ h)
+takes_on e h s within statement takes =
+    record {
+      asks = (takes.asks.0, item_within e h s within ∙ takes.asks.1, takes.asks.2);
+      setting = takes.setting;
+      is_set = subst (λ p. HasSet Spells s p takes.setting) (sym (before_within e h s within)) takes.is_set;
+      not_refused = inr (starts_not e h s within, takes.not_refused);
+    }
 
 entries_of : (e : Event) (h : List Event) (s : ℕ) → is_of s e ≡ true → is_within s e ≡ true → of_item s (e ∷ h) ≡ e ∷ of_item s h
 entries_of e h s mine within = grind (arith, nat_tests, mine, within)
@@ -69,15 +79,6 @@ module _ (e : Event) (h : List Event) (s : ℕ) (mine : is_of s e ≡ true) (wit
   pub some_on : (P : List Event → Type 0) → Sometime P s h → Sometime P s (e ∷ h)
   some_on P was = inr (starts_not e h s within, was)
 
-  abbrev pub takes_own : (statement : Stmt) → Takes Spells s statement h → Takes Spells s statement (e ∷ h)
-  takes_own statement takes =
-      record {
-        asks = (takes.asks.0, item_within e h s within ∙ takes.asks.1, takes.asks.2);
-        setting = takes.setting;
-        is_set = subst (λ p. HasSet Spells s p takes.setting) (sym before_same) takes.is_set;
-        not_refused = some_on (λ g. refused_at_once s takes.setting statement g ≡ None) takes.not_refused;
-      }
-
   -- the point stays, or is just before the entry
   pub point_same : closes e ≡ true → point s (e ∷ h) ≡ point s h
   point_same is = go (is_over s h) refl where
@@ -115,7 +116,7 @@ module _ (e : Event) (h : List Event) (s : ℕ) (mine : is_of s e ≡ true) (wit
         → (statement : Stmt) (alone : Bool) → IsWorking s statement alone h → IsWorking s statement alone (e ∷ h)
     working_own commits rolls victim rows statement alone w =
         record {
-          takes = takes_own statement w.takes;
+          takes = takes_on e h s within statement w.takes;
           writes = w.writes;
           in_txn = in_txn_own alone w.takes.setting w.in_txn;
           is_open = ap is_some same-level ∙ w.is_open;

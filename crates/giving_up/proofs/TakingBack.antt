@@ -32,7 +32,7 @@ use Rattle.giving_up.specs.declared.leaving.Leaving.TheVariants.{BackingOut}
 use Rattle.giving_up.specs.Going.{to_leave}
 use Rattle.giving_up.proofs.Writing.{of_writing, some_of}
 use Rattle.sql_lists.proofs.Moving.{moves_takes_back, below_first, below_second, fewer_stand}
-use Rattle.giving_up.proofs.Own.{acked_of, did_same, did_now, over_now, takes_own, reply_closed, working_own}
+use Rattle.giving_up.proofs.Own.{acked_of, did_same, did_now, over_now, takes_on, reply_closed, working_own}
 use Rattle.giving_up.proofs.MayReply.{no_rows, brings_none, backed_out, closing, may_end as end_with}
 
 undoes_by : (s keep : ℕ) (setting : Setting) (past : List Event) → length (own_before s past) ≤ keep → (statement : Stmt) → IsWriting statement
@@ -171,7 +171,7 @@ module _ (h : List Event) (writer : Option ℕ) (s : ℕ) (work : Work) (r : IsB
       pub closing_then : IsClosing s work.kept work.given gone
       closing_then =
           let e = events.RolledBack s in
-          let takes = takes_own e h s mine refl refl r.statement r.working.takes in
+          let takes = takes_on e h s refl r.statement r.working.takes in
           let no-victim = did_same e h s mine refl refl is_victim refl ∙ r.working.no_victim in
           let reply = reply_closed e h s mine refl refl refl r.statement work.kept r.reply in
           let none : own s gone ≡ [] = rw mine refl in

@@ -5,7 +5,7 @@ use Rattle.inno_types.specs.declared.reply.Item.TheVariants.{Sql}
 use Rattle.inno_types.specs.declared.reply.Reply.{Reply}
 use Rattle.inno_types.specs.declared.reply.Reply.TheVariants as replies
 use Rattle.inno_model.specs.declared.event.Event.{Event}
-use Rattle.inno_model.specs.Past.{under_way, did, commits_txn, own, IsOpen}
+use Rattle.inno_model.specs.Past.{under_way, of_item, did, begins_txn, commits_txn, rolls_back_txn, own, awaits_ack, IsOpen, IsClosed}
 use Rattle.sql_grammar.specs.Grammar.{Spells}
 use Rattle.sql_history.specs.Items.{is_over, point, own_before}
 use Rattle.sql_history.specs.Settings.{Setting}
@@ -67,3 +67,26 @@ pub record IsFailed (s : ℕ) (alone : Bool) (past : List Event) : Type 0 where
   pub made : own s (point s past) ≡ own_before s (point s past)
   pub rows_alone : HasRowsAlone s past
   pub gives : GivesUp alone takes.setting s past
+
+-- ---- whatever the statement is
+
+-- the item has changed nothing up to its point
+abbrev pub HasMadeNone : ℕ → List Event → Type 0
+HasMadeNone s past = own s (point s past) ≡ own_before s (point s past)
+
+-- what was open is committed, and nothing else has been done
+pub record IsEmptied (s : ℕ) (past : List Event) : Type 0 where
+  pub closed : IsClosed s past
+  pub new : own s past ≡ []
+  pub not_begun : did begins_txn s past ≡ false
+  pub not_rolled_back : did rolls_back_txn s past ≡ false
+  pub made : HasMadeNone s past
+
+-- no memory was found, and the item is to end
+pub record IsGivingUp (s : ℕ) (past : List Event) : Type 0 where
+  pub text : List ℕ
+  pub item : under_way s past ≡ Some (Sql text)
+  pub acked : awaits_ack (of_item s past) ≡ false
+  pub leaves : CommittedFirst Spells s past ⊎ LeavesIt Spells s past
+  pub made : HasMadeNone s past
+  pub rows_alone : HasRowsAlone s past

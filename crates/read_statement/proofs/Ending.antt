@@ -28,7 +28,8 @@ use Rattle.sql_lists.proofs.Moving.{moves_turns}
 use Rattle.sql_lists.proofs.Staying.{is_within, point_now, point_before}
 use Rattle.giving_up.specs.Ends.{is_rows, IsAnswered as HasAnswer, EndsWith, MayEndWith, IsClosing, GivesUp, IsFailed}
 use Rattle.giving_up.specs.declared.leaving.Leaving.TheVariants as leaving
-use Rattle.giving_up.proofs.Own.{did_same, did_now, over_now, before_same, some_on, takes_own}
+use Rattle.giving_up.proofs.Closing.{some_now}
+use Rattle.giving_up.proofs.Own.{did_same, did_now, over_now, before_same, some_on, takes_on}
 use Rattle.read_statement.specs.declared.machine.ReadStatement.TheVariants as machine
 use Rattle.read_statement.specs.Running.{IsEarly, HasViewed, IsFound, IsSeen, IsTooMany, IsSettledBy, IsRunning}
 use Rattle.read_statement.proofs.Items.{none_closed, none_committed, none_rolled, none_undone, no_victim, acked_of_on, turn_goes_on, not_closed}
@@ -36,10 +37,6 @@ use Rattle.read_statement.proofs.Selects.{answers, brings, may_leave_open, rows_
 
 some≢none : {X : Type 0} {x : X} → Some x ≡ None → ⊥
 some≢none e = cc
-
-some_now : (P Q : List Event → Type 0) (s : ℕ) (h : List Event) → Sometime P s h → Q h → Sometime Q s h
-some_now P Q s [] when now = absurd when
-some_now P Q s (e ∷ h) when now = inl now
 
 -- what becomes of the transaction by a reply
 abbrev LeavesTxn : Reply → Setting → ℕ → List Event → Type 0
@@ -238,7 +235,7 @@ module _ (s : ℕ) (h : List Event) (statement : Stmt) (early : IsEarly h s stat
     there = point_before e h s not_over over
 
     abbrev taken : Takes Spells s statement (e ∷ h)
-    taken = takes_own e h s mine within begins statement early.takes
+    taken = takes_on e h s within statement early.takes
 
     -- as a statement is left that had a transaction of its own
     of_own : (P : Option Level → Bool → Type 0) → P None true → P (level s (before_item s (e ∷ h))) early.takes.setting.autocommit

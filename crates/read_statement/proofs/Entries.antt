@@ -29,7 +29,7 @@ use Rattle.read_statement.specs.declared.machine.ReadStatement.{ReadStatement}
 use Rattle.read_statement.specs.declared.machine.ReadStatement.TheVariants as machine
 use Rattle.read_statement.specs.Going.{to_go}
 use Rattle.read_statement.specs.Running.{IsTakenWith, IsUnrefused, IsOpening, IsIn, IsEarly, HasView, MayTakeView, IsRunning, owes_ack, acked}
-use Rattle.read_statement.proofs.Items.{takes_on}
+use Rattle.giving_up.proofs.Own.{takes_on}
 use Rattle.read_statement.proofs.Selects.{plain_taken, begins_by, views_by}
 
 -- ---- opening

@@ -1,19 +1,14 @@
 -- What an item that has done little leaves as it was, and what entries make of an item.
-use Rattle.std.proofs.Common.{◌≡◌, ℕ, Bool, true, false, List, [], ◌∷◌, refl, sym, ap, subst, ◌∙◌, inr, arith}
+use Rattle.std.proofs.Common.{◌≡◌, ℕ, Bool, false, List, [], ◌∷◌, refl, sym, ap, ◌∙◌, arith}
 use Rattle.std.proofs.lemmas.Bool.Decides.{nat_tests}
 use Rattle.std.proofs.lemmas.Bool.{false≢true}
 use Rattle.std.specs.Prelude.{is_some}
 use Rattle.std.specs.List.{list_any}
-use Rattle.inno_types.specs.declared.stmt.Stmt.{Stmt}
 use Rattle.inno_model.specs.declared.event.Event.{Event}
 use Rattle.inno_model.specs.declared.event.Event.TheVariants as events
 use Rattle.inno_model.specs.Past.{of_item, did, closes, commits_txn, rolls_back_txn, awaits_ack, IsOpen, IsClosed}
-use Rattle.sql_grammar.specs.Grammar.{Spells}
 use Rattle.sql_history.specs.Items.{is_over, undoes}
 use Rattle.sql_history.specs.Waiting.{is_victim}
-use Rattle.sql_history.specs.Settings.{HasSet}
-use Rattle.sql_history.specs.Legal.{Takes}
-use Rattle.sql_lists.proofs.Staying.{is_within, item_within, before_within, starts_not}
 use Rattle.read_statement.specs.Running.{strays}
 
 -- ---- what an item that has only begun has not done
@@ -74,16 +69,6 @@ turn_goes_on s [] on = refl
 turn_goes_on s (events.Started t j item ∷ h) on = grind (arith, nat_tests, turn_goes_on s h, on)
 turn_goes_on s (events.Begin t n l ∷ h) on = grind (arith, nat_tests, turn_goes_on s h, on)
 turn_goes_on s (e ∷ h) on = grind (arith, nat_tests, turn_goes_on s h, on)
-
--- an entry within the item leaves what was taken, with the same settings
-abbrev pub takes_on : (e : Event) (h : List Event) (s : ℕ) → is_within s e ≡ true → (stmt : Stmt) → Takes Spells s stmt h → Takes Spells s stmt (e ∷ h)
-takes_on e h s within stmt takes =
-    record {
-      asks = (takes.asks.0, item_within e h s within ∙ takes.asks.1, takes.asks.2);
-      setting = takes.setting;
-      is_set = subst (λ past. HasSet Spells s past takes.setting) (sym (before_within e h s within)) takes.is_set;
-      not_refused = inr (starts_not e h s within, takes.not_refused);
-    }
 
 pub not_closed : (s : ℕ) (h : List Event) → IsOpen s h → IsClosed s h → ⊥
 not_closed s h is-open closed = false≢true (sym (ap is_some closed) ∙ is-open)

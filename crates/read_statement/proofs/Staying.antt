@@ -27,7 +27,7 @@ use Rattle.read_statement.specs.declared.machine.ReadStatement.{ReadStatement}
 use Rattle.read_statement.specs.declared.machine.ReadStatement.TheVariants as machine
 use Rattle.read_statement.specs.Planning.{IsPlanned}
 use Rattle.read_statement.specs.Running.{strays, IsUnrefused, IsOpening, IsIn, IsEarly, HasView, IsSearching, HasFound, IsRunning}
-use Rattle.read_statement.proofs.Items.{takes_on}
+use Rattle.giving_up.proofs.Own.{takes_on}
 use Rattle.read_statement.proofs.Selects.{of_plain}
 use Rattle.read_statement.proofs.Tables.{grown, tabled_stays}
 use Rattle.read_statement.proofs.MoreTables.{planned_stays, rows_seen_stay}

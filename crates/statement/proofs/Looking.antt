@@ -23,6 +23,7 @@ use Rattle.sql_history.specs.Items.{Asks, is_over, point, before_turn, own_befor
 use Rattle.sql_history.specs.Settings.{Setting, HasSet}
 use Rattle.sql_history.specs.Statements.{session_refusal, refused_at_once, first_of, schemas_now}
 use Rattle.sql_lists.specs.Kept.{MayReply}
+use Rattle.giving_up.proofs.Nothing.{set_before, own_nothing, own_now, over_nothing}
 use Rattle.read_statement.specs.Running.{IsTakenWith}
 use Rattle.statement.specs.declared.under_way.Look.TheVariants as looks
 use Rattle.statement.specs.Running.{HasOnlyStarted, LooksAs}
@@ -37,96 +38,16 @@ pub unrefused : (s : ℕ) (setting : Setting) (statement : Stmt) (past : List Ev
 unrefused s setting statement past none =
     later_none (session_refusal s (level s past) setting statement) (refusal (schemas_now s past) statement) none
 
-tells : (b : Bool) → (b ≡ true) ⊎ (b ≡ false)
-tells true = inl refl
-tells false = inr refl
-
--- what a session has set is not changed by entries of others
-set_back : (e : Event) (h : List Event) (u : ℕ) (x : Setting) → is_of u e ≡ false → HasSet Spells u (e ∷ h) x → HasSet Spells u h x
-set_back (events.Begin t n l) h u x other held = rw other at held
-set_back (events.Committed t) h u x other held = rw other at held
-set_back (events.RolledBack t) h u x other held = rw other at held
-set_back (events.Ended t j reply) h u x other held = rw other at held
-set_back e h u x other held = held
-
--- an entry of its own is one of the item's
-has_entry : (e : Event) (h : List Event) (s : ℕ) → is_of s e ≡ true → starts s e ≡ false → of_item s (e ∷ h) ≡ [] → ⊥
-has_entry (events.Opened db) h s mine goes none = false≢true mine
-has_entry (events.Signal name) h s mine goes none = false≢true mine
-has_entry (events.Stopped cause) h s mine goes none = false≢true mine
-has_entry (events.Started t j item) h s mine goes none = false≢true (sym goes ∙ mine)
-has_entry e h s mine goes none = let is = rw mine at none in cc
-
--- an item that has done nothing has set nothing
-set_before : (s : ℕ) (h : List Event) (x : Setting) → under_way s h ≢ None → of_item s h ≡ [] → HasSet Spells s h x → HasSet Spells s (before_item s h) x
-set_before s [] x way none held = absurd (way refl)
-set_before s (events.Started t j item ∷ h) x way none held =
-    elim (eqb_tells t s) [
-      | inl same ↦ rw same.0 held
-      | inr apart ↦ rw apart.0 (set_before s h x (λ is. way (rw apart.0 is)) (rw apart.0 at none) held)
-    ]
-set_before s (e ∷ h) x way none held =
-    elim (tells (is_of s e)) [
-      | inl mine ↦ absurd (has_entry e h s mine refl none)
-      | inr other ↦ (let same = untouched e h s other in set_before s h x (λ is. way (same.item ∙ is)) (sym same.entries ∙ none) (set_back e h s x other held))
-    ]
-
-has_way : (s : ℕ) (text : List ℕ) (h : List Event) → under_way s h ≡ Some (Sql text) → under_way s h ≢ None
-has_way s text h item none = cc
-
 now_or_never : (P : List Event → Type 0) (s : ℕ) (text : List ℕ) (h : List Event) → under_way s h ≡ Some (Sql text) → P h → Sometime P s h
 now_or_never P s text [] item holds = absurd (let is = item in cc)
 now_or_never P s text (e ∷ h) item holds = inl holds
-
--- an item that has done nothing leaves what its session had
-own_since : (s : ℕ) (h : List Event) → under_way s h ≢ None → of_item s h ≡ [] → own s h ≡ own s (before_item s h)
-own_since s [] way none = refl
-own_since s (events.Started t j item ∷ h) way none =
-    elim (eqb_tells t s) [
-      | inl same ↦ rw same.0 refl
-      | inr apart ↦ rw apart.0 (own_since s h (λ is. way (rw apart.0 is)) (rw apart.0 at none))
-    ]
-own_since s (e ∷ h) way none =
-    elim (tells (is_of s e)) [
-      | inl mine ↦ absurd (has_entry e h s mine refl none)
-      | inr other ↦ (let same = untouched e h s other in same.own_is ∙ own_since s h (λ is. way (same.item ∙ is)) (sym same.entries ∙ none))
-    ]
-
-turn_since : (s : ℕ) (h : List Event) → under_way s h ≢ None → of_item s h ≡ [] → before_turn s h ≡ before_item s h
-turn_since s [] way none = refl
-turn_since s (events.Started t j item ∷ h) way none =
-    elim (eqb_tells t s) [
-      | inl same ↦ rw same.0 refl
-      | inr apart ↦ rw apart.0 (turn_since s h (λ is. way (rw apart.0 is)) (rw apart.0 at none))
-    ]
-turn_since s (e ∷ h) way none =
-    elim (tells (is_of s e)) [
-      | inl mine ↦ absurd (has_entry e h s mine refl none)
-      | inr other ↦ (let same = untouched e h s other in (at_work e h s other).before ∙ turn_since s h (λ is. way (same.item ∙ is)) (sym same.entries ∙ none))
-    ]
-
-own_turn : (s : ℕ) (h : List Event) → under_way s h ≢ None → of_item s h ≡ [] → own s h ≡ own_before s h
-own_turn s h way none = own_since s h way none ∙ ap (own s) (sym (turn_since s h way none))
-
-over_none : (s : ℕ) (h : List Event) → of_item s h ≡ [] → is_over s h ≡ false
-over_none s [] none = refl
-over_none s (events.Started t j item ∷ h) none =
-    elim (eqb_tells t s) [
-      | inl same ↦ rw same.0 refl
-      | inr apart ↦ rw apart.0 (over_none s h (rw apart.0 at none))
-    ]
-over_none s (e ∷ h) none =
-    elim (tells (is_of s e)) [
-      | inl mine ↦ absurd (has_entry e h s mine refl none)
-      | inr other ↦ (at_work e h s other).over ∙ over_none s h (sym (untouched e h s other).entries ∙ none)
-    ]
 
 module _ (s : ℕ) (text : List ℕ) (stmt : Stmt) (h : List Event) (only : HasOnlyStarted s text h) (spells : Spells text stmt) where
   asks : Asks Spells s stmt h
   asks = (text, only.item, spells)
 
   set_at_start : (x : Setting) → HasSet Spells s h x → HasSet Spells s (before_item s h) x
-  set_at_start x held = set_before s h x (has_way s text h only.item) only.nothing held
+  set_at_start x held = set_before s h x only.nothing held
 
   -- nothing refuses it
   pub taken_with : (autocommit : Bool) (level : Level) → LooksAs s stmt h (looks.Ready autocommit level) → IsTakenWith autocommit level s stmt h
@@ -203,7 +124,7 @@ module _ (s : ℕ) (text : List ℕ) (h : List Event) (only : HasOnlyStarted s t
       }
 
   goes_on : is_over s h ≡ false
-  goes_on = over_none s h only.nothing
+  goes_on = over_nothing s h only.nothing
 
   point_is : point s h ≡ h
   point_is = point_now h s goes_on
@@ -219,13 +140,13 @@ module _ (s : ℕ) (text : List ℕ) (h : List Event) (only : HasOnlyStarted s t
           inl refl,
           inr (inr (record {
             leaves = inr (inr (inr (record {
-              own_stay = own_since s h (has_way s text h only.item) only.nothing;
+              own_stay = own_nothing s h only.nothing;
               not_committed = ap (list_any commits_txn) only.nothing;
               not_rolled_back = ap (list_any rolls_back_txn) only.nothing;
               no_victim = ap (list_any is_victim) only.nothing;
               begun = inl (ap (list_any begins_txn) only.nothing);
             })));
-            made = inl (subst (λ p. own s p ≡ own_before s p) (sym point_is) (own_turn s h (has_way s text h only.item) only.nothing));
+            made = inl (subst (λ p. own s p ≡ own_before s p) (sym point_is) (own_now s h only.nothing));
           })),
         );
       }

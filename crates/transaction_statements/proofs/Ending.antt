@@ -5,7 +5,7 @@ use Rattle.std.specs.List.{list_any}
 use Rattle.inno_types.specs.declared.lock.Level.{Level}
 use Rattle.inno_types.specs.declared.lock.Level.TheVariants.{RepeatableRead}
 use Rattle.inno_types.specs.declared.reply.Item.TheVariants.{Sql}
-use Rattle.inno_types.specs.declared.reply.Reply.TheVariants.{Done, NoMemory, Fail}
+use Rattle.inno_types.specs.declared.reply.Reply.TheVariants.{Done, Fail}
 use Rattle.inno_types.specs.declared.reply.SqlError.TheVariants.{NoSavepoint}
 use Rattle.inno_types.specs.declared.stmt.Stmt.{Stmt}
 use Rattle.inno_types.specs.declared.stmt.Stmt.TheVariants as stmt
@@ -15,7 +15,7 @@ use Rattle.inno_model.specs.Past.{before_item, of_item, did, begins_txn, takes_v
 use Rattle.inno_model.specs.Past.{IsOpen, IsClosed}
 use Rattle.std.specs.Prelude.{is_some, length, ◌-◌}
 use Rattle.inno_db.specs.declared.change.Change.{Change}
-use Rattle.transaction_statements.proofs.Staying.{still, made_still}
+use Rattle.giving_up.proofs.Nothing.{own_nothing, level_nothing, made_nothing}
 use Rattle.sql_grammar.specs.Grammar.{Spells}
 use Rattle.sql_history.specs.Settings.{Setting, made_at}
 use Rattle.sql_history.specs.Statements.{refused_at_once}
@@ -24,7 +24,8 @@ use Rattle.sql_history.specs.Legal.{Takes, EndsTaken, EndsSavepoint, EndsAutocom
 use Rattle.sql_lists.specs.Kept.{MayReply, SetsQuietly}
 use Rattle.transaction_statements.specs.declared.committer.Committer.TheVariants as committers
 use Rattle.transaction_statements.specs.Committing.{Fits, SetsAlone}
-use Rattle.transaction_statements.specs.Knowing.{IsAt, IsEmptied, HasOpened, SavesIn, IsGoingBack, IsMissing, IsGivingUp, IsFinished, HasMadeNone}
+use Rattle.giving_up.specs.Ends.{IsEmptied, IsGivingUp, HasMadeNone}
+use Rattle.transaction_statements.specs.Knowing.{IsAt, HasOpened, SavesIn, IsGoingBack, IsMissing, IsFinished}
 use Rattle.transaction_statements.specs.Running.{Nothing}
 
 may_be_done : (s : ℕ) (statement : Stmt) (past : List Event) → (takes : Takes Spells s statement past) → EndsTaken s takes.setting statement Done past
@@ -51,10 +52,6 @@ may_be_done s statement past takes ends acked no_victim =
 
 pub may_finish : (s : ℕ) (statement : Stmt) (past : List Event) → IsFinished s statement past → MayReply s Done past
 may_finish s statement past f = may_be_done s statement past f.takes f.ends f.acked f.no_victim
-
-pub may_fail : (s : ℕ) (past : List Event) → IsGivingUp s past → MayReply s NoMemory past
-may_fail s past g =
-    record { item = Sql g.text; asked = g.item; ends = (g.acked, inl refl, inr (inr (record { leaves = inr (inr g.leaves); made = inl g.made }))) }
 
 some_past : (P : List Event → Type 0) (s : ℕ) (past : List Event) (text : List ℕ) → under_way s past ≡ Some (Sql text) → P past → Sometime P s past
 some_past P s [] text is holds = cc
@@ -192,7 +189,7 @@ module _ (s : ℕ) (past : List Event) where
   ends_saving : (setting : Setting) (opened : Bool) → (opened ≡ true → setting.autocommit ≡ false) → SavesIn opened s past
       → EndsSavepoint (level s (before_item s past)) setting.autocommit s past
   ends_saving setting false knows saves =
-      ends_within (level s (before_item s past)) setting.autocommit (ap is_some (sym (still s past saves.0).level_is) ∙ saves.1) saves.0
+      ends_within (level s (before_item s past)) setting.autocommit (ap is_some (sym (level_nothing s past saves.0)) ∙ saves.1) saves.0
   ends_saving setting true knows saves =
       let o = saves.0 in
       subst (λ before. EndsSavepoint before setting.autocommit s past) (sym saves.1)
@@ -241,13 +238,13 @@ module _ (s : ℕ) (past : List Event) where
         item = at.takes.asks.1;
         acked = ap awaits_ack none;
         leaves = inr (record {
-          own_stay = (still s past none).own_is;
+          own_stay = own_nothing s past none;
           not_committed = ap (list_any commits_txn) none;
           not_rolled_back = ap (list_any rolls_back_txn) none;
           no_victim = at.no_victim;
           begun = inl (ap (list_any begins_txn) none);
         });
-        made = made_still s past none;
+        made = made_nothing s past none;
         rows_alone = at.rows_alone;
       }
 

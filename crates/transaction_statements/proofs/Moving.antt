@@ -12,6 +12,7 @@ use Rattle.inno_model.specs.declared.event.Event.{Event}
 use Rattle.inno_model.specs.declared.event.Event.TheVariants as events
 use Rattle.inno_model.specs.Past.{is_of, started, did, begins_txn, commits_txn, rolls_back_txn, level, own, begins, awaits_ack, IsOpen}
 use Rattle.sql_grammar.specs.Grammar.{Spells}
+use Rattle.sql_history.specs.Items.{own_before}
 use Rattle.sql_history.specs.Settings.{made_at}
 use Rattle.sql_history.specs.Legal.{MayBegin, MayView, MayUndo, MayRollBack}
 use Rattle.shared_lists.specs.declared.answers.Undone.{Undone}
@@ -33,10 +34,13 @@ use Rattle.transaction_statements.specs.Running.{RunsBy, TakesBackTo, HasTask, I
 use Rattle.transaction_statements.specs.Going.{to_go}
 use Rattle.sql_lists.proofs.Moving.{moves_none, moves_stays, moves_adds, moves_closes, moves_takes_back, below_phase, below_second, below_third, fewer_stand}
 use Rattle.sql_lists.proofs.Moving.{takes_back_nears}
-use Rattle.transaction_statements.proofs.Staying.{still}
+use Rattle.giving_up.proofs.Own.{point_same}
+use Rattle.giving_up.proofs.Ends.{spares_ack, emptied_on}
+use Rattle.giving_up.proofs.Nothing.{own_nothing, level_nothing}
+use Rattle.transaction_statements.proofs.Staying.{at_spared}
 use Rattle.transaction_statements.proofs.Ending.{fails_begin, fails_still, fails_saving}
-use Rattle.transaction_statements.proofs.Stepping.{emptied_closed, emptied_committed, at_committed, emptied_acked, at_acked, opened_begun, at_begun, knows_less}
-use Rattle.transaction_statements.proofs.Stepping.{opened_viewed, at_viewed, at_undone, back_undone, at_rolled, made_rolled}
+use Rattle.transaction_statements.proofs.Stepping.{emptied_closed, emptied_committed, at_committed, opened_begun, at_begun, knows_less}
+use Rattle.transaction_statements.proofs.Stepping.{opened_viewed, at_viewed, at_undone, back_undone, at_rolled}
 
 -- ---- by the answer
 
@@ -99,9 +103,10 @@ owes_it s state m owes r = absurd (false≢true owes)
 
 pub goes_on_acked : (m : TransactionStatement) → owes_ack m ≡ true → GoesOnAcked IsRunning m (acked m)
 goes_on_acked (statements.Unacked c) owes old new s moment r adds =
-    let empty = emptied_acked s old.past moment r.0.1 in
-    runs_now s (events.Acked s moment ∷ old.past) (task_of s old) new (statements.Closed c) adds.past_is adds.task_is
-    (at_acked s old.past moment (stmt_of c) (Fits c) r.0.0, empty.0, empty.1) r.1
+    let e = events.Acked s moment in
+    let spared = spares_ack s moment old.past in
+    runs_now s (e ∷ old.past) (task_of s old) new (statements.Closed c) adds.past_is adds.task_is
+    (at_spared e old.past s spared (stmt_of c) (Fits c) r.0.0, emptied_on e old.past s spared r.0.1, grind (arith, nat_tests)) r.1
 goes_on_acked m owes old new s moment r adds = absurd (false≢true owes)
 
 pub acked_nears : (m : TransactionStatement) → owes_ack m ≡ true → NearsAcked to_go m (acked m)
@@ -188,7 +193,7 @@ pub unbegins : (s : ℕ) (old new : State) → IsRunning old s statements.Unview
 unbegins s old new r closes =
     closes_one s (events.RolledBack s) old new statements.Failed (grind (arith, nat_tests)) refl refl refl closes
     (fails_begin s (events.RolledBack s ∷ old.past) true Nothing (at_rolled s old.past (stmt.Begin true) Nothing r.0.0) (grind (arith, nat_tests))
-    (made_rolled s old.past r.0.1.made) (inr (grind (arith, nat_tests))) (grind (arith, nat_tests))) r.1
+    (subst (λ p. own s p ≡ own_before s p) (sym (point_same (events.RolledBack s) old.past s (grind (arith, nat_tests)) refl refl refl)) r.0.1.made) (inr (grind (arith, nat_tests))) (grind (arith, nat_tests))) r.1
 
 -- ---- rollbacks
 
@@ -308,12 +313,11 @@ module _ (s : ℕ) (old new : State) (name : List ℕ) (l : Level) (r : IsRunnin
       let n = begins old.past + 1 in
       let at : IsAt s (stmt.Savepoint name) (λ setting. true ≡ true → setting.autocommit ≡ false) old.past =
       record { takes = r.0.0.takes; knows = λ is. r.0.0.knows.0; rows_alone = r.0.0.rows_alone; no_victim = r.0.0.no_victim } in
-      let is = still s old.past r.0.1 in
       let kept : did rolls_back_txn s old.past ≡ false = ap (list_any rolls_back_txn) r.0.1 in
       let none : did commits_txn s old.past ≡ false = ap (list_any commits_txn) r.0.1 in
       adds_one s (events.Begin s n l) old new (statements.Saving name true) (grind (arith, nat_tests)) refl refl refl adds (
         at_begun s old.past n l (stmt.Savepoint name) _ at,
-        (opened_begun s old.past n l kept, sym is.level_is ∙ r.0.2, sym is.own_is ∙ r.0.3, grind (arith, nat_tests, none)),
+        (opened_begun s old.past n l kept, sym (level_nothing s old.past r.0.1) ∙ r.0.2, sym (own_nothing s old.past r.0.1) ∙ r.0.3, grind (arith, nat_tests, none)),
       ) r.1
 
   pub lacks_opening : Stays s old new → Steps IsRunning s old new statements.Failed advance.NoMemory

@@ -1,5 +1,5 @@
 -- An entry of another session leaves what a statement knows.
-use Rattle.std.proofs.Common.{◌≡◌, ◌≢◌, ◌⊎◌, ℕ, Bool, true, false, None, List, ◌∷◌, refl, sym, ap, subst, ◌∙◌, inl, inr, length}
+use Rattle.std.proofs.Common.{◌≡◌, ◌≢◌, ℕ, Bool, true, false, None, List, ◌∷◌, sym, ap, subst, ◌∙◌, inl, inr, length}
 use Rattle.std.specs.Prelude.{is_some}
 use Rattle.std.specs.List.{AllByRecursion, list_any}
 use Rattle.inno_types.specs.declared.stmt.Stmt.{Stmt}
@@ -9,25 +9,27 @@ use Rattle.inno_model.specs.Past.{is_of, under_way, of_item, did, begins_txn, ta
 use Rattle.inno_model.proofs.Untouched.{IsUntouched, untouched}
 use Rattle.sql_grammar.specs.Grammar.{Spells}
 use Rattle.sql_history.specs.Settings.{Setting, HasSet}
-use Rattle.sql_history.specs.Waiting.{is_victim}
 use Rattle.sql_history.specs.Endings.{StaysIn}
-use Rattle.sql_history.specs.Legal.{Takes, CommittedFirst, LeavesIt, MayLeaveOpen}
 use Rattle.law_past_agreement.specs.Order.{IsOfRow}
 use Rattle.shared_lists.specs.State.{State, task_of}
 use Rattle.sql_lists.specs.Kept.{SetsQuietly}
 use Rattle.sql_lists.specs.Steps.{StaysRunning, HasRowsAlone}
 use Rattle.sql_lists.proofs.Moving.{AddingOne, stays_running}
-use Rattle.sql_lists.proofs.Staying.{other_of, within_of_other}
+use Rattle.sql_lists.proofs.Staying.{other_of}
 use Rattle.transaction_statements.specs.declared.statement.TransactionStatement.{TransactionStatement}
 use Rattle.transaction_statements.specs.declared.statement.TransactionStatement.TheVariants as statements
 use Rattle.transaction_statements.specs.Committing.{stmt_of, Fits, SetsAlone}
-use Rattle.transaction_statements.specs.Knowing.{IsAt, IsEmptied, HasOpened, SavesIn, IsGoingBack, IsMissing, IsGivingUp}
+use Rattle.transaction_statements.specs.Knowing.{IsAt, HasOpened, SavesIn, IsGoingBack, IsMissing}
 use Rattle.transaction_statements.specs.Running.{RunsBy, HasTask, IsRunning}
-use Rattle.transaction_statements.proofs.Staying.{takes_on, at_on, made_untouched}
+use Rattle.giving_up.proofs.Ends.{Spares, spares_other, none_made, emptied_on, gives_up_on}
+use Rattle.transaction_statements.proofs.Staying.{at_spared}
 
 module _ (e : Event) (h : List Event) (s : ℕ) (other : is_of s e ≡ false) where
   same : IsUntouched h (e ∷ h) s
   same = untouched e h s other
+
+  spared : Spares e h s
+  spared = spares_other e h s other
 
   did_same : (test : Event → Bool) → did test s (e ∷ h) ≡ did test s h
   did_same test = ap (list_any test) same.entries
@@ -39,20 +41,7 @@ module _ (e : Event) (h : List Event) (s : ℕ) (other : is_of s e ≡ false) wh
   rows_on rows = subst (AllByRecursion IsOfRow) (sym same.own_is) rows
 
   at_other : (statement : Stmt) (Knows : Setting → Type 0) → IsAt s statement Knows h → IsAt s statement Knows (e ∷ h)
-  at_other statement Knows at = at_on s statement Knows e h (within_of_other e s other) (rows_on at.rows_alone) (did_same is_victim ∙ at.no_victim) at
-
-  takes_other : (statement : Stmt) (takes : Takes Spells s statement h) → (t : Takes Spells s statement (e ∷ h)) × (t.setting ≡ takes.setting)
-  takes_other statement takes = (takes_on s statement e h (within_of_other e s other) takes, refl)
-
-  emptied_on : IsEmptied s h → IsEmptied s (e ∷ h)
-  emptied_on empty =
-      record {
-        closed = same.level_is ∙ empty.closed;
-        new = same.own_is ∙ empty.new;
-        not_begun = did_same begins_txn ∙ empty.not_begun;
-        not_rolled_back = did_same rolls_back_txn ∙ empty.not_rolled_back;
-        made = made_untouched s e h other empty.made;
-      }
+  at_other = at_spared e h s spared
 
   opened_on : HasOpened s h → HasOpened s (e ∷ h)
   opened_on o =
@@ -62,7 +51,7 @@ module _ (e : Event) (h : List Event) (s : ℕ) (other : is_of s e ≡ false) wh
         not_rolled_back = did_same rolls_back_txn ∙ o.not_rolled_back;
         new = same.own_is ∙ o.new;
         acked = acks ∙ o.acked;
-        made = made_untouched s e h other o.made;
+        made = none_made e h s spared o.made;
       }
 
   saves_on : (opened : Bool) → SavesIn opened s h → SavesIn opened s (e ∷ h)
@@ -97,40 +86,6 @@ module _ (e : Event) (h : List Event) (s : ℕ) (other : is_of s e ≡ false) wh
         rows_alone = rows_on m.rows_alone;
       }
 
-  leaves_on : CommittedFirst Spells s h ⊎ LeavesIt Spells s h → CommittedFirst Spells s (e ∷ h) ⊎ LeavesIt Spells s (e ∷ h)
-  leaves_on (inl c) =
-      inl (record {
-        statement = c.statement;
-        takes = (takes_other c.statement c.takes).0;
-        brings = c.brings;
-        closed = same.level_is ∙ c.closed;
-        made = made_untouched s e h other c.made;
-        begun = elim c.begun [ inl none ↦ inl (did_same begins_txn ∙ none) | inr back ↦ inr (did_same rolls_back_txn ∙ back) ];
-        no_victim = did_same is_victim ∙ c.no_victim;
-      })
-  leaves_on (inr l) =
-      inr (record {
-        own_stay = same.own_is ∙ (l.own_stay ∙ ap (own s) (sym same.before));
-        not_committed = did_same commits_txn ∙ l.not_committed;
-        not_rolled_back = did_same rolls_back_txn ∙ l.not_rolled_back;
-        no_victim = did_same is_victim ∙ l.no_victim;
-        begun = elim l.begun [
-          | inl none ↦ inl (did_same begins_txn ∙ none)
-          | inr may ↦ (let on = takes_other may.0 may.1 in inr (may.0, on.0, subst (λ setting. MayLeaveOpen setting may.0) (sym on.1) may.2))
-        ];
-      })
-
-  gives_up_on : IsGivingUp s h → IsGivingUp s (e ∷ h)
-  gives_up_on g =
-      record {
-        text = g.text;
-        item = same.item ∙ g.item;
-        acked = acks ∙ g.acked;
-        leaves = leaves_on g.leaves;
-        made = made_untouched s e h other g.made;
-        rows_alone = rows_on g.rows_alone;
-      }
-
   quiet_on : (statement : Stmt) → SetsQuietly statement s h → SetsQuietly statement s (e ∷ h)
   quiet_on (stmt.Savepoint name) quiet = same.level_is ∙ quiet
   quiet_on statement quiet = tt
@@ -139,8 +94,8 @@ module _ (e : Event) (h : List Event) (s : ℕ) (other : is_of s e ≡ false) wh
   runs_on (statements.Quiet statement) r = (at_other statement (SetsAlone statement) r.0, same.entries ∙ r.1, quiet_on statement r.2)
   runs_on (statements.Missing name) r = missing_on name r
   runs_on (statements.Committing c) r = (at_other (stmt_of c) (Fits c) r.0, same.entries ∙ r.1)
-  runs_on (statements.Unacked c) r = (at_other (stmt_of c) (Fits c) r.0, emptied_on r.1, acks ∙ r.2)
-  runs_on (statements.Closed c) r = (at_other (stmt_of c) (Fits c) r.0, emptied_on r.1, acks ∙ r.2)
+  runs_on (statements.Unacked c) r = (at_other (stmt_of c) (Fits c) r.0, emptied_on e h s spared r.1, acks ∙ r.2)
+  runs_on (statements.Closed c) r = (at_other (stmt_of c) (Fits c) r.0, emptied_on e h s spared r.1, acks ∙ r.2)
   runs_on statements.Viewing r = (at_other _ _ r.0, opened_on r.1, same.level_is ∙ r.2, same.view_is ∙ r.3)
   runs_on statements.Unviewed r = (at_other _ _ r.0, opened_on r.1)
   runs_on (statements.Begun snapshot) r = (at_other _ _ r.0, opened_on r.1, λ is level. did_same takes_view ∙ r.2 is (sym same.level_is ∙ level))
@@ -148,7 +103,7 @@ module _ (e : Event) (h : List Event) (s : ℕ) (other : is_of s e ≡ false) wh
   runs_on (statements.RollbackTo name made) r = (at_other _ _ r.0, back_on made r.1)
   runs_on (statements.Opening name l) r = (at_other _ _ r.0, same.entries ∙ r.1, same.level_is ∙ r.2, same.own_is ∙ r.3)
   runs_on (statements.Saving name opened) r = (at_other _ _ r.0, saves_on opened r.1)
-  runs_on statements.Failed r = gives_up_on r
+  runs_on statements.Failed r = gives_up_on e h s spared r
 
 stays_by_one : (old new : State) (t s : ℕ) (m : TransactionStatement) → t ≢ s → AddingOne t old new → task_of s new ≡ task_of s old → IsRunning old s m
     → IsRunning new s m

@@ -1,5 +1,5 @@
 -- What one entry of its own makes of a statement, and how a statement begins.
-use Rattle.std.proofs.Common.{◌≡◌, ℕ, ◌<◌, ◌≤◌, Bool, true, false, Option, Some, None, List, [], ◌∷◌, refl, sym, ap, subst, ◌∙◌, inl, inr, arith, length, suc}
+use Rattle.std.proofs.Common.{◌≡◌, ℕ, ◌<◌, ◌≤◌, true, false, Option, None, List, [], ◌∷◌, refl, sym, ap, subst, ◌∙◌, arith, length, suc}
 use Rattle.std.proofs.lemmas.Bool.Decides.{nat_tests}
 use Rattle.std.specs.Prelude.{◌-◌, is_some}
 use Rattle.std.specs.List.{AllByRecursion, list_any}
@@ -9,7 +9,6 @@ use Rattle.inno_types.specs.declared.stmt.Stmt.TheVariants as stmt
 use Rattle.inno_db.specs.declared.change.Change.{Change}
 use Rattle.inno_model.specs.declared.event.Event.{Event}
 use Rattle.inno_model.specs.declared.event.Event.TheVariants as events
-use Rattle.inno_model.specs.Moments.{Sometime}
 use Rattle.inno_model.specs.Past.{of_item, did, begins_txn, commits_txn, rolls_back_txn, closes, level, own, oldest, awaits_ack, IsOpen}
 use Rattle.sql_grammar.specs.Grammar.{Spells}
 use Rattle.sql_history.specs.Items.{own_before, of_turn, is_over}
@@ -20,19 +19,19 @@ use Rattle.sql_history.specs.Legal.{MayCommit, CommitsBy}
 use Rattle.law_past_agreement.specs.Order.{IsOfRow, IsUndoable}
 use Rattle.shared_lists.specs.State.{State}
 use Rattle.sql_lists.specs.Steps.{HasRowsAlone, IsTaken}
-use Rattle.sql_lists.proofs.Staying.{point_now, point_before, point_stays}
+use Rattle.sql_lists.proofs.Staying.{point_now, point_before}
 use Rattle.transaction_statements.specs.declared.committer.Committer.{Committer}
 use Rattle.transaction_statements.specs.declared.committer.Committer.TheVariants as committers
 use Rattle.transaction_statements.specs.Committing.{stmt_of, Fits}
-use Rattle.transaction_statements.specs.Knowing.{IsAt, HasMadeNone, IsEmptied, HasOpened, IsGoingBack, IsMissing}
+use Rattle.giving_up.specs.Ends.{HasMadeNone, IsEmptied}
+use Rattle.transaction_statements.specs.Knowing.{IsAt, HasOpened, IsGoingBack, IsMissing}
 use Rattle.transaction_statements.specs.Running.{Nothing}
-use Rattle.transaction_statements.proofs.Staying.{at_on, made_on, still, made_still, set_before}
+use Rattle.giving_up.proofs.Ends.{point_kept}
+use Rattle.giving_up.proofs.Writing.{none_of}
+use Rattle.giving_up.proofs.Nothing.{own_nothing, level_nothing, own_now, over_nothing, made_nothing, set_before, sometime_too}
+use Rattle.transaction_statements.proofs.Staying.{at_on}
 
 -- ---- what the lists say of a transaction
-
-none_of : {X : Type 0} (o : Option X) → is_some o ≡ false → o ≡ None
-none_of None is = refl
-none_of (Some x) is = cc
 
 module _ (s : ℕ) (seen state : State) (o : Option Level) (same : seen ≡ state) (told : o ≡ level s seen.past) where
   pub closed_as_told : is_some o ≡ false → level s state.past ≡ None
@@ -84,16 +83,13 @@ module _ (s : ℕ) (h : List Event) where
         new = new;
         not_begun = ap (list_any begins_txn) none;
         not_rolled_back = ap (list_any rolls_back_txn) none;
-        made = made_still
-            s h none;
+        made = made_nothing s h none;
       }
 
   committed_made : of_item s h ≡ [] → HasMadeNone s (events.Committed s ∷ h)
   committed_made none =
-      let is = still s h none in
-      let goes-on : is_over s h ≡ false = ap (list_any closes) is.turn in
       let over : is_over s (events.Committed s ∷ h) ≡ true = grind (arith, nat_tests) in
-      subst (λ p. own s p ≡ own_before s p) (sym (point_before (events.Committed s) h s goes-on over)) (is.own_is ∙ ap (own s) (sym is.before))
+      subst (λ p. own s p ≡ own_before s p) (sym (point_before (events.Committed s) h s (over_nothing s h none) over)) (own_now s h none)
 
   pub emptied_committed : of_item s h ≡ [] → IsEmptied s (events.Committed s ∷ h) × (awaits_ack (of_item s (events.Committed s ∷ h)) ≡ true)
   emptied_committed none = (
@@ -111,21 +107,6 @@ module _ (s : ℕ) (h : List Event) where
   at_committed statement Knows at =
       at_on s statement Knows (events.Committed s) h refl (rows_of_none s (events.Committed s ∷ h) (grind (arith, nat_tests)))
       (grind (arith, nat_tests, at.no_victim)) at
-
-  pub emptied_acked : (moment : ℕ) → IsEmptied s h → IsEmptied s (events.Acked s moment ∷ h) × (awaits_ack (of_item s (events.Acked s moment ∷ h)) ≡ false)
-  emptied_acked moment empty = (
-    record {
-      closed = empty.closed;
-      new = empty.new;
-      not_begun = grind (arith, nat_tests, empty.not_begun);
-      not_rolled_back = grind (arith, nat_tests, empty.not_rolled_back);
-      made = made_on s (events.Acked s moment) h (grind (arith, nat_tests)) refl refl empty.made;
-    },
-    grind (arith, nat_tests),
-  )
-
-  pub at_acked : (moment : ℕ) (statement : Stmt) (Knows : Setting → Type 0) → IsAt s statement Knows h → IsAt s statement Knows (events.Acked s moment ∷ h)
-  at_acked moment statement Knows at = at_on s statement Knows (events.Acked s moment) h refl at.rows_alone (grind (arith, nat_tests, at.no_victim)) at
 
   -- ---- a transaction
 
@@ -159,7 +140,9 @@ module _ (s : ℕ) (h : List Event) where
         not_rolled_back = grind (arith, nat_tests, o.not_rolled_back);
         new = o.new;
         acked = grind (arith, nat_tests);
-        made = made_on s (events.View s) h (grind (arith, nat_tests)) refl refl o.made;
+        made =
+            let over : is_over s (events.View s ∷ h) ≡ is_over s h = grind (arith, nat_tests) in
+            point_kept (own s) (events.View s) h s over refl ∙ (o.made ∙ sym (point_kept (own_before s) (events.View s) h s over refl));
       }
 
   pub at_viewed : (statement : Stmt) (Knows : Setting → Type 0) → IsAt s statement Knows h → IsAt s statement Knows (events.View s ∷ h)
@@ -194,29 +177,12 @@ module _ (s : ℕ) (h : List Event) where
         acked = grind (arith, nat_tests);
       }
 
-  -- what it has changed by its point
-  pub made_rolled : HasMadeNone s h → HasMadeNone s (events.RolledBack s ∷ h)
-  made_rolled made = go (is_over s h) refl where
-    over : is_over s (events.RolledBack s ∷ h) ≡ true
-    over = grind (arith, nat_tests)
-
-    go : (was : Bool) → is_over s h ≡ was → HasMadeNone s (events.RolledBack s ∷ h)
-    go true is = subst (λ p. own s p ≡ own_before s p) (sym (point_stays (events.RolledBack s) h s is over)) made
-    go false is =
-        subst (λ p. own s p ≡ own_before s p) (sym (point_before (events.RolledBack s) h s is over))
-        (subst (λ p. own s p ≡ own_before s p) (point_now h s is) made)
-
   pub at_rolled : (statement : Stmt) (Knows : Setting → Type 0) → IsAt s statement Knows h → IsAt s statement Knows (events.RolledBack s ∷ h)
   at_rolled statement Knows at =
       at_on s statement Knows (events.RolledBack s) h refl (rows_of_none s (events.RolledBack s ∷ h) (grind (arith, nat_tests)))
       (grind (arith, nat_tests, at.no_victim)) at
 
 -- ---- beginnings
-
-sometime_too : (P Q : List Event → Type 0) → ((h : List Event) → P h → Q h) → (s : ℕ) (past : List Event) → Sometime P s past → Sometime Q s past
-sometime_too P Q too s [] some = some
-sometime_too P Q too s (e ∷ past) (inl now) = inl (too (e ∷ past) now)
-sometime_too P Q too s (e ∷ past) (inr before) = inr (before.0, sometime_too P Q too s past before.1)
 
 -- what was found set is what counts
 pub retaken : (s : ℕ) (statement : Stmt) (Knows : Setting → Type 0) (past : List Event) (setting : Setting) (taken : IsTaken s statement past)
@@ -238,15 +204,14 @@ retaken s statement Knows past setting taken set same knows =
 
 pub back_first : (s made : ℕ) (past : List Event) → of_item s past ≡ [] → IsGoingBack s made past
 back_first s made past none =
-    let is = still s past none in
     record {
       stays = record {
-        stays = is.level_is;
+        stays = level_nothing s past none;
         not_begun = ap (list_any begins_txn) none;
         not_committed = ap (list_any commits_txn) none;
         not_rolled_back = ap (list_any rolls_back_txn) none;
       };
-      keeps = ap (oldest made) is.own_is;
+      keeps = ap (oldest made) (own_nothing s past none);
       acked = ap awaits_ack none;
     }
 

@@ -1,19 +1,19 @@
 -- What is known of the past in the midst of a statement on transactions.
-use Rattle.std.specs.Prelude.{◌≡◌, ◌⊎◌, ℕ, Bool, true, false, List, [], None, Some}
-use Rattle.inno_types.specs.declared.reply.Item.TheVariants.{Sql}
+use Rattle.std.specs.Prelude.{◌≡◌, ℕ, Bool, true, false, List, [], None}
 use Rattle.inno_types.specs.declared.reply.Reply.TheVariants.{Done}
 use Rattle.inno_types.specs.declared.stmt.Stmt.{Stmt}
 use Rattle.inno_types.specs.declared.stmt.Stmt.TheVariants as stmt
 use Rattle.inno_model.specs.declared.event.Event.{Event}
-use Rattle.inno_model.specs.Past.{under_way, before_item, of_item, did, begins_txn, commits_txn, rolls_back_txn, own, oldest, awaits_ack, IsOpen, IsClosed}
+use Rattle.inno_model.specs.Past.{before_item, of_item, did, begins_txn, commits_txn, rolls_back_txn, own, oldest, awaits_ack, IsOpen, IsClosed}
 use Rattle.sql_grammar.specs.Grammar.{Spells}
-use Rattle.sql_history.specs.Items.{Asks, point, own_before}
+use Rattle.sql_history.specs.Items.{Asks}
 use Rattle.sql_history.specs.Settings.{Setting, HasSet, made_at}
 use Rattle.sql_history.specs.Endings.{StaysIn}
 use Rattle.sql_history.specs.Waiting.{is_victim}
-use Rattle.sql_history.specs.Legal.{Takes, EndsTaken, LeavesIt, CommittedFirst}
+use Rattle.sql_history.specs.Legal.{Takes, EndsTaken}
 use Rattle.sql_lists.specs.Kept.{SetsQuietly}
 use Rattle.sql_lists.specs.Steps.{HasRowsAlone}
+use Rattle.giving_up.specs.Ends.{HasMadeNone}
 
 -- The session's item asks for the statement, and something is known of what was set before it.
 pub record IsAt (s : ℕ) (statement : Stmt) (Knows : Setting → Type 0) (past : List Event) : Type 0 where
@@ -21,18 +21,6 @@ pub record IsAt (s : ℕ) (statement : Stmt) (Knows : Setting → Type 0) (past 
   pub knows : Knows takes.setting
   pub rows_alone : HasRowsAlone s past
   pub no_victim : did is_victim s past ≡ false
-
--- the item has changed nothing up to its point
-abbrev pub HasMadeNone : ℕ → List Event → Type 0
-HasMadeNone s past = own s (point s past) ≡ own_before s (point s past)
-
--- what was open is committed, and nothing else has been done
-pub record IsEmptied (s : ℕ) (past : List Event) : Type 0 where
-  pub closed : IsClosed s past
-  pub new : own s past ≡ []
-  pub not_begun : did begins_txn s past ≡ false
-  pub not_rolled_back : did rolls_back_txn s past ≡ false
-  pub made : HasMadeNone s past
 
 -- the item has opened a transaction, in which nothing is changed
 pub record HasOpened (s : ℕ) (past : List Event) : Type 0 where
@@ -61,15 +49,6 @@ pub record IsMissing (s : ℕ) (name : List ℕ) (past : List Event) : Type 0 wh
   pub is_set : HasSet Spells s (before_item s past) setting
   pub missing : made_at name setting.saves ≡ None
   pub nothing : of_item s past ≡ []
-  pub rows_alone : HasRowsAlone s past
-
--- a statement that found no memory
-pub record IsGivingUp (s : ℕ) (past : List Event) : Type 0 where
-  pub text : List ℕ
-  pub item : under_way s past ≡ Some (Sql text)
-  pub acked : awaits_ack (of_item s past) ≡ false
-  pub leaves : CommittedFirst Spells s past ⊎ LeavesIt Spells s past
-  pub made : HasMadeNone s past
   pub rows_alone : HasRowsAlone s past
 
 -- a statement that may end as done

@@ -12,7 +12,8 @@ use Rattle.sql_lists.specs.Kept.{SetsQuietly}
 use Rattle.transaction_statements.specs.declared.statement.TransactionStatement.{TransactionStatement}
 use Rattle.transaction_statements.specs.declared.statement.TransactionStatement.TheVariants as statements
 use Rattle.transaction_statements.specs.Committing.{stmt_of, Fits, SetsAlone}
-use Rattle.transaction_statements.specs.Knowing.{IsAt, IsEmptied, HasOpened, SavesIn, IsGoingBack, IsMissing, IsGivingUp}
+use Rattle.giving_up.specs.Ends.{IsEmptied, IsGivingUp}
+use Rattle.transaction_statements.specs.Knowing.{IsAt, HasOpened, SavesIn, IsGoingBack, IsMissing}
 
 -- nothing is known of what was set
 abbrev pub Nothing : Setting → Type 0

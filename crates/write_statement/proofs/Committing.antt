@@ -34,7 +34,7 @@ use Rattle.giving_up.specs.Ends.{MayEndWith, IsClosing}
 use Rattle.giving_up.specs.Leaving.{InTxn}
 use Rattle.write_statement.specs.Running.{IsMade, IsRunning, owes_ack, acked}
 use Rattle.giving_up.proofs.Writing.{of_writing, some_of, sees_base}
-use Rattle.giving_up.proofs.Own.{acked_of, did_same, did_now, over_now, takes_own, reply_closed}
+use Rattle.giving_up.proofs.Own.{acked_of, did_same, did_now, over_now, takes_on, reply_closed}
 use Rattle.giving_up.proofs.MayReply.{counted, closing, may_end as end_with}
 use Rattle.giving_up.proofs.Closing as of_leaving
 
@@ -188,7 +188,7 @@ module _ (h : List Event) (writer : Option ℕ) (s : ℕ) (alone : Bool) (before
     pub closing_then : IsClosing s kept kept after
     closing_then =
         let e = events.Committed s in
-        let takes = takes_own e h s mine refl refl r.statement r.working.takes in
+        let takes = takes_on e h s refl r.statement r.working.takes in
         let no-victim = did_same e h s mine refl refl is_victim refl ∙ r.working.no_victim in
         let reply-then = reply_closed e h s mine refl refl refl r.statement kept reply in
         let none : own s after ≡ [] = rw mine refl in

@@ -8,10 +8,9 @@ use Rattle.inno_types.specs.declared.stmt.Stmt.{Stmt}
 use Rattle.inno_types.specs.declared.lock.Level.{Level}
 use Rattle.inno_model.specs.declared.event.Event.{Event}
 use Rattle.inno_model.specs.declared.event.Event.TheVariants as events
-use Rattle.inno_model.specs.Past.{is_of, before_item, of_item, begins_txn, commits_txn, rolls_back_txn, closes, begins, own, started}
+use Rattle.inno_model.specs.Past.{of_item, begins_txn, commits_txn, rolls_back_txn, closes, begins, own, started}
 use Rattle.inno_model.specs.Past.{IsOpen, IsClosed}
-use Rattle.inno_model.specs.Moments.{starts, Sometime}
-use Rattle.inno_model.proofs.Untouched.{untouched}
+use Rattle.inno_model.specs.Moments.{Sometime}
 use Rattle.sql_grammar.specs.Grammar.{Spells}
 use Rattle.sql_history.specs.Items.{of_turn, before_turn, own_before, undoes}
 use Rattle.sql_history.specs.Settings.{Setting, HasSet, next_level}
@@ -24,30 +23,8 @@ use Rattle.sql_lists.specs.Steps.{IsTaken, Moves}
 use Rattle.giving_up.specs.Leaving.{HasOpened, InTxn}
 use Rattle.write_statement.specs.Running.{IsUnrefused, IsEarly}
 use Rattle.giving_up.proofs.Writing.{of_writing}
-use Rattle.giving_up.proofs.Nothing.{not_mine, own_nothing, level_nothing, turn_nothing, did_none, acked_none}
+use Rattle.giving_up.proofs.Nothing.{set_before as set_nothing, own_nothing, level_nothing, turn_nothing, did_none, acked_none}
 use Rattle.sql_lists.proofs.Moving.{moves_adds}
-
-set_back : (e : Event) (h : List Event) (s : ℕ) (x : Setting) → is_of s e ≡ false → HasSet Spells s (e ∷ h) x → HasSet Spells s h x
-set_back (events.Begin t n l) h s x other held = rw other at held
-set_back (events.Committed t) h s x other held = rw other at held
-set_back (events.RolledBack t) h s x other held = rw other at held
-set_back (events.Ended t j reply) h s x other held = rw other at held
-set_back e h s x other held = held
-
-set_started : (e : Event) (h : List Event) (s : ℕ) (x : Setting) → starts s e ≡ true → HasSet Spells s (e ∷ h) x → HasSet Spells s (before_item s (e ∷ h)) x
-set_started (events.Started t j item) h s x is held = rw is held
-set_started e h s x is held = absurd (false≢true is)
-
--- it began with what its session has set
-pub set_nothing : (s : ℕ) (h : List Event) (x : Setting) → of_item s h ≡ [] → HasSet Spells s h x → HasSet Spells s (before_item s h) x
-set_nothing s [] x none held = held
-set_nothing s (e ∷ h) x none held = go (set_nothing s h x) (starts s e) refl where
-  go : (of_item s h ≡ [] → HasSet Spells s h x → HasSet Spells s (before_item s h) x) → (b : Bool) → starts s e ≡ b → HasSet Spells s (before_item s (e ∷ h)) x
-  go rest true is = set_started e h s x is held
-  go rest false is =
-      let mine = not_mine e h s is none in
-      let same = untouched e h s mine in
-      subst (λ p. HasSet Spells s p x) (sym same.before) (rest (sym same.entries ∙ none) (set_back e h s x mine held))
 
 -- no setting refuses a statement that changes rows
 pub refused_alike : (s : ℕ) (x y : Setting) (h : List Event) (statement : Stmt) → IsWriting statement

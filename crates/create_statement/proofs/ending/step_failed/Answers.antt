@@ -1,4 +1,4 @@
-use Rattle.create_statement.proofs.Stepping.{may_fail}
+use Rattle.giving_up.proofs.Closing.{may_fail}
 use Rattle.inno_types.specs.declared.reply.Reply.TheVariants.{NoMemory}
 use Rattle.create_statement.specs.declared.machine.CreateStatement.TheVariants.{Failed}
 use Rattle.create_statement.proofs.Moving.{ends}

@@ -1,5 +1,4 @@
 use Rattle.transaction_statements.proofs.Ending.{may_finish}
-use Rattle.std.proofs.Common.{sym}
 use Rattle.inno_types.specs.declared.reply.Reply.TheVariants.{Done}
 use Rattle.transaction_statements.specs.declared.statement.TransactionStatement.TheVariants.{Failed}
 use Rattle.transaction_statements.proofs.Moving.{ends}

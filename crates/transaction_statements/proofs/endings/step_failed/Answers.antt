@@ -1,4 +1,4 @@
-use Rattle.transaction_statements.proofs.Ending.{may_fail}
+use Rattle.giving_up.proofs.Closing.{may_fail}
 use Rattle.inno_types.specs.declared.reply.Reply.TheVariants.{NoMemory}
 use Rattle.transaction_statements.specs.declared.statement.TransactionStatement.TheVariants.{Failed}
 use Rattle.transaction_statements.proofs.Moving.{ends}
