@@ -7,7 +7,6 @@ use denote.Struct.Declared as structs
 use Rattle.std.proofs.Crossing.{crosses}
 use Rattle.inno_types.proofs.stmt.Filter.TheLaws.TheKnot.{send-Filter}
 use Rattle.inno_types.proofs.stmt.Expr.TheLaws.TheKnot.{send-Expr}
-use Rattle.inno_types.proofs.reply.Reply.TheSendSync as reply-sent
 use Rattle.inno_db.proofs.change.Change.TheSendSync as change-sent
 use Rattle.inno_types.specs.contracts.stmt.Filter as filter
 use Rattle.inno_types.specs.contracts.stmt.Expr as expr
@@ -60,7 +59,7 @@ creation_part : IsSend (creation.the_field).row
 creation_part = enum_send (enums.shape creation.the_type) (search (sendable, crosses, stmt_part) depth 60 fits 100000)
 
 reading_part : IsSend (reading.the_field).row
-reading_part = enum_send (enums.shape reading.the_type) (search (sendable, crosses, stmt_part, reply-sent.the_field_send) depth 60 fits 100000)
+reading_part = enum_send (enums.shape reading.the_type) (search (sendable, crosses, stmt_part, leaving-sent.the_field_send) depth 60 fits 100000)
 
 writing_part : IsSend (writing.the_field).row
 writing_part = enum_send (enums.shape writing.the_type)
