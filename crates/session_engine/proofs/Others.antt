@@ -27,7 +27,9 @@ use Rattle.read_statement.specs.declared.machine.ReadStatement.{ReadStatement}
 use Rattle.read_statement.specs.declared.machine.ReadStatement.TheVariants as reads
 use Rattle.read_statement.specs.Running.{IsRunning as IsReading}
 use Rattle.read_statement.proofs.Staying.{stays as read_on}
+use Rattle.giving_up.specs.declared.leaving.Leaving.{Leaving as LeavingStatement}
 use Rattle.giving_up.specs.declared.leaving.Leaving.TheVariants as leaving
+use Rattle.giving_up.specs.Leaving.{IsLeaving}
 use Rattle.write_statement.specs.declared.machine.WriteStatement.{WriteStatement}
 use Rattle.write_statement.specs.declared.machine.WriteStatement.TheVariants as writes
 use Rattle.write_statement.specs.Running.{IsRunning as IsChangingRows}
@@ -148,27 +150,28 @@ seat_stays old new t s differ adding keeps same_task seat agrees =
     agrees')
     old new t s seat differ adding keeps same_task agrees
 
+leaving_item : (state : Lists) (s : ℕ) (m : LeavingStatement) → IsLeaving state s m → under_way s state.past ≢ None
+leaving_item state s (leaving.BackingOut work) r none = (let x = r.0.working.takes.asks.1 in cc)
+leaving_item state s (leaving.Failed alone) r none = (let x = r.0.takes.asks.1 in cc)
+leaving_item state s (leaving.Unacked kept given) r none = (let x = r.0.may.item in cc)
+leaving_item state s (leaving.Ending kept given) r none = (let x = r.0.may.item in cc)
+
 read_item : (state : Lists) (s : ℕ) (m : ReadStatement) → IsReading state s m → under_way s state.past ≢ None
 read_item state s (reads.Opening asked) r none = (let x = r.0.takes.asks.1 in cc)
 read_item state s (reads.Open stmt alone) r none = (let x = r.0.takes.asks.1 in cc)
 read_item state s (reads.Viewed stmt alone) r none = (let x = r.0.takes.asks.1 in cc)
 read_item state s (reads.Searching read) r none = (let x = r.early.takes.asks.1 in cc)
 read_item state s (reads.Found found) r none = (let x = r.0.early.takes.asks.1 in cc)
-read_item state s (reads.Unacked kept given) r none = (let x = r.0.takes.asks.1 in cc)
-read_item state s (reads.Ending kept given) r none = (let x = r.0.takes.asks.1 in cc)
-read_item state s (reads.Failed alone) r none = (let x = r.0.early.takes.asks.1 in cc)
+read_item state s (reads.Leaving m) r none = leaving_item state s m r none
 
 write_item : (state : Lists) (s : ℕ) (m : WriteStatement) → IsChangingRows state s m → under_way s state.past ≢ None
 write_item state s (writes.Fresh stmt) r none = (let x = r.0.takes.asks.1 in cc)
-write_item state s (writes.Leaving leaving.Unopened) r none = (let x = r.0.taken.takes.asks.1 in cc)
 write_item state s (writes.Locking stmt alone) r none = (let x = r.0.working.takes.asks.1 in cc)
 write_item state s (writes.Searching part) r none = (let x = r.reading.changing.working.takes.asks.1 in cc)
 write_item state s (writes.Changing part todo) r none = (let x = r.0.working.takes.asks.1 in cc)
 write_item state s (writes.Making part todo rows) r none = (let x = r.changing.working.takes.asks.1 in cc)
 write_item state s (writes.Finishing part todo) r none = (let x = r.changing.working.takes.asks.1 in cc)
-write_item state s (writes.Leaving (leaving.BackingOut work)) r none = (let x = r.0.working.takes.asks.1 in cc)
-write_item state s (writes.Leaving (leaving.Unacked kept given)) r none = (let x = r.0.takes.asks.1 in cc)
-write_item state s (writes.Leaving (leaving.Ending kept given)) r none = (let x = r.0.takes.asks.1 in cc)
+write_item state s (writes.Leaving m) r none = leaving_item state s m r none
 
 -- a running statement has an item under way
 pub has_item : (state : Lists) (s : ℕ) (statement : Statement) → IsRunning state s statement → under_way s state.past ≢ None
