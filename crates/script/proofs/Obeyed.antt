@@ -11,6 +11,7 @@ pub obeys : (allowed : Directives) (bytes : List ℕ) (reading new : Reading) (d
     → directive_at (take (length bytes - reading.at) (drop reading.at bytes)) ≡ Some (directive, rest)
     → read.heard allowed bytes reading directive ≡ Ok new → read.obeyed allowed bytes reading ≡ Ok (record new { at = length bytes - length rest })
 obeys allowed bytes reading new directive rest found done =
-    let all : take (length bytes - reading.at) (drop reading.at bytes) ≡ drop reading.at bytes = take_all (length bytes - reading.at) (drop reading.at bytes) (omega (arith, length-drop reading.at bytes)) in
+    let all : take (length bytes - reading.at) (drop reading.at bytes) ≡ drop reading.at bytes =
+    take_all (length bytes - reading.at) (drop reading.at bytes) (omega (arith, length-drop reading.at bytes)) in
     let here : directive_at (drop reading.at bytes) ≡ Some (directive, rest) = rw all at found in
     rw here (rw done refl)

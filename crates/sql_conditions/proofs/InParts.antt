@@ -20,7 +20,8 @@ tuple_in_parts [] = refl
 tuple_in_parts (Open ∷ rest) = refl
 tuple_in_parts (other ∷ rest) = refl
 
-pub null_test_in_parts : (column : List ℕ) (tokens : List Token) → null_test_at column tokens ≡ (null_word_at tokens >>= λ n. Ok (filter.IsNull column n.0, n.1))
+pub null_test_in_parts : (column : List ℕ) (tokens : List Token)
+    → null_test_at column tokens ≡ (null_word_at tokens >>= λ n. Ok (filter.IsNull column n.0, n.1))
 unfolding null_test_at null_word_at
 null_test_in_parts column [] = refl
 null_test_in_parts column (Key word.Null ∷ rest) = refl

@@ -193,7 +193,8 @@ pub unbegins : (s : ℕ) (old new : State) → IsRunning old s statements.Unview
 unbegins s old new r closes =
     closes_one s (events.RolledBack s) old new statements.Failed (grind (arith, nat_tests)) refl refl refl closes
     (fails_begin s (events.RolledBack s ∷ old.past) true Nothing (at_rolled s old.past (stmt.Begin true) Nothing r.0.0) (grind (arith, nat_tests))
-    (subst (λ p. own s p ≡ own_before s p) (sym (point_same (events.RolledBack s) old.past s (grind (arith, nat_tests)) refl refl refl)) r.0.1.made) (inr (grind (arith, nat_tests))) (grind (arith, nat_tests))) r.1
+    (subst (λ p. own s p ≡ own_before s p) (sym (point_same (events.RolledBack s) old.past s (grind (arith, nat_tests)) refl refl refl)) r.0.1.made)
+    (inr (grind (arith, nat_tests))) (grind (arith, nat_tests))) r.1
 
 -- ---- rollbacks
 
@@ -317,7 +318,12 @@ module _ (s : ℕ) (old new : State) (name : List ℕ) (l : Level) (r : IsRunnin
       let none : did commits_txn s old.past ≡ false = ap (list_any commits_txn) r.0.1 in
       adds_one s (events.Begin s n l) old new (statements.Saving name true) (grind (arith, nat_tests)) refl refl refl adds (
         at_begun s old.past n l (stmt.Savepoint name) _ at,
-        (opened_begun s old.past n l kept, sym (level_nothing s old.past r.0.1) ∙ r.0.2, sym (own_nothing s old.past r.0.1) ∙ r.0.3, grind (arith, nat_tests, none)),
+        (
+          opened_begun s old.past n l kept,
+          sym (level_nothing s old.past r.0.1) ∙ r.0.2,
+          sym (own_nothing s old.past r.0.1) ∙ r.0.3,
+          grind (arith, nat_tests, none),
+        ),
       ) r.1
 
   pub lacks_opening : Stays s old new → Steps IsRunning s old new statements.Failed advance.NoMemory

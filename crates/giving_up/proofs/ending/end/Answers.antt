@@ -13,5 +13,6 @@ end-requires-clause-not_done g c = not_done c.args.session c.args.lists.now.past
 
 pub returns-clause-steps : goal.returns-clause-steps
 returns-clause-steps g c =
-    ended IsLeaving c.args.session c.args.lists.now c.end.new.self c.args.kept c.args.given (Failed false) c.requires.may.same c.requires.may.rows_alone c.requires.idle
+    ended IsLeaving c.args.session c.args.lists.now c.end.new.self c.args.kept c.args.given (Failed false) c.requires.may.same
+    c.requires.may.rows_alone c.requires.idle
     c.end.ensures

@@ -5,11 +5,13 @@ use Rattle.giving_up.proofs.ending.step_failed.Goals as goal
 
 pub roll_back-requires-clause-may : goal.roll_back-requires-clause-may
 roll_back-requires-clause-may g c =
-    may_roll_back c.args.session c.args.lists.now.past (subst (λ alone. IsFailed c.args.session alone c.args.lists.now.past) c.if-alone.true c.requires.leaving.0)
+    may_roll_back c.args.session c.args.lists.now.past
+    (subst (λ alone. IsFailed c.args.session alone c.args.lists.now.past) c.if-alone.true c.requires.leaving.0)
 
 pub roll_back-requires-clause-closing : goal.roll_back-requires-clause-closing
 roll_back-requires-clause-closing g c =
-    failed_closes c.args.session c.args.lists.now.past (subst (λ alone. IsFailed c.args.session alone c.args.lists.now.past) c.if-alone.true c.requires.leaving.0)
+    failed_closes c.args.session c.args.lists.now.past
+    (subst (λ alone. IsFailed c.args.session alone c.args.lists.now.past) c.if-alone.true c.requires.leaving.0)
 
 pub end-requires-clause-may : goal.end-requires-clause-may
 end-requires-clause-may g c =

@@ -32,7 +32,8 @@ commit-leaving-requires-clause-closing g c =
 pub roll_back-leaving-requires-clause-may : goal.roll_back-leaving-requires-clause-may
 roll_back-leaving-requires-clause-may g c =
     let a = c.requires.answered in
-    may_roll_back c.args.session c.args.lists.now.past a.stmt (subst (IsEarly c.args.lists.now.past c.args.session a.stmt) c.if-not-alone.false a.early) a.is_open
+    may_roll_back c.args.session c.args.lists.now.past a.stmt
+    (subst (IsEarly c.args.lists.now.past c.args.session a.stmt) c.if-not-alone.false a.early) a.is_open
 
 pub roll_back-leaving-requires-clause-closing : goal.roll_back-leaving-requires-clause-closing
 roll_back-leaving-requires-clause-closing g c =
