@@ -1,6 +1,6 @@
 -- A statement that was refused or given up takes its changes back, and its own transaction with them.
 use Rattle.std.proofs.Common.{◌≡◌, ℕ, ◌-◌, ◌<◌, ◌≤◌, true, false, eqb, Option, Some, None, List, [], ◌∷◌, ◌++◌, length, drop, zero, suc}
-use Rattle.std.proofs.Common.{refl, sym, ap, subst, ◌∙◌, inl, inr, arith}
+use Rattle.std.proofs.Common.{absurd, refl, sym, ap, subst, ◌∙◌, inl, inr, arith}
 use Rattle.std.proofs.lemmas.Bool.Decides.{nat_tests}
 use Rattle.std.proofs.lemmas.List.{length-append}
 use Rattle.std.specs.Prelude.{◌&&◌, is_none}
@@ -18,8 +18,8 @@ use Rattle.sql_history.specs.Endings.{BacksOut, RollsBack}
 use Rattle.sql_history.specs.Legal.{IsWriting, UndoesBy, MayUndo, RollsBackBy, MayRollBack, LeavesIt, MayLeaveOpen, IsWithin, is_alone}
 use Rattle.sql_history.specs.Waiting.{is_victim}
 use Rattle.law_past_agreement.specs.Order.{IsOfRow, IsUndoable}
-use Rattle.shared_lists.specs.declared.answers.Undone.{Undone}
-use Rattle.shared_lists.specs.declared.answers.Undone.TheVariants as undone
+use Rattle.shared_lists.specs.Answers.{Undone}
+use Rattle.store_api.specs.declared.stepped.Stepped.TheVariants as stepped
 use Rattle.shared_lists.specs.Tasks.{Task, Idle, MayTakeBack}
 use Rattle.shared_lists.specs.State.{State, task_of}
 use Rattle.shared_lists.specs.Steps.{TakesBack}
@@ -256,8 +256,9 @@ module _ (old new : State) (s : ℕ) (work : Work) (r : IsBackingOut old.past ol
       (subst (λ w. IsBackingOut old.past w s work) (sym same-writer) r, goes)
 
   pub backs_on : (answer : Undone) → TakesBack s (length (own s old.past) - 1) old new answer → Backs
-  backs_on undone.Went takes = unchanged takes.0.past_is takes.0.writer_is (inr (subst MayTakeBack (sym takes.1.1) tt, more))
-  backs_on undone.Undone takes = (
+  backs_on stepped.Went takes = unchanged takes.0.past_is takes.0.writer_is (inr (subst MayTakeBack (sym takes.1.1) tt, more))
+  backs_on (stepped.Hindered never) takes = absurd takes
+  backs_on (stepped.Done over) takes = (
     subst (λ h. IsBackingOut h new.writer s work) (sym takes.past_is)
         (subst (λ w. IsBackingOut (events.Undone s (length (own s old.past) - 1) ∷ old.past) w s work) (sym takes.writer_is)
         (backing_then old.past old.writer s work r more)),
@@ -269,12 +270,14 @@ module _ (old new : State) (s : ℕ) (work : Work) (r : IsBackingOut old.past ol
   went_back answer takes =
       (moves_takes_back s (length (own s old.past) - 1) old new answer takes, backs_on answer takes, starts_no_item answer takes) where
         starts_no_item : (answer : Undone) → TakesBack s (length (own s old.past) - 1) old new answer → started s new.past ≡ started s old.past
-        starts_no_item undone.Went takes = ap (started s) takes.0.past_is
-        starts_no_item undone.Undone takes = ap (started s) takes.past_is
+        starts_no_item stepped.Went takes = ap (started s) takes.0.past_is
+        starts_no_item (stepped.Hindered never) takes = absurd takes
+        starts_no_item (stepped.Done over) takes = ap (started s) takes.past_is
 
   pub nearer : (answer : Undone) → TakesBack s (length (own s old.past) - 1) old new answer
       → IsBelow (to_leave s new (BackingOut work)) (to_leave s old (BackingOut work))
-  nearer undone.Went takes = below_second 3 _ _ _ _ _ _ (ap (λ h. length (own s h)) takes.0.past_is) takes.2
-  nearer undone.Undone takes =
+  nearer stepped.Went takes = below_second 3 _ _ _ _ _ _ (ap (λ h. length (own s h)) takes.0.past_is) takes.2
+  nearer (stepped.Hindered never) takes = absurd takes
+  nearer (stepped.Done over) takes =
       below_first 3 _ _ _ _ _ _ (subst (λ (h : List Event). length (own s h) < length (own s old.past)) (sym takes.past_is)
       (fewer_stand s old.past (omega (arith, more))))

@@ -12,8 +12,9 @@ ghost use Rattle.giving_up.specs.Leaving.{IsLeaving};
 
 use crate::ending::{end, roll_back};
 use crate::leaving::{Leaving, Work};
-use shared_lists::{SharedLists, Undone};
+use shared_lists::SharedLists;
 use sql_lists::{Advance, SqlLists};
+use store_api::Stepped;
 
 pub fn step_backing<L: SharedLists>(
     work: Work,
@@ -44,7 +45,8 @@ fn take_back<L: SharedLists>(
     ensures nears { Nears to_leave session lists.old (Leaving.BackingOut work) lists.new result.0 result.1 }
 {
     match lists.undo(session) {
-        Undone::Went | Undone::Undone => (Leaving::BackingOut(work), Advance::Went),
+        Stepped::Went | Stepped::Done(()) => (Leaving::BackingOut(work), Advance::Went),
+        Stepped::Hindered(never) => match never {},
     }
 }
 

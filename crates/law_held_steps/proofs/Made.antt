@@ -7,9 +7,9 @@ use Rattle.row_changes.specs.Rows.{primary_of, table_of, place_of, row_steps, Is
 use Rattle.row_changes.specs.declared.row_edit.RowEdit.TheVariants.{Put, Remove}
 use Rattle.row_changes.specs.Edits.{change_of, FitsEdit, rows_put}
 use Rattle.row_changes.specs.declared.row_change.RowChange.TheVariants.{Record, Keys}
-use Rattle.row_changes.specs.declared.reached.Reached.TheVariants.{Went, Done, Hindered}
+use Rattle.row_changes.specs.Reached.{Went, Done, Hindered}
 use Rattle.row_changes.specs.{declared.row_edit.RowEdit.RowEdit, declared.record_change.RecordChange.RecordChange, declared.keys_change.KeysChange.KeysChange}
-use Rattle.row_changes.specs.{declared.row_change.RowChange.RowChange, declared.reached.Reached.Reached}
+use Rattle.row_changes.specs.{declared.row_change.RowChange.RowChange, Reached.Reached}
 use Rattle.law_past_agreement.specs.Order.{created}
 use Rattle.desks.specs.Desks.{Store, desk_at, doing_in, doing_at, started_in, started_at, with_doing, is_quiet_doing, is_undoing, HasRooms}
 use Rattle.desks.specs.{Holding.IsHeld, Holding.RowsHeld, Holding.SearchHeld, Holding.AreFew, Holding.IsLastOf, Holding.IsLastIfTold, declared.desk.Desk.Desk}

@@ -1,7 +1,7 @@
 -- A change is taken back: its undo record is read, and with each step of putting back less of it is left. Until it is done, pairs of keys and kept
 -- versions alone change.
 use Rattle.shared_lists.specs.Tasks as tasks
-use Rattle.shared_lists.specs.declared.answers.Undone.TheVariants as undone
+use Rattle.store_api.specs.declared.stepped.Stepped.TheVariants as stepped
 use Rattle.std.proofs.Common.{[], ◌≡◌, ◌≤◌, true, false, List, ◌∷◌, length, Some, refl, sym, ap, subst, arith, ℕ, Option, None, ◌≢◌, ⊎_elim, ◌∙◌, slice_get}
 use Rattle.std.proofs.Common.{Bool, ◌+◌, ◌*◌, ◌^◌, ◌<◌, inl, inr, ◌⊎◌, cond, ◌-◌, map, eq-eqb}
 use Rattle.std.proofs.{lemmas.Bool.cases_eq, lemmas.Bool.Decides.nat_tests, lemmas.List.length-set, lemmas.List.set-set}
@@ -746,7 +746,7 @@ module _ (s : ℕ) {store : Store} (held : IsHeld store) (busy : doing_at s stor
 
         -- ---- callers see the entry of the history
 
-        pub shows_undone : TakesBackIn s keep (lists_of store) (lists_of taken) undone.Undone
+        pub shows_undone : TakesBackIn s keep (lists_of store) (lists_of taken) (stepped.Done tt)
         shows_undone = record {
           takes =
               shows_now store taken refl by_me held.quiet gives.others (ap (λ (x : WorldState). x.names) is_then)
@@ -777,7 +777,7 @@ ready_to_go schemas left other is = absurd is
 module _ (s keep : ℕ) {store : Store} (held : IsHeld store) where
   seen_went : (new : WorldState) (later : List Desk) (now : ℕ) → store.writer ≡ Some s → ((t : ℕ) → t ≢ s → desk_at t later ≡ desk_at t store.desks)
       → ChangesPairsAlone store.world new → task_at new (desk_at s later) ≡ tasks.Undoing now → now < undo_to_go (task_of s (lists_of store).state)
-      → TakesBackIn s keep (lists_of store) (lists_of (record store { world = new; desks = later })) undone.Went
+      → TakesBackIn s keep (lists_of store) (lists_of (record store { world = new; desks = later })) stepped.Went
   seen_went new later now by_me others rest shows nearer =
       let then_store : Store = record store { world = new; desks = later } in
       let task : task_of s (lists_of then_store).state ≡ tasks.Undoing now = task_is s then_store ∙ shows in
@@ -796,7 +796,7 @@ module _ (s keep : ℕ) {store : Store} (held : IsHeld store) where
   -- the record is read
   pub shows_begun : (new : WorldState) (read : UndoRoom) (there : Bool) {desk : Desk} → desk_at s store.desks ≡ Some desk → IsReady desk.doing
       → MayCome store.world.past (Undone s keep) → IsInMemory new → ReadsLast s s (read_into read) there store.world new Done
-      → TakesBackIn s keep (lists_of store) (lists_of (record store { world = new; desks = with_read s read store.desks })) undone.Went
+      → TakesBackIn s keep (lists_of store) (lists_of (record store { world = new; desks = with_read s read store.desks })) stepped.Went
   shows_begun new read there {desk} at ready may memory reads =
       let gives = is_given s (λ d. record d { undo = read; doing = Undoing }) store.desks at refl in
       let left = left_in store.world (Some desk) in
@@ -809,7 +809,7 @@ module _ (s keep : ℕ) {store : Store} (held : IsHeld store) where
   -- a step is made
   pub shows_went : (busy : doing_at s store.desks ≡ Undoing) (new : WorldState) (next : WorkRoom) → IsInMemory store.world → IsInMemory new
       → HasPutBack s (read_into (undo s held busy)) (room s held busy) next store.world new Step
-      → TakesBackIn s keep (lists_of store) (lists_of (record store { world = new; desks = with_room s next store.desks })) undone.Went
+      → TakesBackIn s keep (lists_of store) (lists_of (record store { world = new; desks = with_room s next store.desks })) stepped.Went
   shows_went busy new next memory later put =
       let at = (goes_back s held busy).at in
       let was = desk s held busy in

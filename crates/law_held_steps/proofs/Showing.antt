@@ -1,6 +1,7 @@
 -- What callers see of desks: entries that change no row, what sessions set, searches of which places alone have moved, and changes of rows.
 use Rattle.shared_lists.specs.Tasks as tasks
-use Rattle.shared_lists.specs.declared.answers.Changed.TheVariants as answers
+use Rattle.store_api.specs.declared.stepped.Stepped.TheVariants as stepped
+use Rattle.shared_lists.specs.declared.answers.ChangePart.TheVariants as part
 use Rattle.std.proofs.Common.{◌≡◌, ◌≢◌, ℕ, zero, suc, Option, Some, List, [], ◌∷◌, length, refl, sym, ap, ◌∙◌, ◌<◌, subst, ◌+◌, ◌*◌, ◌≤◌, ◌^◌, true, false}
 use Rattle.std.proofs.Common.{None, arith}
 use Rattle.std.proofs.{lemmas.List.length-set, lemmas.List.map-set, lemmas.List.set-get_or, lemmas.Bool.true≢false}
@@ -221,7 +222,7 @@ module _ {s : ℕ} {store : Store} {new : WorldState} (held : IsHeld store) (min
     was_asked = ap asked was_shown
 
     pub went_shown : {next : RowChange} → IsNearer old new change next
-        → Changes s (lists_of store).state (lists_of (then_does (Changing next))).state answers.Went
+        → Changes s (lists_of store).state (lists_of (then_does (Changing next))).state stepped.Went
     went_shown {next} nearer =
         let now = task_then (Changing next) refl in
         record {
@@ -233,7 +234,7 @@ module _ {s : ℕ} {store : Store} {new : WorldState} (held : IsHeld store) (min
         }
 
     pub entered_shown : {next : RowChange} → IsEntered s old new change next
-        → Changes s (lists_of store).state (lists_of (then_does (Changing next))).state answers.Entered
+        → Changes s (lists_of store).state (lists_of (then_does (Changing next))).state (stepped.Done part.Record)
     entered_shown {next} entered =
         let now = task_then (Changing next) refl in
         record {
@@ -245,7 +246,7 @@ module _ {s : ℕ} {store : Store} {new : WorldState} (held : IsHeld store) (min
         }
 
     pub done_shown : AddsNothing old new → change_in change ≡ None
-        → Changes s (lists_of store).state (lists_of (then_does Nothing)).state answers.Done
+        → Changes s (lists_of store).state (lists_of (then_does Nothing)).state (stepped.Done part.Keys)
     done_shown adds told = (was_asked ∙ told, now_shown Nothing refl adds.past refl)
 
     left_of : (c : RowChange) → shown new.schemas 0 (given_up c) ≡ left_by (change_in c)
@@ -257,12 +258,12 @@ module _ {s : ℕ} {store : Store} {new : WorldState} (held : IsHeld store) (min
     given_undoes_not (Keys c) = refl
 
     pub given_up_shown : AddsNothing old new
-        → Changes s (lists_of store).state (lists_of (then_does (given_up change))).state answers.NoMemory
+        → Changes s (lists_of store).state (lists_of (then_does (given_up change))).state (stepped.Hindered (record {}))
     given_up_shown adds = now_shown (given_up change) (given_undoes_not change) adds.past (left_of change ∙ ap left_by (sym was_asked))
 
     -- the rows that the history holds more are those of the change that was asked for
     pub rows_shown : {next : RowChange} → IsEntered s old new change next
-        → new.rows ≡ old.rows + rows_entered answers.Entered (task_of s (lists_of store).state)
+        → new.rows ≡ old.rows + rows_entered (stepped.Done part.Record) (task_of s (lists_of store).state)
     rows_shown entered = entered.rows ∙ ap (λ c. old.rows + rows_of_change c) (sym (was_asked ∙ entered.was))
 
 -- ---- a change that begins

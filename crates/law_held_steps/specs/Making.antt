@@ -4,8 +4,8 @@ use Rattle.inno_db.specs.declared.change.Change.{Change}
 use Rattle.inno_model.specs.declared.event.Event.TheVariants.{Changed}
 use Rattle.world.specs.State.{WorldState, Session}
 use Rattle.row_changes.specs.{declared.row_change.RowChange.RowChange, declared.row_change.RowChange.TheVariants.Record}
-use Rattle.row_changes.specs.{declared.row_change.RowChange.TheVariants.Keys, declared.reached.Reached.Reached, declared.reached.Reached.TheVariants.Went}
-use Rattle.row_changes.specs.{declared.reached.Reached.TheVariants.Done, declared.reached.Reached.TheVariants.Hindered, Rows.row_steps, Rows.table_of}
+use Rattle.row_changes.specs.{declared.row_change.RowChange.TheVariants.Keys, Reached.Reached, Reached.Went}
+use Rattle.row_changes.specs.{Reached.Done, Reached.Hindered, Rows.row_steps, Rows.table_of}
 use Rattle.shared_lists.specs.Steps.{rows_of_change}
 use Rattle.desks.specs.{Desks.Store, declared.desk.Doing.Doing, declared.desk.Doing.TheVariants.Nothing, declared.desk.Doing.TheVariants.Changing}
 use Rattle.desks.specs.{declared.desk.Doing.TheVariants.Lagging, Desks.with_doing, Shown.change_in, Undoing.keys_if, Holding.IsHeld}

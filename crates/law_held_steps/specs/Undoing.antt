@@ -6,7 +6,7 @@ use Rattle.row_versions.specs.{declared.place.Place.Place, Chains.Chains}
 use Rattle.law_stored_rows.specs.{Tables.Said}
 use Rattle.undo_apply.specs.{declared.work_room.WorkRoom.WorkRoom, Stages.IsPuttingBack, Stages.PutsBack}
 use Rattle.desks.specs.{Holding.IsLast, declared.desk.Doing.Doing, declared.desk.Doing.TheVariants.Nothing, declared.desk.Doing.TheVariants.Lagging}
-use Rattle.shared_lists.specs.{State.Lists, Steps.TakesBack, declared.answers.Undone.Undone}
+use Rattle.shared_lists.specs.{State.Lists, Steps.TakesBack, Answers.Undone}
 use Rattle.sql_history.specs.{Settings.Setting}
 
 -- the session's newest change is one of a row, and its undo record is the newest of its log

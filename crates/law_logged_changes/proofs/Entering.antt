@@ -1,5 +1,5 @@
 -- Each step of a change: those that add no entry, and the one that adds its entry.
-use Rattle.row_changes.specs.declared.record_change.RecordReached.TheVariants as records
+use Rattle.row_changes.specs.RecordReached as records
 use Rattle.law_logged_changes.proofs.Leaving.{stay_kept, work_again, agrees_beside}
 use Rattle.std.proofs.Common.{◌≡◌, ⊎_elim, ℕ, ◌^◌, ◌<◌, ◌==◌, Bool, true, false, List, ◌∷◌, length, Option, Some, refl, sym, ap, subst, ◌∙◌, arith}
 use Rattle.std.proofs.{lemmas.Bool.cases_eq, lemmas.Option.slice_get_within}
@@ -17,11 +17,11 @@ use Rattle.law_world_agreement.specs.{Agreement.Agrees, Steps.IsChangedBy, Steps
 use Rattle.law_world_agreement.proofs.{Changing.changed_agrees, Entries.unentered_agrees}
 use Rattle.row_changes.specs.Records.{Records, IsChangingRecord, ChangesRecord, id_for}
 use Rattle.row_changes.specs.Rows.{IsChangingRow, row_after, primary_of, place_of, PushesEdit, ChangesRow}
-use Rattle.row_changes.specs.declared.reached.Reached.TheVariants.{Went, Done, Hindered}
+use Rattle.row_changes.specs.Reached.{Went, Done, Hindered}
 use Rattle.row_changes.specs.{declared.row_edit.RowEdit.RowEdit, declared.row_edit.RowEdit.TheVariants.Remove, declared.row_edit.RowEdit.TheVariants.Put}
 use Rattle.row_changes.specs.{declared.row_change.RowChange.TheVariants.Keys, declared.row_change.RowChange.TheVariants.Record}
 use Rattle.row_changes.specs.{declared.record_change.RecordChange.RecordChange, Keys.StaysBesideKeys, declared.keys_change.KeysChange.KeysChange}
-use Rattle.row_changes.specs.{declared.row_change.RowChange.RowChange, Edits.change_of, Edits.rows_put, Asides.StepsAside, declared.reached.Reached.Reached}
+use Rattle.row_changes.specs.{declared.row_change.RowChange.RowChange, Edits.change_of, Edits.rows_put, Asides.StepsAside, Reached.Reached}
 use Rattle.row_changes.proofs.{Ids.one_work, Sessions.one_session, Pushed.kept_more, Keying.beside_stay}
 use Rattle.law_logged_changes.specs.Logs.{IsAloneAt}
 use Rattle.law_logged_changes.specs.GoingOn.{StaysOpen, KeepsBeside, EntersAgreed, GoesOnAgreed, StaysAgreed, IsAloneIn}

@@ -1,5 +1,5 @@
 -- The step that puts a version logs it.
-use Rattle.row_changes.specs.declared.record_change.RecordReached.TheVariants as records
+use Rattle.row_changes.specs.RecordReached as records
 use Rattle.row_changes.proofs.Pushed.{kept_over, kept_more, key_at, code_of_edit, plain, none_of, written_pointer, small_id}
 use Rattle.row_changes.proofs.Telling.{pairs_told, puts_pairs, tells}
 use Rattle.row_changes.proofs.{Ids.one_work, Sessions.one_session, Sessions.one_found, Changing.key_short, Changing.value_short, Keying.beside_stay}
@@ -14,10 +14,10 @@ use Rattle.world.specs.{State.WorldState, State.Session, State.Work, State.Logge
 use Rattle.row_changes.specs.Records.{IsTable, Records, PutsOver, id_for, IsChangingRecord, RecordsEdit, PutsFirst, PutsVersion, ChangesRecord, undo_of_new}
 use Rattle.row_changes.specs.Records.{undo_of_former}
 use Rattle.row_changes.specs.{Rows.primary_of, Rows.place_of, Rows.IsChangingRow, Rows.ChangesRow, Edits.change_of, Edits.rows_put, Edits.version_by}
-use Rattle.row_changes.specs.{declared.reached.Reached.TheVariants.Went, declared.reached.Reached.TheVariants.Done}
-use Rattle.row_changes.specs.{declared.reached.Reached.TheVariants.Hindered, Told.HasRowsAt, declared.record_change.RecordChange.RecordChange}
+use Rattle.row_changes.specs.{Reached.Went, Reached.Done}
+use Rattle.row_changes.specs.{Reached.Hindered, Told.HasRowsAt, declared.record_change.RecordChange.RecordChange}
 use Rattle.row_changes.specs.{declared.row_change.RowChange.TheVariants.Record, declared.row_change.RowChange.TheVariants.Keys}
-use Rattle.row_changes.specs.{declared.reached.Reached.Reached, declared.row_change.RowChange.RowChange, Keys.StaysBesideKeys}
+use Rattle.row_changes.specs.{Reached.Reached, declared.row_change.RowChange.RowChange, Keys.StaysBesideKeys}
 use Rattle.undo_apply.specs.Standing.{TellsOf, LeadsBack, was_before}
 use Rattle.law_logged_changes.specs.Logs.{RecordsAt, records_of, taken_back, Stands, LogStands, IsLogOf, LogsAgree, IsAloneAt}
 use Rattle.law_logged_changes.specs.{Steps.HasLogged, Steps.LeavesRecords, Steps.LeavesOtherRows, GoingOn.IsAloneIn}

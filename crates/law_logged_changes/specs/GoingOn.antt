@@ -6,12 +6,12 @@ use Rattle.row_versions.specs.Chains.{Chains}
 use Rattle.law_stored_rows.specs.{Records.KeepsMore, Tables.Said}
 use Rattle.world.specs.State.{WorldState, Session, Work, HasWork}
 use Rattle.law_world_agreement.specs.Agreement.{Agrees}
-use Rattle.row_changes.specs.{declared.record_change.RecordChange.RecordChange, declared.keys_change.KeysChange.KeysChange, declared.reached.Reached.Reached}
+use Rattle.row_changes.specs.{declared.record_change.RecordChange.RecordChange, declared.keys_change.KeysChange.KeysChange, Reached.Reached}
 use Rattle.row_changes.specs.{declared.row_change.RowChange.RowChange, Edits.change_of, Edits.rows_put, Told.HasRowsAt, Rows.PushesEdit, Rows.IsChangingRow}
 use Rattle.row_changes.specs.Rows.{place_of, table_of}
 use Rattle.law_logged_changes.specs.Logs.{IsAloneAt}
 use Rattle.row_changes.specs.declared.row_change.RowChange.TheVariants.{Record, Keys}
-use Rattle.row_changes.specs.declared.reached.Reached.TheVariants.{Went, Done, Hindered}
+use Rattle.row_changes.specs.Reached.{Went, Done, Hindered}
 
 -- ---- what is kept beside
 

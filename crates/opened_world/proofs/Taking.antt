@@ -19,12 +19,12 @@ use Rattle.world.specs.Stores.{StoreGoes}
 use Rattle.world.proofs.Stores.{store_goes_on}
 use Rattle.world.specs.Indexes.{Changes}
 use Rattle.row_changes.specs.declared.keys_change.KeysChange.{KeysChange}
-use Rattle.row_changes.specs.declared.reached.Reached.TheVariants.{Went, Done}
+use Rattle.row_changes.specs.Reached.{Went, Done}
 use Rattle.row_changes.specs.Edits.{IsRowFor}
 use Rattle.row_changes.specs.Told.{HasRows}
 use Rattle.row_changes.proofs.Alone.{alone_over}
 use Rattle.law_stored_rows.specs.Tables.{what_is_there}
-use Rattle.row_changes.specs.{Keys.IsChangingKeys, Keys.ChangesKeys, declared.reached.Reached.Reached}
+use Rattle.row_changes.specs.{Keys.IsChangingKeys, Keys.ChangesKeys, Reached.Reached}
 use Rattle.opened_world.specs.Laid.{PutsNewRecord}
 use Rattle.row_changes.specs.Awaited.{AwaitsIn, IsOfTable}
 

@@ -21,10 +21,10 @@ use inno_db::{key_of_row, to_value};
 use inno_types::{Bytes, Row, Schema};
 use key_codec::put_key;
 use list_world::ListWorld;
-use row_changes::{Came, KeysChange};
+use row_changes::KeysChange;
 use row_codec::encode;
 use std::alloc::Global;
-use store_api::{Move, NoMemory, Version};
+use store_api::{Move, NoMemory, Stepped, Version};
 use world::{World, index_number};
 
 /// Nobody else uses the world.
@@ -135,9 +135,9 @@ pub fn enter_keys(
     };
     for _ in 0..u32::MAX {
         match change.advance(alloc, world, ACTOR) {
-            Came::Went => {}
-            Came::Done => return Ok(()),
-            Came::Hindered(_) => return Err(NoMemory),
+            Stepped::Went => {}
+            Stepped::Done(()) => return Ok(()),
+            Stepped::Hindered(_) => return Err(NoMemory),
         }
     }
     Err(NoMemory)

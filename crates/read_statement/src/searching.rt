@@ -8,8 +8,9 @@ ghost use Rattle.read_statement.specs.Running.{IsRunning};
 
 use crate::machine::{Found, Read, ReadStatement};
 use giving_up::Leaving;
-use shared_lists::{Searched, SharedLists};
+use shared_lists::SharedLists;
 use sql_lists::{Advance, SqlLists};
+use store_api::{NoMemory, Stepped};
 
 /// Makes one step of the search, whose rows are kept when it is over.
 pub fn step_searching<L: SharedLists>(
@@ -26,8 +27,8 @@ pub fn step_searching<L: SharedLists>(
     // each change is of a table that is there
     let _ = lists.history();
     match lists.search(session) {
-        Searched::Went => Advance::Went,
-        Searched::Found(rows) => {
+        Stepped::Went => Advance::Went,
+        Stepped::Done(rows) => {
             let Read { stmt, table, alone } = statement.read();
             *statement = ReadStatement::Found(Found {
                 stmt,
@@ -37,7 +38,7 @@ pub fn step_searching<L: SharedLists>(
             });
             Advance::Went
         }
-        Searched::NoMemory => {
+        Stepped::Hindered(NoMemory) => {
             let read = statement.read();
             let alone = read.alone;
             drop(read);

@@ -9,10 +9,10 @@ use Rattle.world.specs.State.{WorldState}
 use Rattle.row_changes.specs.{declared.keys_change.KeysChange.KeysChange, declared.record_change.RecordChange.RecordChange, Edits.IsKeyAt, Keys.IsChangingKeys}
 use Rattle.row_changes.specs.{Told.HasRows, Records.ChangesRecord}
 use Rattle.row_changes.specs.declared.row_change.RowChange.TheVariants.{Record, Keys}
-use Rattle.row_changes.specs.declared.reached.Reached.TheVariants.{Went, Done}
+use Rattle.row_changes.specs.Reached.{Went, Done}
 use Rattle.row_changes.specs.Rows.{IsChangingRowAlone, ChangesRowAlone, PushesEdit, place_of, primary_of}
 use Rattle.row_changes.proofs.{Sessions.one_found, Pushed.key_at, Telling.one_value, Telling.rows_whole}
-use Rattle.row_changes.specs.declared.record_change.RecordReached.TheVariants as records
+use Rattle.row_changes.specs.RecordReached as records
 
 -- the same change, where the same is said beside its place
 pub keys_beside : (chains : Chains) (beside now : Said) (state : WorldState) (change : KeysChange) (p : IsChangingKeys chains beside state change)

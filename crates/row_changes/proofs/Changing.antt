@@ -14,8 +14,8 @@ use Rattle.world.proofs.Stores.{store_stays}
 use Rattle.row_changes.specs.{declared.record_change.RecordChange.RecordChange, declared.record_change.RecordStage.RecordStage, Entries.IsPutting}
 use Rattle.row_changes.specs.{declared.row_edit.RowEdit.RowEdit, Entering.Enters, Entries.IsThere, Entries.PutsEntry, Asides.IsReadied, Asides.StepsAside}
 use Rattle.row_changes.specs.{declared.entry_put.EntryPut.EntryPut, declared.row_edit.RowEdit.TheVariants.Put, declared.row_edit.RowEdit.TheVariants.Remove}
-use Rattle.row_changes.specs.{Pairs.RowsStay, Pairs.Hinders, declared.record_change.RecordReached.TheVariants.Went}
-use Rattle.row_changes.specs.{declared.record_change.RecordReached.TheVariants.Hindered, declared.record_change.RecordReached.TheVariants.Recorded}
+use Rattle.row_changes.specs.{Pairs.RowsStay, Pairs.Hinders, RecordReached.Went}
+use Rattle.row_changes.specs.{RecordReached.Hindered, RecordReached.Recorded}
 use Rattle.row_changes.specs.Records.{Decodes, PutsOver, IsListed, IsFormer, StageHolds, IsChangingRecord, GoesOnWithRecord, HindersRecord, IsSpoiled}
 use Rattle.row_changes.specs.Records.{ChangesRecord, record_steps, when_missed, when_found, HasRoom, Records, id_for, undo_of_new, undo_of_former, row_found}
 use Rattle.row_changes.specs.Edits.{FindsRow, LacksRow, change_of, rows_put, FitsEdit, version_by}
@@ -30,7 +30,7 @@ use Rattle.law_stored_rows.proofs.Coding.{short_key, short_value}
 use Rattle.key_codec.specs.Keys.{key_width}
 use Rattle.key_codec.proofs.Lengths.{length-key_code}
 use Rattle.store_api.specs.declared.moves.Move.TheVariants as moves
-use Rattle.row_changes.specs.declared.reached.Reached.TheVariants as reached
+use Rattle.row_changes.specs.Reached as reached
 use Rattle.row_changes.specs.declared.entry_put.PutPhase.TheVariants as phases
 
 -- what is told of pairs stays told, if pairs are told still

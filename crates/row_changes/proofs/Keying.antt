@@ -17,7 +17,7 @@ use Rattle.law_stored_rows.specs.Steps.{PutsEntry as PutsStored}
 use Rattle.row_changes.specs.{Told.HasRowsAt, Told.AreRowsAs, Edits.IsRowFor, declared.entry_put.PutPhase.PutPhase}
 use Rattle.row_changes.specs.declared.entry_put.PutPhase.TheVariants.{Look}
 use Rattle.row_changes.specs.{declared.entry_put.EntryPut.EntryPut, declared.keys_change.KeysChange.KeysChange, declared.key_entries.KeyEntries.KeyEntries}
-use Rattle.row_changes.specs.{declared.reached.Reached.TheVariants.Hindered, Pairs.Hinders, Pairs.RowsStay, Pairs.PutsPair}
+use Rattle.row_changes.specs.{Reached.Hindered, Pairs.Hinders, Pairs.RowsStay, Pairs.PutsPair}
 use Rattle.row_changes.specs.Keys.{StaysBesideKeys, gone, SaySoFar, said_next, keys_next, without_row, keys_steps, HasRowsSoFar, ChangesKeys, IsEntering}
 use Rattle.row_changes.specs.Keys.{IsChangingKeys, GoesOnWithKeys, value_stays, AreEntries, StayBetween, IsEntryIn, IsEntryFor}
 use Rattle.row_changes.specs.Entries.{marked, unmarked, PutsEntry, GoesOnPutting, HindersEntry, put_steps}

@@ -18,8 +18,8 @@ use Rattle.law_stored_rows.proofs.Tables.{pushed_here, coded_still}
 use Rattle.row_changes.specs.{declared.row_edit.RowEdit.RowEdit, declared.keys_change.KeysChange.KeysChange, declared.row_edit.RowEdit.TheVariants.Remove}
 use Rattle.row_changes.specs.{Told.HasRowsBeside, Told.HasRowsAt}
 use Rattle.row_changes.specs.{Asides.StepsAside, Records.PutsFirst, Records.PutsOver, Records.IsTable, Records.PutsVersion, Records.RecordsEdit}
-use Rattle.row_changes.specs.{declared.reached.Reached.TheVariants.Went, declared.row_change.RowChange.RowChange, declared.row_edit.RowEdit.TheVariants.Put}
-use Rattle.row_changes.specs.{declared.reached.Reached.TheVariants.Hindered, declared.reached.Reached.Reached, declared.row_change.RowChange.TheVariants.Keys}
+use Rattle.row_changes.specs.{Reached.Went, declared.row_change.RowChange.RowChange, declared.row_edit.RowEdit.TheVariants.Put}
+use Rattle.row_changes.specs.{Reached.Hindered, Reached.Reached, declared.row_change.RowChange.TheVariants.Keys}
 use Rattle.row_changes.specs.{declared.record_change.RecordStage.RecordStage, Records.IsChangingRecord, declared.row_change.RowChange.TheVariants.Record}
 use Rattle.row_changes.specs.{declared.record_change.RecordChange.RecordChange, declared.record_change.RecordStage.TheVariants.Enter, Records.undo_of_former}
 use Rattle.row_changes.specs.{Keys.IsChangingKeys, Records.id_for, Records.GoesOnWithRecord, Records.ChangesRecord, Records.record_steps}
@@ -29,7 +29,7 @@ use Rattle.std.proofs.lemmas.Bool.{cases_eq, cond_both}
 use Rattle.world.specs.{State.WorldState, State.Session, State.Work, State.HasWork, Indexes.KeepsVersion, Told.pairs_of, Told.IsTold}
 use Rattle.row_changes.proofs.{Sessions.one_found, Sessions.one_session, Ids.one_work}
 use Rattle.row_changes.proofs.Telling.{HasPut, told_if, rows_if, pairs_told, puts_pairs, tells, coded_again}
-use Rattle.row_changes.specs.declared.record_change.RecordReached.TheVariants as records
+use Rattle.row_changes.specs.RecordReached as records
 
 -- ---- the version and its place
 

@@ -3,9 +3,9 @@ use Rattle.std.specs.Prelude.{◌≡◌, ℕ, ◌<◌, ◌≤◌, Bool, true, fa
 use Rattle.store_api.specs.{declared.moves.Move.Move, declared.moves.Move.TheVariants.End}
 use Rattle.entries.specs.{Pairs.value_of, Index.Index, Index.Told}
 use Rattle.world.specs.State.{WorldState, IsIndex}
-use Rattle.row_changes.specs.{declared.reached.Reached.Reached, declared.entry_put.EntryPut.EntryPut, declared.entry_put.PutPhase.PutPhase}
+use Rattle.row_changes.specs.{Reached.Reached, declared.entry_put.EntryPut.EntryPut, declared.entry_put.PutPhase.PutPhase}
 use Rattle.row_changes.specs.{declared.entry_mark.EntryMark.EntryMark, Pairs.RowsStay, Pairs.PutsPair, Pairs.Hinders}
-use Rattle.row_changes.specs.declared.reached.Reached.TheVariants.{Went, Done, Hindered}
+use Rattle.row_changes.specs.Reached.{Went, Done, Hindered}
 use Rattle.row_changes.specs.declared.entry_put.PutPhase.TheVariants.{Look, Unmark, Insert}
 
 -- the value of an entry is its mark

@@ -4,9 +4,9 @@ use Rattle.inno_types.specs.{declared.value.Value.Value, declared.value.Column.C
 use Rattle.key_codec.specs.Keys.{entry_code}
 use Rattle.law_stored_rows.specs.{Entries.value_in, Entries.is_same_value, Edits.clustered_index, Edits.key_index, Tables.Said, Tables.SayTheSameBut}
 use Rattle.row_changes.specs.{declared.key_entries.KeyEntries.KeyEntries, declared.entry_put.EntryPut.EntryPut, declared.entry_put.PutPhase.TheVariants.Look}
-use Rattle.row_changes.specs.{declared.keys_change.KeysChange.KeysChange, declared.reached.Reached.Reached, Pairs.RowsStay, Entries.IsPutting}
+use Rattle.row_changes.specs.{declared.keys_change.KeysChange.KeysChange, Reached.Reached, Pairs.RowsStay, Entries.IsPutting}
 use Rattle.row_changes.specs.{Entries.put_steps, Entries.HindersEntry, Edits.IsRowFor, Edits.IsKeyAt, Records.IsTable, Told.AreRowsAs, Told.HasRowsAt}
-use Rattle.row_changes.specs.declared.reached.Reached.TheVariants.{Went, Done, Hindered}
+use Rattle.row_changes.specs.Reached.{Went, Done, Hindered}
 use Rattle.store_api.specs.declared.moves.Move.{Move}
 use Rattle.entries.specs.Index.{AreKept}
 use Rattle.row_versions.specs.{Versions.Stays, declared.place.Place.Place, declared.version.Version.Version, Chains.Chains, Chains.versions_at, Chains.newest}

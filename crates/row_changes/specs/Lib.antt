@@ -8,4 +8,6 @@ pub mod Told
 pub mod Keys
 pub mod Rows
 pub mod Awaited
+pub mod Reached
+pub mod RecordReached
 pub mod InPlace

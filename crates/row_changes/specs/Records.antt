@@ -11,9 +11,9 @@ use Rattle.inno_model.specs.declared.event.Event.TheVariants.{Changed}
 use Rattle.entries.specs.{Pairs.value_of, Index.Index, Index.Told, Index.Goes, Index.AreKept}
 use Rattle.txn_table.specs.Txns.{Txns, is_there, id_at, with_id}
 use Rattle.world.specs.{State.WorldState, State.Session, State.Work, State.Logged, State.HasWork, Stores.StoreGoes, Indexes.KeepsIf, Undoing.MakesRoom}
-use Rattle.row_changes.specs.{declared.record_change.RecordChange.RecordChange, declared.record_change.RecordReached.RecordReached, Asides.StepsAside}
+use Rattle.row_changes.specs.{declared.record_change.RecordChange.RecordChange, RecordReached.RecordReached, Asides.StepsAside}
 use Rattle.row_changes.specs.{declared.record_change.RecordStage.RecordStage, declared.row_edit.RowEdit.RowEdit, Entries.IsThere, Pairs.Hinders}
-use Rattle.row_changes.specs.declared.record_change.RecordReached.TheVariants.{Went, Recorded, Hindered}
+use Rattle.row_changes.specs.RecordReached.{Went, Recorded, Hindered}
 use Rattle.row_changes.specs.declared.row_edit.RowEdit.TheVariants.{Put, Remove}
 use Rattle.row_changes.specs.declared.record_change.RecordStage.TheVariants.{Enter, Room, Find, Insert, Replace}
 use Rattle.row_changes.specs.Edits.{change_of, rows_put, FitsEdit, IsPut, FindsRow, version_by, LacksRow}

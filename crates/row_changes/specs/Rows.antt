@@ -7,12 +7,12 @@ use Rattle.row_versions.specs.{declared.place.Place.Place, Chains.Chains, Chains
 use Rattle.law_stored_rows.specs.Tables.{Said, what_is_there}
 use Rattle.world.specs.State.{WorldState, Session, Work, HasWork}
 use Rattle.row_changes.specs.{declared.row_edit.RowEdit.RowEdit, declared.row_edit.RowEdit.TheVariants.Put, declared.row_edit.RowEdit.TheVariants.Remove}
-use Rattle.row_changes.specs.{declared.record_change.RecordChange.RecordChange, declared.row_change.RowChange.RowChange, declared.reached.Reached.Reached}
+use Rattle.row_changes.specs.{declared.record_change.RecordChange.RecordChange, declared.row_change.RowChange.RowChange, Reached.Reached}
 use Rattle.row_changes.specs.{Pairs.RowsStay, Asides.StepsAside, Told.HasRowsAt, Keys.IsChangingKeys, Keys.GoesOnWithKeys, Keys.HindersKeys, Keys.keys_steps}
 use Rattle.row_changes.specs.declared.row_change.RowChange.TheVariants.{Record, Keys}
-use Rattle.row_changes.specs.declared.reached.Reached.TheVariants.{Went, Done, Hindered}
+use Rattle.row_changes.specs.Reached.{Went, Done, Hindered}
 use Rattle.row_changes.specs.Records.{IsTable, IsChangingRecord, GoesOnWithRecord, HindersRecord, ChangesRecord, record_steps, id_for}
-use Rattle.row_changes.specs.declared.record_change.RecordReached.TheVariants as records
+use Rattle.row_changes.specs.RecordReached as records
 
 -- the row that readers of the newest rows find after it
 abbrev pub row_after : RowEdit → Option (List Value)

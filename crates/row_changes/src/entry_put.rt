@@ -5,10 +5,9 @@ ghost use Rattle.row_changes.specs.Entries.{IsPutting, PutsEntry};
 ghost use Rattle.row_changes.specs.Awaited.{AwaitsAt};
 ghost use Rattle.row_changes.specs.InPlace.{reached_at};
 
-use crate::reached::Came;
 use inno_types::Bytes;
 use std::alloc::Global;
-use store_api::{MOST_BYTES_OF_VALUE, Move};
+use store_api::{MOST_BYTES_OF_VALUE, Move, Stepped};
 use world::World;
 
 /// The value of an entry that is its newest row's.
@@ -45,7 +44,7 @@ impl EntryPut {
     }
 
     /// One step. It asks that nobody else puts or removes this entry between the steps.
-    pub fn step<W: World>(&mut self, alloc: Global, world: &mut W, actor: u32) -> Came
+    pub fn step<W: World>(&mut self, alloc: Global, world: &mut W, actor: u32) -> Stepped<(), Move>
         requires { IsPutting (W.state world.old) self.old }
         ensures puts { PutsEntry actor (W.state world.old) (W.state world.new) self.old (reached_at self.new result) }
         ensures awaits { AwaitsAt actor self.old.index (W.state world.old) (W.state world.new) }
@@ -57,38 +56,38 @@ impl EntryPut {
         }
     }
 
-    fn look<W: World>(&mut self, alloc: Global, world: &mut W, actor: u32) -> Came
+    fn look<W: World>(&mut self, alloc: Global, world: &mut W, actor: u32) -> Stepped<(), Move>
         requires putting { IsPutting (W.state world.old) self.old }
         requires phase { self.old.phase ≡ PutPhase.Look }
         ensures puts { PutsEntry actor (W.state world.old) (W.state world.new) self.old (reached_at self.new result) }
         ensures awaits { AwaitsAt actor self.old.index (W.state world.old) (W.state world.new) }
     {
         let Ok(mut mark) = Vec::with_capacity(alloc, MOST_BYTES_OF_VALUE) else {
-            return Came::Hindered(Move::NoMemory);
+            return Stepped::Hindered(Move::NoMemory);
         };
         match world.fetch(self.index, actor, &self.entry, &mut mark) {
             Move::Done => self.then(PutPhase::Unmark),
             Move::End => self.then(PutPhase::Insert),
-            hindrance => Came::Hindered(hindrance),
+            hindrance => Stepped::Hindered(hindrance),
         }
     }
 
-    fn then(&mut self, phase: PutPhase) -> Came
+    fn then(&mut self, phase: PutPhase) -> Stepped<(), Move>
         ensures went { result ≡ Came.Went }
         ensures then { self.new ≡ record self.old { phase = phase } }
     {
         self.phase = phase;
-        Came::Went
+        Stepped::Went
     }
 
-    fn unmark<W: World>(&mut self, alloc: Global, world: &mut W, actor: u32) -> Came
+    fn unmark<W: World>(&mut self, alloc: Global, world: &mut W, actor: u32) -> Stepped<(), Move>
         requires putting { IsPutting (W.state world.old) self.old }
         requires phase { self.old.phase ≡ PutPhase.Unmark }
         ensures puts { PutsEntry actor (W.state world.old) (W.state world.new) self.old (reached_at self.new result) }
         ensures awaits { AwaitsAt actor self.old.index (W.state world.old) (W.state world.new) }
     {
         let Ok(value) = vec![in alloc; UNMARKED] else {
-            return Came::Hindered(Move::NoMemory);
+            return Stepped::Hindered(Move::NoMemory);
         };
         match world.replace(
             self.index,
@@ -97,19 +96,19 @@ impl EntryPut {
             &Bytes::from_vec(value),
             None,
         ) {
-            Move::Done => Came::Done,
-            hindrance => Came::Hindered(hindrance),
+            Move::Done => Stepped::Done(()),
+            hindrance => Stepped::Hindered(hindrance),
         }
     }
 
-    fn insert<W: World>(&mut self, alloc: Global, world: &mut W, actor: u32) -> Came
+    fn insert<W: World>(&mut self, alloc: Global, world: &mut W, actor: u32) -> Stepped<(), Move>
         requires putting { IsPutting (W.state world.old) self.old }
         requires phase { self.old.phase ≡ PutPhase.Insert }
         ensures puts { PutsEntry actor (W.state world.old) (W.state world.new) self.old (reached_at self.new result) }
         ensures awaits { AwaitsAt actor self.old.index (W.state world.old) (W.state world.new) }
     {
         let Ok(value) = vec![in alloc; UNMARKED] else {
-            return Came::Hindered(Move::NoMemory);
+            return Stepped::Hindered(Move::NoMemory);
         };
         match world.insert(
             self.index,
@@ -118,8 +117,8 @@ impl EntryPut {
             &Bytes::from_vec(value),
             None,
         ) {
-            Move::Done => Came::Done,
-            hindrance => Came::Hindered(hindrance),
+            Move::Done => Stepped::Done(()),
+            hindrance => Stepped::Hindered(hindrance),
         }
     }
 }

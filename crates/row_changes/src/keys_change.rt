@@ -8,16 +8,15 @@ ghost use Rattle.law_stored_rows.specs.{Edits.key_index, Tables.Said};
 ghost use Rattle.row_changes.specs.Keys.{StayBetween, AreEntries};
 ghost use Rattle.row_changes.specs.Awaited.{AwaitsIn};
 ghost use Rattle.row_changes.specs.Keys.{IsChangingKeys, ChangesKeys, keys_next};
-ghost use Rattle.row_changes.specs.declared.reached.Reached.TheVariants.{Went};
+ghost use Rattle.row_changes.specs.Reached.{Went};
 ghost use Rattle.row_changes.specs.InPlace.{reached_at};
 
 use crate::entry_mark::EntryMark;
 use crate::entry_put::EntryPut;
 use crate::key_entries::{KeyEntries, index_of_key, next_entries};
-use crate::reached::Came;
 use inno_types::{Bytes, Row};
 use std::alloc::Global;
-use store_api::{Move, NoMemory};
+use store_api::{Move, NoMemory, Stepped};
 use world::World;
 
 /// A change of a row that the keys of its table are taking over.
@@ -39,7 +38,12 @@ pub struct KeysChange {
 impl KeysChange {
     /// One step. Between the steps others may change other rows, and what keys say of those. It asks that nobody else changes
     /// this row.
-    pub fn advance<W: World>(&mut self, alloc: Global, world: &mut W, actor: u32) -> Came
+    pub fn advance<W: World>(
+        &mut self,
+        alloc: Global,
+        world: &mut W,
+        actor: u32,
+    ) -> Stepped<(), Move>
         requires { (chains : Chains) × (beside : Said) × IsChangingKeys chains beside (W.state world.old) self.old }
         ensures changes { (chains : Chains) (beside : Said) → IsChangingKeys chains beside (W.state world.old) self.old → ChangesKeys actor chains beside (W.state world.old) (W.state world.new) self.old (reached_at self.new result) }
         ensures awaits { AwaitsIn actor self.old.table (W.state world.old) (W.state world.new) }
@@ -48,18 +52,18 @@ impl KeysChange {
             return self.pass(alloc, world, actor);
         };
         match put.step(alloc, world, actor) {
-            Came::Went => Came::Went,
-            Came::Done => {
+            Stepped::Went => Stepped::Went,
+            Stepped::Done(()) => {
                 self.which += 1;
                 self.put = None;
-                Came::Went
+                Stepped::Went
             }
-            Came::Hindered(why) => Came::Hindered(why),
+            Stepped::Hindered(why) => Stepped::Hindered(why),
         }
     }
 
     /// Comes to the next key whose value doesn't stay.
-    fn pass<W: World>(&mut self, alloc: Global, world: &mut W, actor: u32) -> Came
+    fn pass<W: World>(&mut self, alloc: Global, world: &mut W, actor: u32) -> Stepped<(), Move>
         requires changing { (chains : Chains) × (beside : Said) × IsChangingKeys chains beside (W.state world.old) self.old }
         requires none { self.old.put ≡ None }
         ensures changes { (chains : Chains) (beside : Said) → IsChangingKeys chains beside (W.state world.old) self.old → ChangesKeys actor chains beside (W.state world.old) (W.state world.new) self.old (reached_at self.new result) }
@@ -67,8 +71,8 @@ impl KeysChange {
     {
         match self.entries(alloc, world) {
             Ok(Some(entries)) => self.take_over(entries, alloc, world, actor),
-            Ok(None) => Came::Done,
-            Err(NoMemory) => Came::Hindered(Move::NoMemory),
+            Ok(None) => Stepped::Done(()),
+            Err(NoMemory) => Stepped::Hindered(Move::NoMemory),
         }
     }
 
@@ -97,7 +101,7 @@ impl KeysChange {
         alloc: Global,
         world: &mut W,
         actor: u32,
-    ) -> Came
+    ) -> Stepped<(), Move>
         requires changing { (chains : Chains) × (beside : Said) × IsChangingKeys chains beside (W.state world.old) self.old }
         requires none { self.old.put ≡ None }
         requires entries { (schema : Schema) → slice_get (W.state world.old).schemas self.old.table ≡ Some schema → AreEntries schema self.old.which self.old.before self.old.after self.old.key entries }
@@ -120,7 +124,7 @@ impl KeysChange {
         alloc: Global,
         world: &mut W,
         actor: u32,
-    ) -> Came
+    ) -> Stepped<(), Move>
         requires changing { (chains : Chains) × (beside : Said) × IsChangingKeys chains beside (W.state world.old) self.old }
         requires none { self.old.put ≡ None }
         requires index { mark.index ≡ key_index self.old.table which }
@@ -131,12 +135,12 @@ impl KeysChange {
         let index = mark.index;
         match mark.step(alloc, world, actor) {
             Ok(()) => self.next(index, which, new),
-            Err(why) => Came::Hindered(why),
+            Err(why) => Stepped::Hindered(why),
         }
     }
 
     /// The new row's entry comes next, or the next key where there is none.
-    fn next(&mut self, index: u32, which: usize, entry: Option<Bytes>) -> Came
+    fn next(&mut self, index: u32, which: usize, entry: Option<Bytes>) -> Stepped<(), Move>
         requires { which < 4 }
         ensures { reached_at self.new result ≡ Went (keys_next self.old index which entry) }
     {
@@ -150,6 +154,6 @@ impl KeysChange {
                 self.put = None;
             }
         }
-        Came::Went
+        Stepped::Went
     }
 }

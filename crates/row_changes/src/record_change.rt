@@ -9,6 +9,7 @@ ghost use Rattle.row_changes.specs.Edits.{version_by};
 ghost use Rattle.row_changes.specs.Records.{IsChangingRecord, ChangesRecord, when_missed, when_found, row_found, undo_of_former};
 ghost use Rattle.row_changes.specs.Awaited.{AwaitsAt};
 ghost use Rattle.row_changes.specs.InPlace.{record_reached};
+ghost use Rattle.row_changes.specs.RecordReached.{Went};
 
 use crate::coding::{coded, decoded, undo_of_former, undo_of_new, writer_of};
 use crate::entering::enter;
@@ -16,7 +17,7 @@ use crate::row_edit::RowEdit;
 use inno_types::{Bytes, Row, Value};
 use std::alloc::Global;
 use std::mem;
-use store_api::{MOST_BYTES_OF_VALUE, Move, NoMemory, Undo, Version};
+use store_api::{MOST_BYTES_OF_VALUE, Move, NoMemory, Stepped, Undo, Version};
 use world::{World, index_number};
 
 /// The longest undo record: seven bytes, a key and a value.
@@ -46,28 +47,15 @@ pub struct RecordChange {
     pub stage: RecordStage,
 }
 
-/// How far a step came.
-#[derive(Drop)]
-pub enum RecordReached {
-    Went(RecordChange),
-    /// The record stands and the history says so. The row was there before, for who reads the newest rows.
-    Recorded(Option<Row>),
-    /// Nothing was done, by this cause: `End` where a row that is to be removed isn't there.
-    Hindered(RecordChange, Move),
-}
-
-/// The same of a step that is made where the change lies.
-#[derive(Drop)]
-pub enum RecordCame {
-    Went,
-    Recorded(Option<Row>),
-    /// All is as it was, the change too.
-    Hindered(Move),
-}
-
 impl RecordChange {
-    /// One step. It asks that nobody else changes this row's record between the steps.
-    pub fn step<W: World>(&mut self, alloc: Global, world: &mut W, s: u32) -> RecordCame
+    /// One step. It asks that nobody else changes this row's record between the steps. The last one tells the row that was there
+    /// before, for who reads the newest rows. `End` hinders it where a row that is to be removed isn't there.
+    pub fn step<W: World>(
+        &mut self,
+        alloc: Global,
+        world: &mut W,
+        s: u32,
+    ) -> Stepped<Option<Row>, Move>
         requires { IsChangingRecord s (W.state world.old) self.old }
         ensures changes { ChangesRecord s (W.state world.old) (W.state world.new) self.old (record_reached self.new result) }
         ensures awaits { AwaitsAt s (clustered_index self.old.table) (W.state world.old) (W.state world.new) }
@@ -87,14 +75,14 @@ impl RecordChange {
         index_number(self.table, 0)
     }
 
-    fn then(&mut self, stage: RecordStage) -> RecordCame
-        ensures { record_reached self.new result ≡ RecordReached.Went (record self.old { stage = stage }) }
+    fn then(&mut self, stage: RecordStage) -> Stepped<Option<Row>, Move>
+        ensures { record_reached self.new result ≡ Went (record self.old { stage = stage }) }
     {
         self.stage = stage;
-        RecordCame::Went
+        Stepped::Went
     }
 
-    fn enter<W: World>(&mut self, world: &mut W, s: u32) -> RecordCame
+    fn enter<W: World>(&mut self, world: &mut W, s: u32) -> Stepped<Option<Row>, Move>
         requires changing { IsChangingRecord s (W.state world.old) self.old }
         requires stage { self.old.stage ≡ RecordStage.Enter }
         ensures changes { ChangesRecord s (W.state world.old) (W.state world.new) self.old (record_reached self.new result) }
@@ -102,11 +90,11 @@ impl RecordChange {
     {
         match world.event_room(s) {
             Ok(()) => self.then(RecordStage::Room),
-            Err(NoMemory) => RecordCame::Hindered(Move::NoMemory),
+            Err(NoMemory) => Stepped::Hindered(Move::NoMemory),
         }
     }
 
-    fn make_room<W: World>(&mut self, world: &mut W, s: u32) -> RecordCame
+    fn make_room<W: World>(&mut self, world: &mut W, s: u32) -> Stepped<Option<Row>, Move>
         requires changing { IsChangingRecord s (W.state world.old) self.old }
         requires stage { self.old.stage ≡ RecordStage.Room }
         ensures changes { ChangesRecord s (W.state world.old) (W.state world.new) self.old (record_reached self.new result) }
@@ -114,43 +102,43 @@ impl RecordChange {
     {
         match world.undo_room(s, MOST_UNDO_BYTES) {
             Move::Done => self.then(RecordStage::Find),
-            hindrance => RecordCame::Hindered(hindrance),
+            hindrance => Stepped::Hindered(hindrance),
         }
     }
 
-    fn find<W: World>(&mut self, alloc: Global, world: &mut W, s: u32) -> RecordCame
+    fn find<W: World>(&mut self, alloc: Global, world: &mut W, s: u32) -> Stepped<Option<Row>, Move>
         requires changing { IsChangingRecord s (W.state world.old) self.old }
         requires stage { self.old.stage ≡ RecordStage.Find }
         ensures changes { ChangesRecord s (W.state world.old) (W.state world.new) self.old (record_reached self.new result) }
         ensures awaits { AwaitsAt s (clustered_index self.old.table) (W.state world.old) (W.state world.new) }
     {
         let Ok(mut value) = Vec::with_capacity(alloc, MOST_BYTES_OF_VALUE) else {
-            return RecordCame::Hindered(Move::NoMemory);
+            return Stepped::Hindered(Move::NoMemory);
         };
         match world.fetch(self.index(), s, &self.key, &mut value) {
             Move::Done => match decoded(alloc, world, self.table, &self.key, &value) {
                 Ok(before) => self.found(before, Bytes::from_vec(value)),
-                Err(why) => RecordCame::Hindered(why),
+                Err(why) => Stepped::Hindered(why),
             },
             Move::End => self.missed(),
-            hindrance => RecordCame::Hindered(hindrance),
+            hindrance => Stepped::Hindered(hindrance),
         }
     }
 
-    fn missed(&mut self) -> RecordCame
+    fn missed(&mut self) -> Stepped<Option<Row>, Move>
         ensures { record_reached self.new result ≡ when_missed self.old.edit self.old }
     {
         match &self.edit {
             RowEdit::Put(_) => self.then(RecordStage::Insert),
-            RowEdit::Remove(_) => RecordCame::Hindered(Move::End),
+            RowEdit::Remove(_) => Stepped::Hindered(Move::End),
         }
     }
 
-    fn found(&mut self, before: Version, bytes: Bytes) -> RecordCame
+    fn found(&mut self, before: Version, bytes: Bytes) -> Stepped<Option<Row>, Move>
         ensures { record_reached self.new result ≡ when_found self.old.edit before bytes self.old }
     {
         match &self.edit {
-            RowEdit::Remove(_) if before.marked => RecordCame::Hindered(Move::End),
+            RowEdit::Remove(_) if before.marked => Stepped::Hindered(Move::End),
             RowEdit::Put(_) | RowEdit::Remove(_) => self.then(RecordStage::Replace {
                 before,
                 bytes,
@@ -158,7 +146,12 @@ impl RecordChange {
         }
     }
 
-    fn insert<W: World>(&mut self, alloc: Global, world: &mut W, s: u32) -> RecordCame
+    fn insert<W: World>(
+        &mut self,
+        alloc: Global,
+        world: &mut W,
+        s: u32,
+    ) -> Stepped<Option<Row>, Move>
         requires changing { IsChangingRecord s (W.state world.old) self.old }
         requires stage { self.old.stage ≡ RecordStage.Insert }
         ensures changes { ChangesRecord s (W.state world.old) (W.state world.new) self.old (record_reached self.new result) }
@@ -166,46 +159,51 @@ impl RecordChange {
     {
         let writer = writer_of(world, s);
         let Ok(version) = self.version(writer, 0) else {
-            return RecordCame::Hindered(Move::NoMemory);
+            return Stepped::Hindered(Move::NoMemory);
         };
         let Ok(value) = coded(alloc, world, self.table, &version) else {
-            return RecordCame::Hindered(Move::NoMemory);
+            return Stepped::Hindered(Move::NoMemory);
         };
         let Ok(undo) = undo_of_new(alloc, self.table, &self.key) else {
-            return RecordCame::Hindered(Move::NoMemory);
+            return Stepped::Hindered(Move::NoMemory);
         };
         match world.insert(self.index(), s, &self.key, &value, Some(&undo)) {
             Move::Done => {
                 enter(world, s, self.table, self.take_edit());
-                RecordCame::Recorded(None)
+                Stepped::Done(None)
             }
-            hindrance => RecordCame::Hindered(hindrance),
+            hindrance => Stepped::Hindered(hindrance),
         }
     }
 
-    fn replace<W: World>(&mut self, alloc: Global, world: &mut W, s: u32) -> RecordCame
+    fn replace<W: World>(
+        &mut self,
+        alloc: Global,
+        world: &mut W,
+        s: u32,
+    ) -> Stepped<Option<Row>, Move>
         requires changing { IsChangingRecord s (W.state world.old) self.old }
         requires stage { (before : Version) × (bytes : List ℕ) × (self.old.stage ≡ RecordStage.Replace before bytes) }
         ensures changes { ChangesRecord s (W.state world.old) (W.state world.new) self.old (record_reached self.new result) }
         ensures awaits { AwaitsAt s (clustered_index self.old.table) (W.state world.old) (W.state world.new) }
     {
         let Ok((found, undo)) = former(self.table, &self.key, &self.stage) else {
-            return RecordCame::Hindered(Move::NoMemory);
+            return Stepped::Hindered(Move::NoMemory);
         };
         let writer = writer_of(world, s);
         let pointer = world.next_pointer(s);
         let Ok(version) = self.version(writer, pointer) else {
-            return RecordCame::Hindered(Move::NoMemory);
+            return Stepped::Hindered(Move::NoMemory);
         };
         let Ok(value) = coded(alloc, world, self.table, &version) else {
-            return RecordCame::Hindered(Move::NoMemory);
+            return Stepped::Hindered(Move::NoMemory);
         };
         match world.replace(self.index(), s, &self.key, &value, Some(&undo)) {
             Move::Done => {
                 enter(world, s, self.table, self.take_edit());
-                RecordCame::Recorded(found)
+                Stepped::Done(found)
             }
-            hindrance => RecordCame::Hindered(hindrance),
+            hindrance => Stepped::Hindered(hindrance),
         }
     }
 

@@ -8,13 +8,12 @@ ghost use Rattle.row_changes.specs.InPlace.{reached_at};
 ghost use Rattle.row_changes.specs.Rows.{IsChangingRow, ChangesRow, row_after, table_of};
 
 use crate::keys_change::KeysChange;
-use crate::reached::Came;
-use crate::record_change::{RecordCame, RecordChange, RecordStage};
+use crate::record_change::{RecordChange, RecordStage};
 use crate::row_edit::RowEdit;
 use inno_types::{Bytes, Row};
 use std::alloc::Global;
 use std::mem;
-use store_api::NoMemory;
+use store_api::{Move, NoMemory, Stepped};
 use world::World;
 
 /// A change of a row.
@@ -43,7 +42,7 @@ impl RowChange {
 
     /// One step. Between the steps others may change other rows, and what keys say of those. It asks that nobody else changes
     /// this row.
-    pub fn advance<W: World>(&mut self, alloc: Global, world: &mut W, s: u32) -> Came
+    pub fn advance<W: World>(&mut self, alloc: Global, world: &mut W, s: u32) -> Stepped<(), Move>
         requires { (chains : Chains) × (beside : Said) × IsChangingRow s chains beside (W.state world.old) self.old }
         ensures changes { (chains : Chains) (beside : Said) → IsChangingRow s chains beside (W.state world.old) self.old → ChangesRow s chains beside (W.state world.old) (W.state world.new) self.old (reached_at self.new result) }
         ensures awaits { AwaitsIn s (table_of self.old) (W.state world.old) (W.state world.new) }
@@ -52,13 +51,13 @@ impl RowChange {
             RowChange::Record(change, key, after) => {
                 let table = change.table;
                 match change.step(alloc, world, s) {
-                    RecordCame::Went => Came::Went,
-                    RecordCame::Recorded(before) => {
+                    Stepped::Went => Stepped::Went,
+                    Stepped::Done(before) => {
                         let next = keys_of(alloc, table, key, before, after);
                         drop(mem::replace(self, RowChange::Keys(next)));
-                        Came::Went
+                        Stepped::Went
                     }
-                    RecordCame::Hindered(why) => Came::Hindered(why),
+                    Stepped::Hindered(why) => Stepped::Hindered(why),
                 }
             }
             RowChange::Keys(change) => change.advance(alloc, world, s),

@@ -7,10 +7,15 @@ use Rattle.store_api.specs.{declared.moves.Move.TheVariants.Bad, declared.moves.
 use Rattle.entries.specs.{Index.Index, Index.AreKept, Calls.Delays, Calls.Leaves}
 use Rattle.row_versions.specs.{Versions.Versions, Versions.Stays, Calls.IsUnseen, declared.version.Version.Version}
 use Rattle.world.specs.{State.WorldState, State.index_of, Stores.StoreGoes, Indexes.Calls, Undoing.IsUnchanged}
-use Rattle.row_search.specs.declared.search.Came.TheVariants.{Went, Done, Hindered, Malformed}
+use Rattle.store_api.specs.declared.stepped.Stepped.{Stepped}
+use Rattle.store_api.specs.declared.stepped.Stepped.TheVariants.{Went, Done, Hindered}
+use Rattle.row_search.specs.declared.search.Hindrance.{Hindrance}
+use Rattle.row_search.specs.declared.search.Hindrance.TheVariants.{Call, Malformed}
+use Rattle.row_search.specs.declared.found.FoundRow.{FoundRow}
+use Rattle.std.specs.{declared.vec.Vec.Vec, declared.alloc.Global.Global}
 use Rattle.row_search.specs.{declared.scan.Scan.Scan, declared.phase.Phase.Phase, declared.phase.Phase.TheVariants.Seek}
 use Rattle.row_search.specs.{declared.phase.Phase.TheVariants.Follow, declared.phase.Phase.TheVariants.Fetch, declared.phase.Phase.TheVariants.Walk}
-use Rattle.row_search.specs.{declared.search.RowSearch.RowSearch, declared.search.Came.Came, Sights.rows_seen, FoundRows.AreFound, FoundRows.RiseByKey}
+use Rattle.row_search.specs.{declared.search.RowSearch.RowSearch, Sights.rows_seen, FoundRows.AreFound, FoundRows.RiseByKey}
 use Rattle.row_search.specs.{Ranges.lies_in, Tables.ShowsRows, Searches.IsSearching, Searches.Finds, Searches.HasToGo, Searches.place_in}
 use Rattle.store_api.specs.declared.visits.Visit.TheVariants as unseen
 
@@ -84,12 +89,16 @@ pub record Ends (actor : ℕ) (schema : Schema) (old new : WorldState) (search :
   pub found : (versions_at : Value → List Version) → Finds schema old.versions.kept_at (place_in actor search.scan old) versions_at search
       → AreFound schema search.scan.which (rows_seen search.scan.sight versions_at) (lies_in schema search.scan) rows × RiseByKey rows
 
+-- how far a step came
+abbrev pub Came : Type 0
+Came = Stepped (Vec FoundRow Global) Hindrance
+
 -- a step of the search, which is the next one behind it; once it is over nothing is said of it
 abbrev pub Searches : ℕ → Schema → WorldState → WorldState → RowSearch → RowSearch → Came → Type 0
 Searches actor schema old new search next Went = GoesOn actor schema old new search next
 Searches actor schema old new search next (Done rows) = Ends actor schema old new search rows.items
-Searches actor schema old new search next (Hindered why) = Waits actor schema old new search next why
-Searches actor schema old new search next Malformed = (next ≡ search) × IsUnchanged old new × (IsTrue old.versions.told → ⊥)
+Searches actor schema old new search next (Hindered (Call why)) = Waits actor schema old new search next why
+Searches actor schema old new search next (Hindered Malformed) = (next ≡ search) × IsUnchanged old new × (IsTrue old.versions.told → ⊥)
 
 -- the scan comes from this phase to the next
 abbrev pub Comes : ℕ → Schema → WorldState → WorldState → Scan → Phase → Scan → Phase × Came → Type 0

@@ -21,5 +21,5 @@ pub use laws::{
 };
 pub use phase::Phase;
 pub use scan::Scan;
-pub use search::{Came, RowSearch};
+pub use search::{Came, Hindrance, RowSearch};
 pub use sight::Sight;

@@ -9,7 +9,7 @@ ghost use Rattle.row_search.specs.Steps.{Comes};
 use crate::bounds::{first_bytes, primary_of, side_of};
 use crate::found::FoundRow;
 use crate::phase::Phase;
-use crate::search::Came;
+use crate::search::{Came, Hindrance};
 use crate::side::Side;
 use crate::sight::Sight;
 use entries::{Buffer, PairBuffers};
@@ -80,7 +80,7 @@ impl Scan {
         match found {
             Move::At(key, value) => (self.given(key, value), Came::Went),
             Move::End => (Phase::Sort, Came::Went),
-            hindrance => (Phase::Seek, Came::Hindered(hindrance)),
+            hindrance => (Phase::Seek, Came::Hindered(Hindrance::Call(hindrance))),
         }
     }
 
@@ -97,7 +97,7 @@ impl Scan {
         match world.following(index_number(self.table, self.which), actor, &mut self.pair) {
             Move::At(key, value) => (self.given(key, value), Came::Went),
             Move::End => (Phase::Sort, Came::Went),
-            hindrance => (Phase::Follow, Came::Hindered(hindrance)),
+            hindrance => (Phase::Follow, Came::Hindered(Hindrance::Call(hindrance))),
         }
     }
 
@@ -117,10 +117,16 @@ impl Scan {
             .primary
             .filled(alloc, primary_of(schema, entry.as_slice()))
         else {
-            return (Phase::Fetch { entry }, Came::Hindered(Move::NoMemory));
+            return (
+                Phase::Fetch { entry },
+                Came::Hindered(Hindrance::Call(Move::NoMemory)),
+            );
         };
         let Ok(mut bytes) = self.pair.value.with_room(alloc, MOST_BYTES_OF_VALUE) else {
-            return (Phase::Fetch { entry }, Came::Hindered(Move::NoMemory));
+            return (
+                Phase::Fetch { entry },
+                Came::Hindered(Hindrance::Call(Move::NoMemory)),
+            );
         };
         let found = world.fetch(index_number(self.table, 0), actor, &key, &mut bytes);
         self.primary.keep(key);
@@ -133,7 +139,10 @@ impl Scan {
             }
             hindrance => {
                 self.pair.value.keep(bytes);
-                (Phase::Fetch { entry }, Came::Hindered(hindrance))
+                (
+                    Phase::Fetch { entry },
+                    Came::Hindered(Hindrance::Call(hindrance)),
+                )
             }
         }
     }

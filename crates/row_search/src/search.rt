@@ -19,7 +19,7 @@ use inno_types::Schema;
 use sql_plan::Plan;
 use std::alloc::Global;
 use std::mem;
-use store_api::Move;
+use store_api::{Move, Stepped};
 use world::{World, index_number};
 
 /// A search for rows.
@@ -29,15 +29,14 @@ pub struct RowSearch {
     pub phase: Phase,
 }
 
-/// How far a step of a search came.
+/// How far a step of a search came. Of one that is over: the rows that were found, in the order of their primary keys.
+pub type Came = Stepped<Vec<FoundRow>, Hindrance>;
+
+/// Why a step of a search didn't go on.
 #[derive(Drop)]
-pub enum Came {
-    /// Some steps are left.
-    Went,
-    /// The search is over: the rows that were found, in the order of their primary keys.
-    Done(Vec<FoundRow>),
-    /// What came next was not done: the same step is to be made again, or the search is given up.
-    Hindered(Move),
+pub enum Hindrance {
+    /// The call that came next was not done.
+    Call(Move),
     /// A record is not one of the table. This comes only where the world doesn't tell what is kept.
     Malformed,
 }

@@ -12,7 +12,7 @@ use crate::found::{FoundRow, sort_by_key};
 use crate::glance::Glance;
 use crate::phase::Phase;
 use crate::scan::Scan;
-use crate::search::Came;
+use crate::search::{Came, Hindrance};
 use inno_types::{Bytes, Row, Schema};
 use row_codec::RowBad;
 use std::alloc::Global;
@@ -64,8 +64,14 @@ impl Scan {
                 self.pair.value.keep(bytes);
                 (self.after(entry, glance), Came::Went)
             }
-            Err(RowBad::NoMemory) => (Phase::Look { entry, bytes }, Came::Hindered(Move::NoMemory)),
-            Err(RowBad::Shape) => (Phase::Look { entry, bytes }, Came::Malformed),
+            Err(RowBad::NoMemory) => (
+                Phase::Look { entry, bytes },
+                Came::Hindered(Hindrance::Call(Move::NoMemory)),
+            ),
+            Err(RowBad::Shape) => (
+                Phase::Look { entry, bytes },
+                Came::Hindered(Hindrance::Malformed),
+            ),
         }
     }
 
@@ -84,7 +90,7 @@ impl Scan {
         let Ok(mut bytes) = self.pair.value.with_room(alloc, MOST_BYTES_OF_VALUE) else {
             return (
                 Phase::Walk { entry, pointer },
-                Came::Hindered(Move::NoMemory),
+                Came::Hindered(Hindrance::Call(Move::NoMemory)),
             );
         };
         let read = world.value(pointer, &mut bytes);
@@ -99,10 +105,13 @@ impl Scan {
                     Err(RowBad::NoMemory) => {
                         (
                             Phase::Walk { entry, pointer },
-                            Came::Hindered(Move::NoMemory),
+                            Came::Hindered(Hindrance::Call(Move::NoMemory)),
                         )
                     }
-                    Err(RowBad::Shape) => (Phase::Walk { entry, pointer }, Came::Malformed),
+                    Err(RowBad::Shape) => (
+                        Phase::Walk { entry, pointer },
+                        Came::Hindered(Hindrance::Malformed),
+                    ),
                 }
             }
             Ok(false) => {
@@ -111,7 +120,10 @@ impl Scan {
             }
             Err(why) => {
                 self.pair.value.keep(bytes);
-                (Phase::Walk { entry, pointer }, Came::Hindered(move_of(why)))
+                (
+                    Phase::Walk { entry, pointer },
+                    Came::Hindered(Hindrance::Call(move_of(why))),
+                )
             }
         }
     }
@@ -134,7 +146,10 @@ impl Scan {
             return (Phase::Follow, Came::Went);
         }
         let Ok(key) = copy_of(alloc, primary) else {
-            return (Phase::Keep { entry, row }, Came::Hindered(Move::NoMemory));
+            return (
+                Phase::Keep { entry, row },
+                Came::Hindered(Hindrance::Call(Move::NoMemory)),
+            );
         };
         match self.rows.push(FoundRow { key, row }) {
             Ok(()) => {
@@ -146,7 +161,7 @@ impl Scan {
                     entry,
                     row: full.value.row,
                 },
-                Came::Hindered(Move::NoMemory),
+                Came::Hindered(Hindrance::Call(Move::NoMemory)),
             ),
         }
     }
@@ -165,7 +180,7 @@ impl Scan {
         }
         match sort_by_key(&mut self.rows) {
             Ok(()) => (Phase::Leave, Came::Went),
-            Err(_) => (Phase::Sort, Came::Hindered(Move::NoMemory)),
+            Err(_) => (Phase::Sort, Came::Hindered(Hindrance::Call(Move::NoMemory))),
         }
     }
 

@@ -1,5 +1,5 @@
 -- What the steps of a session's ending do.
-use Rattle.std.proofs.Common.{◌≡◌, ◌≢◌, ◌<◌, ◌-◌, ℕ, [], ◌∷◌, length, refl, sym, ap, subst, ◌∙◌, true, false, inl, inr, arith}
+use Rattle.std.proofs.Common.{◌≡◌, ◌≢◌, ◌<◌, ◌-◌, ℕ, [], ◌∷◌, length, refl, sym, ap, subst, ◌∙◌, true, false, inl, inr, arith, absurd}
 use Rattle.std.proofs.lemmas.Bool.Decides.{nat_tests, eqb_tells}
 use Rattle.std.specs.Prelude.{count_by}
 use Rattle.std.specs.List.{AllByRecursion}
@@ -8,8 +8,8 @@ use Rattle.inno_model.specs.declared.event.Event.TheVariants as events
 use Rattle.inno_model.specs.Past.{is_of, own}
 use Rattle.store_api.specs.declared.answers.Progress.TheVariants as progress
 use Rattle.law_past_agreement.specs.Order.{IsOfRow}
-use Rattle.shared_lists.specs.declared.answers.Undone.{Undone}
-use Rattle.shared_lists.specs.declared.answers.Undone.TheVariants as undone
+use Rattle.shared_lists.specs.Answers.{Undone}
+use Rattle.store_api.specs.declared.stepped.Stepped.TheVariants as stepped
 use Rattle.shared_lists.specs.State.{State as Lists, Closes, Stays, task_of}
 use Rattle.shared_lists.specs.Steps.{TakesBack}
 use Rattle.sql_lists.specs.Steps.{HasRowsAlone, is_apart, changes_rows}
@@ -41,8 +41,8 @@ module _ (s : ℕ) (old new : Lists) (out : IsGoingOut s old) where
   -- the newest change is being taken back, or is so
   pub takes_back_goes : (answer : Undone) → 0 < length (own s old.past) → TakesBack s (length (own s old.past) - 1) old new answer
       → GoesOut s old new Leaving progress.Went
-  takes_back_goes undone.Went some takes = (
-    moves_takes_back s (length (own s old.past) - 1) old new undone.Went takes,
+  takes_back_goes stepped.Went some takes = (
+    moves_takes_back s (length (own s old.past) - 1) old new stepped.Went takes,
     goes_none takes.0.past_is,
     record {
       may = subst (MayGoOut s) (sym takes.0.past_is) out.may;
@@ -50,8 +50,9 @@ module _ (s : ℕ) (old new : Lists) (out : IsGoingOut s old) where
     },
     refl,
   )
-  takes_back_goes undone.Undone some takes = (
-    moves_takes_back s (length (own s old.past) - 1) old new undone.Undone takes,
+  takes_back_goes (stepped.Hindered never) some takes = absurd takes
+  takes_back_goes (stepped.Done over) some takes = (
+    moves_takes_back s (length (own s old.past) - 1) old new (stepped.Done over) takes,
     goes_one (events.Undone s (length (own s old.past) - 1)) (grind (arith, nat_tests)) tt tt refl takes.past_is,
     record {
       may = subst (MayGoOut s) (sym takes.past_is) (undone_out (length (own s old.past) - 1) refl);
@@ -62,8 +63,9 @@ module _ (s : ℕ) (old new : Lists) (out : IsGoingOut s old) where
 
   -- no change is told
   pub takes_back_quietly : (answer : Undone) → TakesBack s (length (own s old.past) - 1) old new answer → TellsNone old.past new.past
-  takes_back_quietly undone.Went takes = ap (count_by changes_rows) takes.0.past_is
-  takes_back_quietly undone.Undone takes = ap (count_by changes_rows) takes.past_is
+  takes_back_quietly stepped.Went takes = ap (count_by changes_rows) takes.0.past_is
+  takes_back_quietly (stepped.Hindered never) takes = absurd takes
+  takes_back_quietly (stepped.Done over) takes = ap (count_by changes_rows) takes.past_is
 
   own_rolled_back : own s (events.RolledBack s ∷ old.past) ≡ []
   own_rolled_back = grind (arith, nat_tests)

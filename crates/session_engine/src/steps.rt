@@ -8,12 +8,12 @@ ghost use Rattle.session_engine.specs.Going.{NearsEnding};
 
 use crate::seats::{Seat, SignalItem, Wait};
 use inno_types::{Item, Reply, SqlError};
-use shared_lists::{SharedLists, Undone};
+use shared_lists::SharedLists;
 use sql_lists::SqlLists;
 use sql_prefix::{ParseBad, parse};
 use statement::Statement;
 use std::alloc::Global;
-use store_api::{NoMemory, Progress};
+use store_api::{NoMemory, Progress, Stepped};
 
 /// The seat of a session whose item this is, before its first step.
 pub fn read_item(alloc: Global, item: &Item) -> Result<Seat, NoMemory>
@@ -83,7 +83,8 @@ fn take_back<L: SharedLists>(s: u32, lists: &mut SqlLists<L>) -> (Seat, Progress
     ensures nears { NearsEnding s lists.old lists.new result.1 }
 {
     match lists.undo(s) {
-        Undone::Went => (Seat::Leaving, Progress::Went),
-        Undone::Undone => (Seat::Leaving, Progress::Went),
+        Stepped::Went => (Seat::Leaving, Progress::Went),
+        Stepped::Done(()) => (Seat::Leaving, Progress::Went),
+        Stepped::Hindered(never) => match never {},
     }
 }

@@ -1,4 +1,5 @@
 pub mod Fitting
 pub mod Tasks
 pub mod State
+pub mod Answers
 pub mod Steps

@@ -9,12 +9,9 @@ use Rattle.law_past_agreement.specs.{Order.created, Rows.seen, DatabaseTables.wi
 use Rattle.sql_plan.specs.{declared.choice.Plan.Plan, Plans.whole_index, Visits.index_key}
 use Rattle.inno_types.specs.Ranges.{is_within}
 use Rattle.shared_lists.specs.{declared.answers.Reading.Reading, declared.answers.Reading.TheVariants.View, declared.answers.Reading.TheVariants.Newest}
-use Rattle.shared_lists.specs.{declared.answers.Searched.Searched}
-use Rattle.shared_lists.specs.declared.answers.Searched.TheVariants as searched
-use Rattle.shared_lists.specs.declared.answers.Changed.{Changed}
-use Rattle.shared_lists.specs.declared.answers.Changed.TheVariants as made
-use Rattle.shared_lists.specs.declared.answers.Undone.{Undone}
-use Rattle.shared_lists.specs.declared.answers.Undone.TheVariants as undone
+use Rattle.store_api.specs.declared.stepped.Stepped.TheVariants as stepped
+use Rattle.shared_lists.specs.declared.answers.ChangePart.TheVariants as part
+use Rattle.shared_lists.specs.Answers.{Searched, Changed, Undone}
 use Rattle.shared_lists.specs.Tasks.{Task, Idle, Undoing, is_changing, asked, steps_left, left_by, undo_to_go}
 use Rattle.shared_lists.specs.State.{State, task_of, IsNow, Turns}
 
@@ -43,9 +40,9 @@ AreFoundBy Newest table plan past s rows = AreRowsSeen table plan past s (commit
 
 -- a search goes on, or is over
 abbrev pub Searches : ℕ → Plan → Reading → ℕ → State → State → Searched → Type 0
-Searches table plan reading s old new searched.Went = Turns s (task_of s old) old new
-Searches table plan reading s old new (searched.Found rows) = Turns s Idle old new × AreFoundBy reading table plan old.past s rows
-Searches table plan reading s old new searched.NoMemory = Turns s Idle old new
+Searches table plan reading s old new stepped.Went = Turns s (task_of s old) old new
+Searches table plan reading s old new (stepped.Done rows) = Turns s Idle old new × AreFoundBy reading table plan old.past s rows
+Searches table plan reading s old new (stepped.Hindered why) = Turns s Idle old new
 
 -- ---- changes
 
@@ -65,10 +62,10 @@ pub record Enters (s : ℕ) (old new : State) : Type 0 where
   pub asked_is : asked (task_of s new) ≡ None
 
 abbrev pub Changes : ℕ → State → State → Changed → Type 0
-Changes s old new made.Went = GoesOn s old new
-Changes s old new made.Entered = Enters s old new
-Changes s old new made.Done = (asked (task_of s old) ≡ None) × Turns s Idle old new
-Changes s old new made.NoMemory = Turns s (left_by (asked (task_of s old))) old new
+Changes s old new stepped.Went = GoesOn s old new
+Changes s old new (stepped.Done part.Record) = Enters s old new
+Changes s old new (stepped.Done part.Keys) = (asked (task_of s old) ≡ None) × Turns s Idle old new
+Changes s old new (stepped.Hindered why) = Turns s (left_by (asked (task_of s old))) old new
 
 -- how many rows the history holds more where it tells the change
 abbrev pub rows_of_change : Option Change → ℕ
@@ -76,12 +73,13 @@ rows_of_change (Some (Put table row)) = 1
 rows_of_change other = 0
 
 abbrev pub rows_entered : Changed → Task → ℕ
-rows_entered made.Entered task = rows_of_change (asked task)
+rows_entered (stepped.Done part.Record) task = rows_of_change (asked task)
 rows_entered other task = 0
 
 -- ---- taking back
 
 abbrev pub TakesBack : ℕ → ℕ → State → State → Undone → Type 0
-TakesBack s keep old new undone.Went =
+TakesBack s keep old new stepped.Went =
     Turns s (task_of s new) old new × ((left : ℕ) × (task_of s new ≡ Undoing left)) × (undo_to_go (task_of s new) < undo_to_go (task_of s old))
-TakesBack s keep old new undone.Undone = IsNow (events.Undone s keep ∷ old.past) s Idle old.writer old new
+TakesBack s keep old new (stepped.Done over) = IsNow (events.Undone s keep ∷ old.past) s Idle old.writer old new
+TakesBack s keep old new (stepped.Hindered never) = ⊥

@@ -1,6 +1,8 @@
 //! How far a step of a session's task came.
 
 use inno_types::Rows;
+use std::convert::Infallible;
+use store_api::{NoMemory, Stepped};
 
 /// How a session reads.
 #[derive(Clone, Copy)]
@@ -11,31 +13,22 @@ pub enum Reading {
     Newest,
 }
 
-/// How far a search came.
-#[derive(Drop)]
-pub enum Searched {
-    Went,
-    /// The rows that were found, in the order of their primary keys.
-    Found(Rows),
-    /// It is given up for want of memory.
-    NoMemory,
+/// How far a search came: the rows that were found, in the order of their primary keys, or that it is given up for want of
+/// memory.
+pub type Searched = Stepped<Rows, NoMemory>;
+
+/// How far a change of a row came: which part of it is done, or that it is given up for want of memory. If the history tells
+/// it by then, it is to be taken back.
+pub type Changed = Stepped<ChangePart, NoMemory>;
+
+/// The parts of a change of a row.
+#[derive(Clone, Copy)]
+pub enum ChangePart {
+    /// The row's record, which the history tells from then on. Keys are yet to take it over.
+    Record,
+    /// The keys of its table.
+    Keys,
 }
 
-/// How far a change of a row came.
-#[derive(Clone, Copy)]
-pub enum Changed {
-    Went,
-    /// The history tells it now. Keys are yet to take it over.
-    Entered,
-    Done,
-    /// It is given up for want of memory. If the history tells it, it is to be taken back.
-    NoMemory,
-}
-
-/// How far a taking back came. It takes no memory.
-#[derive(Clone, Copy)]
-pub enum Undone {
-    Went,
-    /// The change is taken back, and the history says so.
-    Undone,
-}
+/// How far a taking back came. When it is done, the history says so. It takes no memory, and nothing hinders it.
+pub type Undone = Stepped<(), Infallible>;

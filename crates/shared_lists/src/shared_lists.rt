@@ -8,6 +8,7 @@ ghost use Rattle.inno_model.specs.declared.event.Event.TheVariants.{Begin, Start
 ghost use Rattle.inno_model.specs.Past.{under_way, level, own, started, begins, view_of, txn, IsOpen};
 ghost use Rattle.sql_history.specs.Counts.{rows_of_reply};
 ghost use Rattle.sql_history.specs.Settings.{at_first, at_begin, at_end, saved, set_by};
+ghost use Rattle.store_api.specs.declared.stepped.Stepped.TheVariants.{Went};
 ghost use Rattle.law_stored_rows.specs.Storable.{IsStorable};
 ghost use Rattle.law_past_agreement.specs.Order.{created, IsOfRow, MayCome, IsOrdered};
 ghost use Rattle.shared_lists.specs.Fitting.{FitsWell, FitsThen};
@@ -239,7 +240,7 @@ pub trait SharedLists: Drop {
         requires joined { session < length (lists self.old).state.names }
         requires searching { (table : ℕ) × (plan : _) × (reading : _) × (task_of session (lists self.old).state ≡ Searching table plan reading) }
         ensures searches { (table : ℕ) (plan : _) (reading : _) → task_of session (lists self.old).state ≡ Searching table plan reading → Searches table plan reading session (lists self.old).state (lists self.new).state result }
-        ensures nears { result ≡ Searched.Went → IsBelow (counted (places_before session (lists self.new).state)) (counted (places_before session (lists self.old).state)) }
+        ensures nears { result ≡ Went → IsBelow (counted (places_before session (lists self.new).state)) (counted (places_before session (lists self.old).state)) }
         ensures settings { (lists self.new).settings ≡ (lists self.old).settings }
         ensures rows { (lists self.new).rows ≡ (lists self.old).rows };
 

@@ -1,6 +1,6 @@
 -- Each entry keeps the history legal, and what is kept beside it in agreement.
 use Rattle.std.proofs.Common.{◌≡◌, ◌≢◌, ℕ, ◌+◌, ◌-◌, ◌<◌, ◌≤◌, true, false, cond, eqb, Option, Some, None, List, [], ◌∷◌, ◌++◌, length, get_or, set, refl}
-use Rattle.std.proofs.Common.{sym, ap, subst, ◌∙◌, inl, inr, arith}
+use Rattle.std.proofs.Common.{absurd, sym, ap, subst, ◌∙◌, inl, inr, arith}
 use Rattle.std.proofs.lemmas.Bool.Decides.{nat_tests, eqb_tells}
 use Rattle.std.proofs.lemmas.List.{length-set, length-append}
 use Rattle.std.proofs.lemmas.List.Sums.{sum_by-cons}
@@ -19,11 +19,10 @@ use Rattle.sql_history.specs.Legal.{EndsBy, owed_by, owes_commit}
 use Rattle.law_past_agreement.specs.Order.{created, IsOfRow, IsTabled, IsUndoable, MayCome}
 use Rattle.law_past_agreement.proofs.Ids.{ids_of}
 use Rattle.sql_plan.specs.declared.choice.Plan.{Plan}
-use Rattle.shared_lists.specs.declared.answers.Searched.TheVariants as searched
-use Rattle.shared_lists.specs.declared.answers.Changed.{Changed}
-use Rattle.shared_lists.specs.declared.answers.Changed.TheVariants as made
-use Rattle.shared_lists.specs.declared.answers.Undone.{Undone}
-use Rattle.shared_lists.specs.declared.answers.Undone.TheVariants as undone
+use Rattle.shared_lists.specs.Answers.{Changed}
+use Rattle.shared_lists.specs.declared.answers.ChangePart.TheVariants as part
+use Rattle.shared_lists.specs.Answers.{Undone}
+use Rattle.store_api.specs.declared.stepped.Stepped.TheVariants as stepped
 use Rattle.shared_lists.specs.Tasks.{Task, Idle, asked}
 use Rattle.shared_lists.specs.State.{State, Lists, IsFirst, IsNow, Adds, Closes, Turns, Stays, task_of, writer_without}
 use Rattle.shared_lists.specs.Steps.{Searches, Changes, TakesBack, rows_of_change, rows_entered}
@@ -40,7 +39,7 @@ use Rattle.inno_types.specs.{declared.value.Schema.Schema, declared.stmt.Stmt.St
 use Rattle.inno_types.specs.{declared.stmt.LevelScope.TheVariants.NextTransaction, declared.reply.Item.Item, declared.reply.Reply.Reply}
 use Rattle.inno_db.specs.{declared.change.Change.Change, declared.change.Change.TheVariants.Create, declared.change.Change.TheVariants.Put}
 use Rattle.inno_db.specs.{declared.change.Change.TheVariants.Remove, declared.limits.TheConstants.MOST_TABLES}
-use Rattle.shared_lists.specs.{declared.answers.Reading.Reading, declared.answers.Searched.Searched}
+use Rattle.shared_lists.specs.{declared.answers.Reading.Reading, Answers.Searched}
 use Rattle.sql_lists.proofs.{Moving.then_now, Staying.own_of}
 
 cons_is_some : (e : Event) (h : List Event) → e ∷ h ≡ [] → ⊥
@@ -389,10 +388,10 @@ pub by_change : (s : ℕ) (old new : Lists) (answer : Changed) → ((other : ℕ
     change × IsOfRow change)
     → Changes s old.state new.state answer → new.settings ≡ old.settings → new.rows ≡ old.rows + rows_entered answer (task_of s old.state) → AreKept old →
     AreKept new
-by_change s old new made.Went alone may changes sets counts kept = by_now old new changes.turns sets (counts ∙ omega arith) kept
-by_change s old new made.Done alone may changes sets counts kept = by_now old new changes.1 sets (counts ∙ omega arith) kept
-by_change s old new made.NoMemory alone may changes sets counts kept = by_now old new changes sets (counts ∙ omega arith) kept
-by_change s old new made.Entered alone may changes sets counts kept =
+by_change s old new stepped.Went alone may changes sets counts kept = by_now old new changes.turns sets (counts ∙ omega arith) kept
+by_change s old new (stepped.Done part.Keys) alone may changes sets counts kept = by_now old new changes.1 sets (counts ∙ omega arith) kept
+by_change s old new (stepped.Hindered why) alone may changes sets counts kept = by_now old new changes sets (counts ∙ omega arith) kept
+by_change s old new (stepped.Done part.Record) alone may changes sets counts kept =
     go changes.change (may changes.change changes.asked_was) changes.now (counts ∙ ap (λ change. old.rows + rows_of_change change) changes.asked_was) where
       go : (change : Change) → MayChange Spells s change old.state.past × IsTabled (length (created old.state.past)) change × IsOfRow change
           → IsNow (events.Changed s change ∷ old.state.past) s (task_of s new.state) old.state.writer old.state new.state → new.rows ≡ old.rows + rows_of_change
@@ -405,15 +404,16 @@ by_change s old new made.Entered alone may changes sets counts kept =
 pub by_undo : (s : ℕ) (old new : Lists) (answer : Undone) → MayUndo Spells s (length (own s old.state.past) - 1) old.state.past
     → IsUndoable (length (own s old.state.past) - 1) (own s old.state.past)
     → TakesBack s (length (own s old.state.past) - 1) old.state new.state answer → new.settings ≡ old.settings → new.rows ≡ old.rows → AreKept old → AreKept new
-by_undo s old new undone.Went may undoable takes sets counts kept = by_now old new takes.0 sets counts kept
-by_undo s old new undone.Undone may undoable takes sets counts kept = by_now old new takes sets counts (kept_undo kept s may undoable)
+by_undo s old new stepped.Went may undoable takes sets counts kept = by_now old new takes.0 sets counts kept
+by_undo s old new (stepped.Hindered never) may undoable takes sets counts kept = absurd takes
+by_undo s old new (stepped.Done over) may undoable takes sets counts kept = by_now old new takes sets counts (kept_undo kept s may undoable)
 
 -- the session's search makes a step
 pub by_search : (s table : ℕ) (plan : Plan) (reading : Reading) (old new : Lists) (answer : Searched)
     → Searches table plan reading s old.state new.state answer → new.settings ≡ old.settings → new.rows ≡ old.rows → AreKept old → AreKept new
-by_search s table plan reading old new searched.Went searches sets counts kept = by_now old new searches sets counts kept
-by_search s table plan reading old new (searched.Found rows) searches sets counts kept = by_now old new searches.0 sets counts kept
-by_search s table plan reading old new searched.NoMemory searches sets counts kept = by_now old new searches sets counts kept
+by_search s table plan reading old new stepped.Went searches sets counts kept = by_now old new searches sets counts kept
+by_search s table plan reading old new (stepped.Done rows) searches sets counts kept = by_now old new searches.0 sets counts kept
+by_search s table plan reading old new (stepped.Hindered why) searches sets counts kept = by_now old new searches sets counts kept
 
 -- an item ends, after what it set was set
 pub by_setting : (s : ℕ) (stmt : Stmt) (x : Setting) (old mid new : Lists) → s < length old.state.names → MayReply s replies.Done old.state.past

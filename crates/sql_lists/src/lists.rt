@@ -14,6 +14,7 @@ ghost use Rattle.sql_history.specs.Items.{Asks};
 ghost use Rattle.sql_history.specs.Settings.{HasSet};
 ghost use Rattle.sql_history.specs.Counts.{has_stopped, last_moment, rows_kept, rows_of_reply, most_rows};
 ghost use Rattle.sql_history.specs.Legal.{IsLegal, MayBegin, MayView, MayChange, MayUndo, MayCommit, MayRollBack, MaySignal, is_leaving, owes_commit};
+ghost use Rattle.store_api.specs.declared.stepped.Stepped.TheVariants.{Went};
 ghost use Rattle.law_stored_rows.specs.Storable.{IsStorable};
 ghost use Rattle.law_past_agreement.specs.Order.{created, IsOfRow, IsTabled, IsUndoable, IsOrdered};
 ghost use Rattle.shared_lists.specs.Fitting.{FitsWell, FitsThen};
@@ -294,7 +295,7 @@ impl<L: SharedLists> SqlLists<L> {
         requires joined { session < length self.old.names }
         requires searching { (table : ℕ) × (plan : _) × (reading : _) × (task_of session self.old ≡ Searching table plan reading) }
         ensures searches { (table : ℕ) (plan : _) (reading : _) → task_of session self.old ≡ Searching table plan reading → Searches table plan reading session self.old self.new result }
-        ensures nears { result ≡ Searched.Went → IsBelow (counted (places_before session self.new)) (counted (places_before session self.old)) }
+        ensures nears { result ≡ Went → IsBelow (counted (places_before session self.new)) (counted (places_before session self.old)) }
     {
         self.lists.search(session)
     }

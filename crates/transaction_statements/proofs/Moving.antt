@@ -1,5 +1,6 @@
 -- Each step as a whole, by what it does to the lists.
 use Rattle.std.proofs.Common.{◌≡◌, ℕ, ◌+◌, ◌<◌, ◌≤◌, Bool, true, false, Some, None, List, [], ◌∷◌, refl, sym, ap, subst, ◌∙◌, inl, inr, arith, length}
+use Rattle.std.proofs.Common.{absurd}
 use Rattle.std.proofs.lemmas.Bool.Decides.{nat_tests}
 use Rattle.std.proofs.lemmas.Bool.{false≢true}
 use Rattle.std.specs.Prelude.{◌-◌}
@@ -15,8 +16,8 @@ use Rattle.sql_grammar.specs.Grammar.{Spells}
 use Rattle.sql_history.specs.Items.{own_before}
 use Rattle.sql_history.specs.Settings.{made_at}
 use Rattle.sql_history.specs.Legal.{MayBegin, MayView, MayUndo, MayRollBack}
-use Rattle.shared_lists.specs.declared.answers.Undone.{Undone}
-use Rattle.shared_lists.specs.declared.answers.Undone.TheVariants as undone
+use Rattle.shared_lists.specs.Answers.{Undone}
+use Rattle.store_api.specs.declared.stepped.Stepped.TheVariants as stepped
 use Rattle.shared_lists.specs.Tasks.{Task, Idle, Searching, Changing, Lagging, Undoing, MayTakeBack, undo_to_go}
 use Rattle.shared_lists.specs.State.{State, task_of, Adds, Closes, Stays}
 use Rattle.shared_lists.specs.Steps.{TakesBack}
@@ -224,14 +225,15 @@ rests keep stand (Changing change left) takes few = absurd takes
 module _ (s keep : ℕ) (old new : State) (m : TransactionStatement) (has : (stand : ℕ) (task : Task) → TakesBackTo keep stand task → HasTask m stand task)
     (more : keep < length (own s old.past)) (r : IsRunning old s m) (after : RunsBy (events.Undone s (length (own s old.past) - 1) ∷ old.past) s m) where
   undoes : (answer : Undone) → TakesBack s (length (own s old.past) - 1) old new answer → Steps IsRunning s old new m advance.Went
-  undoes undone.Went takes = (
-    moves_takes_back s (length (own s old.past) - 1) old new undone.Went takes,
+  undoes stepped.Went takes = (
+    moves_takes_back s (length (own s old.past) - 1) old new stepped.Went takes,
     runs_now s old.past (task_of s new) new m takes.0.past_is refl r.0
         (has (length (own s old.past)) (task_of s new) (subst (TakesBackTo keep (length (own s old.past))) (sym takes.1.1) more)),
     ap (started s) takes.0.past_is,
   )
-  undoes undone.Undone takes = (
-    moves_takes_back s (length (own s old.past) - 1) old new undone.Undone takes,
+  undoes (stepped.Hindered never) takes = absurd takes
+  undoes (stepped.Done over) takes = (
+    moves_takes_back s (length (own s old.past) - 1) old new (stepped.Done over) takes,
     runs_now s (events.Undone s (length (own s old.past) - 1) ∷ old.past) Idle new m takes.past_is takes.task_is after (has _ Idle tt),
     ap (started s) takes.past_is,
   )
@@ -256,16 +258,18 @@ module _ (s : ℕ) (old new : State) (answer : Undone) (takes : TakesBack s (len
 -- it does work
 pub nears_rollback : (s : ℕ) (old new : State) (answer : Undone) → 0 < length (own s old.past) → TakesBack s (length (own s old.past) - 1) old new answer
     → Nears to_go s old statements.Rollback new statements.Rollback advance.Went
-nears_rollback s old new undone.Went some takes = takes_back_nears s old new undone.Went some takes
-nears_rollback s old new undone.Undone some takes = takes_back_nears s old new undone.Undone some takes
+nears_rollback s old new stepped.Went some takes = takes_back_nears s old new stepped.Went some takes
+nears_rollback s old new (stepped.Hindered never) some takes = absurd takes
+nears_rollback s old new (stepped.Done over) some takes = takes_back_nears s old new (stepped.Done over) some takes
 
 pub nears_to : (s : ℕ) (old new : State) (name : List ℕ) (made : ℕ) (answer : Undone) → 0 < length (own s old.past)
     → TakesBack s (length (own s old.past) - 1) old new answer
     → Nears to_go s old (statements.RollbackTo name made) new (statements.RollbackTo name made) advance.Went
-nears_to s old new name made undone.Went some takes =
+nears_to s old new name made stepped.Went some takes =
     below_third 1 0 (length (own s old.past)) (undo_to_go (task_of s old)) 0 (length (own s new.past)) (undo_to_go (task_of s new)) refl
     (ap (λ h. length (own s h)) takes.0.past_is) takes.2
-nears_to s old new name made undone.Undone some takes =
+nears_to s old new name made (stepped.Hindered never) some takes = absurd takes
+nears_to s old new name made (stepped.Done over) some takes =
     below_second 1 0 (length (own s old.past)) (undo_to_go (task_of s old)) 0 (length (own s new.past)) (undo_to_go (task_of s new)) refl
     (subst (λ (h : List Event). length (own s h) < length (own s old.past)) (sym takes.past_is) (fewer_stand s old.past some))
 

@@ -1,6 +1,6 @@
 -- What a call finds of the lists: its session with its transaction, as the past says, what it has under way, and its desk;
 -- and who is awaited at indexes after each step.
-use Rattle.row_changes.specs.declared.reached.Reached.TheVariants as reached
+use Rattle.row_changes.specs.Reached as reached
 use Rattle.std.proofs.Common.{◌≡◌, ℕ, ◌+◌, ◌<◌, Bool, true, Option, Some, None, List, length, sym, ap, subst, ◌∙◌, arith, get_or, zero, suc, ◌∷◌, ◌++◌, map}
 use Rattle.std.proofs.Common.{refl, [], ◌≢◌, ⊎_elim}
 use Rattle.std.proofs.lemmas.Bool.Decides.{eqb_tells}
@@ -17,7 +17,7 @@ use Rattle.desks.specs.declared.desk.Doing.TheVariants.{Nothing, Changing}
 use Rattle.desks.specs.{declared.desk.Desk.Desk, Shown.lists_of, Holding.IsHeld, declared.desk.Doing.Doing}
 use Rattle.row_changes.specs.Rows.{IsChangingRow, ChangesRow, table_of}
 use Rattle.row_changes.specs.{Records.IsListed, declared.row_change.RowChange.RowChange, declared.row_change.RowChange.TheVariants.Record}
-use Rattle.row_changes.specs.{declared.row_change.RowChange.TheVariants.Keys, declared.reached.Reached.Reached, Awaited.AwaitsIn, Awaited.IsOfTable}
+use Rattle.row_changes.specs.{declared.row_change.RowChange.TheVariants.Keys, Reached.Reached, Awaited.AwaitsIn, Awaited.IsOfTable}
 use Rattle.inno_types.specs.{declared.reply.Item.Item, declared.value.Schema.Schema}
 use Rattle.sql_history.specs.Settings.{Setting, at_first}
 use Rattle.store_api.specs.declared.answers.Standing.{Standing}

@@ -1,6 +1,7 @@
 -- A change of a row in held lists: how it begins, what each of its steps leaves, with the indexes that are left where it is over
 -- or was hindered, and a change that is given up.
-use Rattle.shared_lists.specs.declared.answers.Changed.TheVariants as answers
+use Rattle.store_api.specs.declared.stepped.Stepped.TheVariants as stepped
+use Rattle.shared_lists.specs.declared.answers.ChangePart.TheVariants as part
 use Rattle.std.proofs.Common.{◌≡◌, ℕ, zero, suc, ◌+◌, ◌<◌, ◌^◌, false, true, List, ◌∷◌, length, Option, Some, refl, sym, ap, subst, ◌∙◌, arith, []}
 use Rattle.std.proofs.lemmas.Bool.{false≢true}
 use Rattle.std.specs.Prelude.{slice_get, slice_index_or, slice_set, get_or}
@@ -12,7 +13,7 @@ use Rattle.key_codec.specs.Keys.{IsOfKind}
 use Rattle.row_changes.proofs.Changing.{lacks_memory}
 use Rattle.law_logged_changes.proofs.Leaving.{left_told}
 use Rattle.shared_lists.specs.Tasks.{Task, Idle, asked, left_by, is_changing, steps_left}
-use Rattle.shared_lists.specs.{Fitting.FitsWell, declared.answers.Changed.Changed, State.Lists, State.Turns, State.task_of, Steps.Changes, Steps.rows_entered}
+use Rattle.shared_lists.specs.{Fitting.FitsWell, Answers.Changed, State.Lists, State.Turns, State.task_of, Steps.Changes, Steps.rows_entered}
 use Rattle.desks.specs.declared.desk.Doing.TheVariants.{Nothing, Searching, Changing, Lagging, Undoing}
 use Rattle.desks.specs.Desks.{desk_at, doing_at, with_doing, doing_in}
 use Rattle.desks.specs.{declared.desk.Desk.Desk, declared.desk.Doing.Doing, Desks.Store, Shown.lists_of, Shown.shown, Undoing.left_in, Holding.IsHeld}
@@ -27,9 +28,9 @@ use Rattle.inno_model.specs.{Past.IsOpen, declared.event.Event.Event}
 use Rattle.store_api.specs.{declared.moves.Move.Move, declared.moves.Move.TheVariants.NoMemory}
 use Rattle.world.specs.{State.WorldState, Told.IsTold}
 use Rattle.row_changes.specs.declared.row_change.RowChange.TheVariants.{Record, Keys}
-use Rattle.row_changes.specs.declared.reached.Reached.TheVariants.{Went, Done, Hindered}
+use Rattle.row_changes.specs.Reached.{Went, Done, Hindered}
 use Rattle.row_changes.specs.Rows.{IsChangingRow, ChangesRow, table_of, primary_of}
-use Rattle.row_changes.specs.{Awaited.AwaitsIn, declared.row_edit.RowEdit.RowEdit, declared.row_change.RowChange.RowChange, declared.reached.Reached.Reached}
+use Rattle.row_changes.specs.{Awaited.AwaitsIn, declared.row_edit.RowEdit.RowEdit, declared.row_change.RowChange.RowChange, Reached.Reached}
 use Rattle.row_changes.specs.{Edits.change_of, Records.IsTable}
 use Rattle.law_held_steps.specs.Making.{doing_after, made_to, Comes, LeavesLists, MakesChange}
 use Rattle.law_held_steps.specs.{Beginning.IsEditable, Beginning.IsKeyOfEdit, Beginning.begun, Leaving.is_searching, Leaving.MovesPlaces, Leaving.LeavesTable}
@@ -87,11 +88,11 @@ gone_by {s} {old = old} {new = new} same gone = subst (λ n. LeavesTable s n old
 
 -- ---- how far a change came
 
-pub answer_over : (change : RowChange) → answers.Done ≡ answer_for change Done
+pub answer_over : (change : RowChange) → stepped.Done part.Keys ≡ answer_for change Done
 answer_over (Record change key after) = refl
 answer_over (Keys change) = refl
 
-pub answer_hindered : (change same : RowChange) (why : Move) → answers.NoMemory ≡ answer_for change (Hindered same why)
+pub answer_hindered : (change same : RowChange) (why : Move) → stepped.Hindered (record {}) ≡ answer_for change (Hindered same why)
 answer_hindered (Record change key after) same why = refl
 answer_hindered (Keys change) same why = refl
 
@@ -350,7 +351,7 @@ module _ (s : ℕ) {store : Store} {lists : Lists} (kept : IsKept store) (view :
         (lists_of (record store { world = new; desks = ds })) answer) (sym gives) (mine_shown s step kept its at was told few))
 
     -- a change that was asked for and is given up is nothing
-    pub step_stops : (asks : Change) → asked (task_of s lists.state) ≡ Some asks → answer ≡ answers.NoMemory → Turns s Idle lists.state (lists_of now).state
+    pub step_stops : (asks : Change) → asked (task_of s lists.state) ≡ Some asks → answer ≡ stepped.Hindered (record {}) → Turns s Idle lists.state (lists_of now).state
     step_stops asks asked_is is =
         subst (λ (o : Option Change). Turns s (left_by o) lists.state (lists_of now).state) asked_is
         (subst (Changes s lists.state (lists_of now).state) is step_shown.changes)

@@ -2,7 +2,7 @@
 -- of a table, which are read at once.
 use Rattle.row_search.specs.declared.sight.Sight.TheVariants as sights
 use Rattle.shared_lists.specs.declared.answers.Reading.TheVariants as readings
-use Rattle.shared_lists.specs.declared.answers.Searched.TheVariants as searched
+use Rattle.store_api.specs.declared.stepped.Stepped.TheVariants as stepped
 use Rattle.shared_lists.specs.Tasks as tasks
 use Rattle.std.proofs.Common.{◌≡◌, ◌≢◌, inl, inr, ℕ, ◌<◌, ◌==◌, true, false, not, List, map, length, get_or, Option, Some, None, slice_get, [], Result, Ok, Err}
 use Rattle.std.proofs.Common.{refl, sym, ap, subst, ◌∙◌, arith}
@@ -13,7 +13,7 @@ use Rattle.entries.specs.Calls.{Leaves}
 use Rattle.row_versions.specs.Chains.{Chains}
 use Rattle.sql_plan.specs.declared.choice.Plan.{Plan}
 use Rattle.shared_lists.specs.State.{State, Lists, Places, task_of, places_before, counted, Turns, Stays}
-use Rattle.shared_lists.specs.{declared.answers.Reading.Reading, declared.answers.Searched.Searched, Steps.AreFoundBy, Steps.Searches, Steps.AreNewestRows}
+use Rattle.shared_lists.specs.{declared.answers.Reading.Reading, Answers.Searched, Steps.AreFoundBy, Steps.Searches, Steps.AreNewestRows}
 use Rattle.desks.proofs.Showing.{task_is, places_are}
 use Rattle.law_held_steps.specs.TakenUp.{ComesAnew, IsTakenUp, MayStep, IsSearchOf, plan_of}
 use Rattle.law_held_steps.specs.{Begun.HasView, Begun.IsBegun, Begun.IsNewSearch, Leaving.MovesPlaces, Newest.plan_read, Newest.TellsTable, Newest.AreRead}
@@ -70,12 +70,12 @@ answered found (Err why) IsRight is right = record {}
 
 -- what a search that is over answers, and what callers see of it
 over_by : (table : ℕ) (plan : Plan) (reading : Reading) (s : ℕ) (old new : State) (rows : List (List Value)) (answer : Searched)
-    → ((given : List (List Value)) → answer ≡ searched.Found given → given ≡ rows) → answer ≢ searched.Went
+    → ((given : List (List Value)) → answer ≡ stepped.Done given → given ≡ rows) → answer ≢ stepped.Went
     → Turns s tasks.Idle old new → AreFoundBy reading table plan old.past s rows → Searches table plan reading s old new answer
-over_by table plan reading s old new rows searched.Went is over turns found = absurd (over refl)
-over_by table plan reading s old new rows (searched.Found given) is over turns found =
+over_by table plan reading s old new rows stepped.Went is over turns found = absurd (over refl)
+over_by table plan reading s old new rows (stepped.Done given) is over turns found =
     (turns, subst (AreFoundBy reading table plan old.past s) (sym (is given refl)) found)
-over_by table plan reading s old new rows searched.NoMemory is over turns found = turns
+over_by table plan reading s old new rows (stepped.Hindered why) is over turns found = turns
 
 found_as : (table : ℕ) (plan : Plan) (reading : Reading) (s : ℕ) (past : List Event) (rows : List (List Value)) (on : TableSearch) → IsSearchOf (Searching on)
     table plan reading → AreFoundBy (reading_of on.search.scan.sight) on.search.scan.table (plan_of on) past s rows → AreFoundBy reading table plan past s rows
@@ -263,8 +263,8 @@ module _ (s : ℕ) {store : Store} {lists : Lists} (kept : IsKept store) (view :
             pub ended_kept : IsKept (record store { world = new; desks = after })
             ended_kept = kept_now Nothing at (leaving_moves s _ old new ends.leaves) (ended s kept.held is search taken_up told ends).0
 
-            pub ended_seen : {answer : Searched} → ((rows : List (List Value)) → answer ≡ searched.Found rows → rows ≡ map (λ (f : FoundRow). f.row) found)
-                → answer ≢ searched.Went → (table : ℕ) (plan : Plan) (reading : Reading) → task_of s lists.state ≡ tasks.Searching table plan reading → Searches
+            pub ended_seen : {answer : Searched} → ((rows : List (List Value)) → answer ≡ stepped.Done rows → rows ≡ map (λ (f : FoundRow). f.row) found)
+                → answer ≢ stepped.Went → (table : ℕ) (plan : Plan) (reading : Reading) → task_of s lists.state ≡ tasks.Searching table plan reading → Searches
                 table plan reading s lists.state (now_in new after) answer
             ended_seen {answer} rows over table plan reading task =
                 let on_end = ended s kept.held is search taken_up told ends in

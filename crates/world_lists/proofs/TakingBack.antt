@@ -1,7 +1,7 @@
 -- A change is taken back in held lists: its undo record is read, and step by step its rows and keys are what was before. Then
 -- the record goes, the history tells it, and the indexes of the table are left.
 use Rattle.shared_lists.specs.Tasks as tasks
-use Rattle.shared_lists.specs.declared.answers.Undone.TheVariants as undone
+use Rattle.store_api.specs.declared.stepped.Stepped.TheVariants as stepped
 use Rattle.std.proofs.Common.{◌≡◌, ◌≢◌, ⊎_elim, ℕ, ◌-◌, ◌+◌, ◌<◌, ◌^◌, Bool, false, List, length, Option, Some, None, refl, sym, ap, subst, ◌∙◌, arith, []}
 use Rattle.std.proofs.Common.{slice_get, get_or, option_map}
 use Rattle.std.proofs.lemmas.Option.{slice_get_within}
@@ -95,11 +95,11 @@ module _ (s : ℕ) {store : Store} {lists : Lists} (kept : IsKept store) (view :
             index by (sym (reads.1.indexes index).awaited ∙ is));
       }
 
-      pub read_shown : TakesBackIn s (length (own s lists.state.past) - 1) lists (lists_of (record store { world = new; desks = later })) undone.Went
+      pub read_shown : TakesBackIn s (length (own s lists.state.past) - 1) lists (lists_of (record store { world = new; desks = later })) stepped.Went
       read_shown =
-          subst (λ (l : Lists). TakesBackIn s (length (own s l.state.past) - 1) l (lists_of (record store { world = new; desks = later })) undone.Went) view
+          subst (λ (l : Lists). TakesBackIn s (length (own s l.state.past) - 1) l (lists_of (record store { world = new; desks = later })) stepped.Went) view
           (subst (λ (ds : List Desk). TakesBackIn s (length (own s world.past) - 1) (lists_of store) (lists_of (record store { world = new; desks = ds }))
-          undone.Went) (sym reads_given)
+          stepped.Went) (sym reads_given)
           (shows_begun s (length (own s world.past) - 1) kept.held new read there its_desk desk_ready may_here memory reads))
 
 -- ---- a step
@@ -172,9 +172,9 @@ module _ (s : ℕ) {store : Store} (kept : IsKept store) (joined : s < length st
           })
 
       pub step_shown : TakesBackIn s (length (own s old.past) - 1) (lists_of store)
-          (lists_of (stepped (slice_set store.desks s (record desk { room = next })))) undone.Went
+          (lists_of (stepped (slice_set store.desks s (record desk { room = next })))) stepped.Went
       step_shown =
-          subst (λ (ds : List Desk). TakesBackIn s (length (own s old.past) - 1) (lists_of store) (lists_of (stepped ds)) undone.Went) (sym put_room)
+          subst (λ (ds : List Desk). TakesBackIn s (length (own s old.past) - 1) (lists_of store) (lists_of (stepped ds)) stepped.Went) (sym put_room)
           (shows_went s (length (own s old.past) - 1) kept.held busy mid next memory later (its_put Step put))
 
     -- It is the last one, and the undo record may go.
@@ -248,10 +248,10 @@ module _ (s : ℕ) {store : Store} (kept : IsKept store) (joined : s < length st
             }) leaves gone);
           }
 
-          pub done_shown : TakesBackIn s (length (own s old.past) - 1) (lists_of store) (lists_of (made now)) undone.Undone
+          pub done_shown : TakesBackIn s (length (own s old.past) - 1) (lists_of store) (lists_of (made now)) (stepped.Done tt)
           done_shown =
-              subst (λ (ds : List Desk). TakesBackIn s (length (own s old.past) - 1) (lists_of store) (lists_of (made ds)) undone.Undone) (sym left_given)
-              (subst (λ (l : Lists). TakesBackIn s (length (own s old.past) - 1) (lists_of store) l undone.Undone)
+              subst (λ (ds : List Desk). TakesBackIn s (length (own s old.past) - 1) (lists_of store) (lists_of (made ds)) (stepped.Done tt)) (sym left_given)
+              (subst (λ (l : Lists). TakesBackIn s (length (own s old.past) - 1) (lists_of store) l (stepped.Done tt))
               (sym (left_shown taken leaves not_searching later.told))
-              (subst (λ (n : ℕ). TakesBackIn s n (lists_of store) (lists_of taken) undone.Undone) keep_is
+              (subst (λ (n : ℕ). TakesBackIn s n (lists_of store) (lists_of taken) (stepped.Done tt)) keep_is
               (shows_undone s kept.held busy mid next its drops.cut drops.cuts keep new drops.added keep_is)))

@@ -5,14 +5,15 @@ use Rattle.law_stored_rows.specs.Tables.{Said}
 use Rattle.world.specs.State.{WorldState, Session, Work, IsSession, HasWork, standing_of}
 use Rattle.world.specs.{Sessions.undone_added, Undoing.IsCutBack}
 use Rattle.row_changes.specs.{declared.row_change.RowChange.RowChange, declared.row_change.RowChange.TheVariants.Record}
-use Rattle.row_changes.specs.{declared.row_change.RowChange.TheVariants.Keys, declared.reached.Reached.Reached, Rows.IsChangingRow, Rows.ChangesRow}
+use Rattle.row_changes.specs.{declared.row_change.RowChange.TheVariants.Keys, Reached.Reached, Rows.IsChangingRow, Rows.ChangesRow}
 use Rattle.row_changes.specs.{Rows.table_of, Awaited.AwaitsIn}
-use Rattle.shared_lists.specs.{declared.answers.Changed.Changed, declared.answers.Changed.TheVariants.Went, declared.answers.Changed.TheVariants.Entered}
-use Rattle.shared_lists.specs.{declared.answers.Changed.TheVariants.Done, declared.answers.Changed.TheVariants.NoMemory}
+use Rattle.store_api.specs.declared.stepped.Stepped.TheVariants.{Went, Done, Hindered}
+use Rattle.shared_lists.specs.Answers.{Changed}
+use Rattle.shared_lists.specs.declared.answers.ChangePart.TheVariants as part
 use Rattle.desks.specs.{declared.desk.Doing.Doing, declared.desk.Doing.TheVariants.Nothing, declared.desk.Doing.TheVariants.Changing, Desks.doing_at}
 use Rattle.desks.specs.{Desks.with_doing, declared.desk.Desk.Desk}
 use Rattle.law_held_steps.specs.{Making.given_up, Making.doing_after, Leaving.MovesPlaces, Leaving.LeavesTable}
-use Rattle.row_changes.specs.declared.reached.Reached.TheVariants as reached
+use Rattle.row_changes.specs.Reached as reached
 
 -- whether the history tells the change
 abbrev pub is_told : RowChange → Bool
@@ -21,10 +22,10 @@ is_told (Keys change) = true
 
 -- how far a change came
 abbrev pub answer_for : RowChange → Reached RowChange → Changed
-answer_for (Record change key after) (reached.Went (Keys next)) = Entered
+answer_for (Record change key after) (reached.Went (Keys next)) = Done part.Record
 answer_for change (reached.Went next) = Went
-answer_for change reached.Done = Done
-answer_for change (reached.Hindered same why) = NoMemory
+answer_for change reached.Done = Done part.Keys
+answer_for change (reached.Hindered same why) = Hindered (record {})
 
 abbrev pub LeavesIfOver : ℕ → ℕ → WorldState → WorldState → Reached RowChange → Type 0
 LeavesIfOver s table old new (reached.Went next) = Unit {0}
@@ -44,9 +45,9 @@ pub record StepsChange (s : ℕ) (change : RowChange) (old new : WorldState) (do
 -- what a desk has after a step with this answer: the change as it lies there now, or what is left of one that is over
 abbrev pub doing_now : RowChange → RowChange → Changed → Doing
 doing_now change next Went = Changing next
-doing_now change next Entered = Changing next
-doing_now change next Done = Nothing
-doing_now change next NoMemory = given_up change
+doing_now change next (Done part.Record) = Changing next
+doing_now change next (Done part.Keys) = Nothing
+doing_now change next (Hindered why) = given_up change
 
 -- The session has a change at its desk that may make a step.
 abbrev pub HasChange : ℕ → WorldState → List Desk → Type 0

@@ -1,6 +1,7 @@
 //! The parts of searches: how a reader sees rows, and a whole search of the newest rows.
 
 ghost use Rattle.std.specs.Prelude.{◌≡◌, ◌≢◌, ℕ, ◌<◌, ◌≤◌, true, false, length, map, IfOk, IfSome, OnOk, Some};
+ghost use Rattle.store_api.specs.declared.stepped.Stepped.TheVariants.{Went, Done};
 ghost use Rattle.row_versions.specs.Chains.{Chains};
 ghost use Rattle.world.specs.State.{Session, IsSession};
 ghost use Rattle.desks.specs.Desks.{is_quiet};
@@ -13,11 +14,11 @@ ghost use Rattle.law_held_steps.specs.TakenUp.{MayStep, ComesAnew};
 use desks::{Desk, Doing};
 use inno_types::{Ids, Rows, Schema};
 use read_view::ReadView;
-use row_search::{Came, FoundRow, RowSearch, Sight};
+use row_search::{Came, FoundRow, Hindrance, RowSearch, Sight};
 use shared_lists::{Reading, Searched};
 use sql_plan::Plan;
 use std::alloc::Global;
-use store_api::{Move, NoMemory};
+use store_api::{Move, NoMemory, Stepped};
 use world::EngineWorld;
 
 /// Whether no change of a row is under way, so that all keys say what is there.
@@ -91,12 +92,12 @@ pub fn rows_of(alloc: Global, found: Vec<FoundRow>) -> Result<Rows, NoMemory>
 
 /// What a search that is over answers.
 pub fn found_rows(alloc: Global, found: Vec<FoundRow>) -> Searched
-    ensures rows { (rows : _) → result ≡ Searched.Found rows → rows ≡ map (λ f. f.row) found.items }
-    ensures over { result ≢ Searched.Went }
+    ensures rows { (rows : _) → result ≡ Done rows → rows ≡ map (λ f. f.row) found.items }
+    ensures over { result ≢ Went }
 {
     match rows_of(alloc, found) {
-        Ok(rows) => Searched::Found(rows),
-        Err(_) => Searched::NoMemory,
+        Ok(rows) => Stepped::Done(rows),
+        Err(_) => Stepped::Hindered(NoMemory),
     }
 }
 
@@ -121,8 +122,8 @@ pub fn newest_rows<W: EngineWorld>(
                 drop(search);
                 return Ok(found);
             }
-            Came::Hindered(Move::NoMemory) => return Err(give_up(world, session, search, schema)),
-            Came::Hindered(_) | Came::Malformed => unreachable!(),
+            Came::Hindered(Hindrance::Call(Move::NoMemory)) => return Err(give_up(world, session, search, schema)),
+            Came::Hindered(_) => unreachable!(),
         }
     }
 }

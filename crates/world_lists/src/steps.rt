@@ -9,11 +9,11 @@ use inno_db::Change;
 use inno_model::History;
 use inno_types::{Bytes, Ids, Item, Level, Listed, Reply, Rows, Schema, Stmt};
 use row_changes::RowChange;
-use row_search::{Came, RowSearch};
+use row_search::{Came, Hindrance, RowSearch};
 use shared_lists::{Changed, Reading, Searched, SharedLists, Undone};
 use sql_history::SessionSettings;
 use sql_plan::Plan;
-use store_api::{MOST_SESSIONS, Move, NoMemory};
+use store_api::{MOST_SESSIONS, Move, NoMemory, Stepped};
 use world::EngineWorld;
 
 impl<W: EngineWorld> SharedLists for WorldLists<W> {
@@ -208,19 +208,19 @@ impl<W: EngineWorld> SharedLists for WorldLists<W> {
             Came::Went => {
                 on.cuts = self.cuts;
                 give_doing(&mut self.desks, session, Doing::Searching(on));
-                Searched::Went
+                Stepped::Went
             }
             Came::Done(found) => {
                 drop(on);
                 found_rows(self.alloc, found)
             }
-            Came::Hindered(Move::NoMemory) => {
+            Came::Hindered(Hindrance::Call(Move::NoMemory)) => {
                 let TableSearch { search, schema, .. } = on;
                 search.give_up(&mut self.world, session, &schema);
                 drop(schema);
-                Searched::NoMemory
+                Stepped::Hindered(NoMemory)
             }
-            Came::Hindered(_) | Came::Malformed => unreachable!(),
+            Came::Hindered(_) => unreachable!(),
         }
     }
 
@@ -291,7 +291,7 @@ impl<W: EngineWorld> WorldLists<W> {
         match self.world.last(session, session as u8, undo, &mut there) {
             Move::Done => {
                 give_doing(&mut self.desks, session, Doing::Undoing);
-                Undone::Went
+                Stepped::Went
             }
             _ => unreachable!(),
         }

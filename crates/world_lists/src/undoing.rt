@@ -2,6 +2,7 @@
 
 ghost use Rattle.std.specs.Prelude.{◌≡◌, ◌≢◌, ℕ, ◌-◌, ◌<◌, Option, false, [], length, slice_get, Some, IsTrue, ◌↔◌, IfSome, IfNone};
 ghost use Rattle.inno_types.specs.declared.value.Schema.{Schema};
+ghost use Rattle.store_api.specs.declared.stepped.Stepped.TheVariants.{Hindered};
 ghost use Rattle.row_versions.specs.Chains.{Chains};
 ghost use Rattle.law_stored_rows.specs.Tables.{Said};
 ghost use Rattle.world.specs.State.{Session, Work, IsSession, HasWork, standing_of};
@@ -15,17 +16,17 @@ ghost use Rattle.desks.specs.Shown.{lists_of};
 ghost use Rattle.law_held_steps.specs.Leaving.{MovesPlaces, LeavesTable};
 ghost use Rattle.law_held_steps.specs.Making.{given_up};
 ghost use Rattle.law_held_steps.specs.Undoing.{TakesBackIn};
-ghost use Rattle.row_changes.specs.declared.reached.Reached.TheVariants as reached;
+ghost use Rattle.row_changes.specs.Reached as reached;
 ghost use Rattle.world_lists.specs.Parts.{StepsChange, HasChange, StepsAtDesk, doing_now, DropsNewest, is_told, answer_for};
 ghost use Rattle.world_lists.specs.Between.{IsKept, store_of};
 
 use crate::lists::is_short;
 use desks::{Desk, Doing, give_doing};
 use inno_db::Change;
-use row_changes::{Came, RowChange, RowEdit};
-use shared_lists::{Changed, Undone};
+use row_changes::{RowChange, RowEdit};
+use shared_lists::{ChangePart, Changed, Undone};
 use std::alloc::Global;
-use store_api::Move;
+use store_api::{Move, NoMemory, Stepped};
 use undo_apply::RecordRoom;
 use world::{EngineWorld, index_number};
 
@@ -55,9 +56,9 @@ pub fn change_at_desk<W: EngineWorld>(
     let is_told = is_told(change);
     let changed = step_change(alloc, world, session, change);
     let doing = match changed {
-        Changed::Went | Changed::Entered => return changed,
-        Changed::Done => Doing::Nothing,
-        Changed::NoMemory => given_up(is_told),
+        Stepped::Went | Stepped::Done(ChangePart::Record) => return changed,
+        Stepped::Done(ChangePart::Keys) => Doing::Nothing,
+        Stepped::Hindered(NoMemory) => given_up(is_told),
     };
     drop(std::mem::replace(&mut desk.doing, doing));
     changed
@@ -76,14 +77,14 @@ fn step_change<W: EngineWorld>(
     let is_told = is_told(change);
     let table = table_of(change);
     match change.advance(alloc, world, session) {
-        Came::Went => answer_for(is_told, change),
-        Came::Done => {
+        Stepped::Went => answer_for(is_told, change),
+        Stepped::Done(()) => {
             leave_table(world, session, table);
-            Changed::Done
+            Stepped::Done(ChangePart::Keys)
         }
-        Came::Hindered(_why) => {
+        Stepped::Hindered(_why) => {
             leave_table(world, session, table);
-            Changed::NoMemory
+            Stepped::Hindered(NoMemory)
         }
     }
 }
@@ -92,7 +93,7 @@ fn step_change<W: EngineWorld>(
 pub fn drop_change<W: EngineWorld>(world: &mut W, session: u32, change: RowChange) -> Doing
     requires changing { (chains : Chains) × (beside : Said) × IsChangingRow session chains beside (W.state world.old) change }
     requires untold { is_told change ≡ false }
-    ensures { StepsChange session change (W.state world.old) (W.state world.new) result Changed.NoMemory }
+    ensures { StepsChange session change (W.state world.old) (W.state world.new) result (Hindered (record {})) }
 {
     let table = table_of(&change);
     drop(change);
@@ -112,9 +113,9 @@ fn answer_for(was_told: bool, next: &RowChange) -> Changed
     ensures { (change : RowChange) → was_told ≡ is_told change → result ≡ answer_for change (reached.Went next.now) }
 {
     if was_told || !is_told(next) {
-        Changed::Went
+        Stepped::Went
     } else {
-        Changed::Entered
+        Stepped::Done(ChangePart::Record)
     }
 }
 
@@ -205,9 +206,9 @@ pub fn take_newest_back<W: EngineWorld>(
             is_short(world);
             leave_table(world, session, table);
             *cuts += 1;
-            Undone::Undone
+            Stepped::Done(())
         }
-        Move::Step => Undone::Went,
+        Move::Step => Stepped::Went,
         _ => unreachable!(),
     }
 }

@@ -11,8 +11,9 @@ use Rattle.sql_grammar.specs.Grammar.{Spells}
 use Rattle.sql_history.specs.Counts.{rows_kept, most_rows}
 use Rattle.sql_history.specs.Legal.{MayChange}
 use Rattle.law_past_agreement.specs.Order.{created, IsTabled, IsOfRow}
-use Rattle.shared_lists.specs.declared.answers.Changed.{Changed}
-use Rattle.shared_lists.specs.declared.answers.Changed.TheVariants as made
+use Rattle.shared_lists.specs.Answers.{Changed}
+use Rattle.store_api.specs.declared.stepped.Stepped.TheVariants as stepped
+use Rattle.shared_lists.specs.declared.answers.ChangePart.TheVariants as parts
 use Rattle.shared_lists.specs.Tasks.{Task, Idle, MayTakeBack, asked, left_by, is_changing}
 use Rattle.shared_lists.specs.State.{State, Turns, task_of}
 use Rattle.shared_lists.specs.Steps.{GoesOn, Enters, Changes}
@@ -108,7 +109,7 @@ module _ (s : ℕ) (old new : State) (part : Part) (todo : Vec Change Global) (r
   told_once : Enters s old new → ⊥
   told_once enters = (let x : None ≡ Some enters.change = sym r.told ∙ enters.asked_was in cc)
 
-  pub finishing_went : (answer : Changed) → (answer ≡ made.Went) ⊎ (answer ≡ made.Entered) → Changes s old new answer
+  pub finishing_went : (answer : Changed) → (answer ≡ stepped.Went) ⊎ (answer ≡ stepped.Done parts.Record) → Changes s old new answer
       → Steps IsRunning s old new (machine.Finishing part todo) advance.Went
   finishing_went answer (inl went) changes = finishing_on (subst (Changes s old new) went changes)
   finishing_went answer (inr entered) changes = absurd (told_once (subst (Changes s old new) entered changes))
@@ -157,14 +158,14 @@ module _ (s : ℕ) (old new : State) where
   may_be_made (machine.Finishing part todo) is r within change asks = absurd (let x : None ≡ Some change = sym r.told ∙ asks in cc)
   may_be_made other is r within change asks = absurd (false≢true is)
 
-  pub change_went : (m : WriteStatement) (answer : Changed) → is_at_change m ≡ true → IsRunning old s m → answer ≡ made.Went → Changes s old new answer
+  pub change_went : (m : WriteStatement) (answer : Changed) → is_at_change m ≡ true → IsRunning old s m → answer ≡ stepped.Went → Changes s old new answer
       → Steps IsRunning s old new m advance.Went
   change_went (machine.Making part todo rows) answer is r went changes = making_went s old new part todo rows r (subst (Changes s old new) went changes)
   change_went (machine.Finishing part todo) answer is r went changes = finishing_went s old new part todo r answer (inl went) changes
   change_went other answer is r went changes = absurd (false≢true is)
 
   pub change_entered : (m : WriteStatement) (answer : Changed) (part : Part) (todo : Vec Change Global) → AreParts m part todo → IsRunning old s m
-      → answer ≡ made.Entered → Changes s old new answer → Steps IsRunning s old new (machine.Finishing part todo) advance.Went
+      → answer ≡ stepped.Done parts.Record → Changes s old new answer → Steps IsRunning s old new (machine.Finishing part todo) advance.Went
   change_entered (machine.Making it behind rows) answer part todo are r told changes =
       rw (are.0, are.1) (entered s old new it behind.items rows r (subst (Changes s old new) told changes))
   change_entered (machine.Finishing it behind) answer part todo are r told changes =
@@ -172,7 +173,7 @@ module _ (s : ℕ) (old new : State) where
   change_entered other answer part todo are r told changes = absurd are
 
   pub change_done : (m : WriteStatement) (answer : Changed) (part : Part) (todo : Vec Change Global) → AreParts m part todo → IsRunning old s m
-      → answer ≡ made.Done → Changes s old new answer → Steps IsRunning s old new (machine.Changing part todo) advance.Went
+      → answer ≡ stepped.Done parts.Keys → Changes s old new answer → Steps IsRunning s old new (machine.Changing part todo) advance.Went
   change_done (machine.Making it behind rows) answer part todo are r done changes =
       absurd (let x : None ≡ Some r.change = sym (subst (Changes s old new) done changes).0 ∙ r.asked_is in cc)
   change_done (machine.Finishing it behind) answer part todo are r done changes =
@@ -180,7 +181,7 @@ module _ (s : ℕ) (old new : State) where
   change_done other answer part todo are r done changes = absurd are
 
   pub change_fails : (m : WriteStatement) (answer : Changed) (part : Part) (todo : Vec Change Global) (next : WriteStatement) (a : Advance)
-      → AreParts m part todo → IsRunning old s m → answer ≡ made.NoMemory → Changes s old new answer
+      → AreParts m part todo → IsRunning old s m → answer ≡ stepped.Hindered (record {}) → Changes s old new answer
       → next ≡ machine.Leaving (leaving.BackingOut (given_up part.alone part.before)) → a ≡ advance.NoMemory → Steps IsRunning s old new next a
   change_fails (machine.Making it behind rows) answer part todo next a are r failed changes state told =
       making_given_up s old new it behind.items rows next a r (subst (Changes s old new) failed changes)

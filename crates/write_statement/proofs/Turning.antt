@@ -13,8 +13,8 @@ use Rattle.inno_model.specs.declared.event.Event.{Event}
 use Rattle.inno_model.specs.declared.event.Event.TheVariants.{Changed}
 use Rattle.inno_model.specs.Past.{own, started, commits}
 use Rattle.shared_lists.specs.declared.answers.Reading.TheVariants.{Newest}
-use Rattle.shared_lists.specs.declared.answers.Searched.{Searched}
-use Rattle.shared_lists.specs.declared.answers.Searched.TheVariants as searched
+use Rattle.shared_lists.specs.Answers.{Searched}
+use Rattle.store_api.specs.declared.stepped.Stepped.TheVariants as stepped
 use Rattle.shared_lists.specs.Tasks.{Task, Idle, Searching, is_changing, asked}
 use Rattle.shared_lists.specs.State.{State, Turns, Stays, task_of}
 use Rattle.shared_lists.specs.Steps.{AreRowsSeen, Searches}
@@ -138,7 +138,7 @@ abbrev HasFound : (s : ℕ) (part : Part) (rows : List (List Value)) (past : Lis
 HasFound s part rows past writer = (reading : IsReading past writer s part) × AreRowsSeen part.table reading.plan past s (commits past) rows
 
 pub search_found : (s : ℕ) (old new : State) (part : Part) (rows : List (List Value)) (r : IsSearching old.past old.writer (task_of s old) s part)
-    → Searches part.table r.reading.plan Newest s old new (searched.Found rows) → IsFound new s part rows
+    → Searches part.table r.reading.plan Newest s old new (stepped.Done rows) → IsFound new s part rows
 search_found s old new part rows r searches =
     let turns = searches.0 in
     let there : HasFound s part rows new.past new.writer =

@@ -9,8 +9,9 @@ ghost use Rattle.write_statement.specs.Running.{IsRunning, HasRoomFor, is_at_cha
 use crate::answering::give_up;
 use crate::machine::{Part, WriteStatement};
 use inno_db::Change;
-use shared_lists::{Changed, SharedLists};
+use shared_lists::{ChangePart, SharedLists};
 use sql_lists::{Advance, SqlLists};
+use store_api::{NoMemory, Stepped};
 
 /// Makes a step of a change that the history doesn't tell yet, and by which it will hold so many rows more.
 pub fn step_making<L: SharedLists>(
@@ -70,18 +71,18 @@ pub fn step_change<L: SharedLists>(
     ensures nears { Nears to_go session lists.old statement.old lists.new statement.new result }
 {
     match lists.change(session) {
-        Changed::Went => Advance::Went,
-        Changed::Entered => {
+        Stepped::Went => Advance::Went,
+        Stepped::Done(ChangePart::Record) => {
             let (part, todo) = statement.parts();
             *statement = WriteStatement::Finishing { part, todo };
             Advance::Went
         }
-        Changed::Done => {
+        Stepped::Done(ChangePart::Keys) => {
             let (part, todo) = statement.parts();
             *statement = WriteStatement::Changing { part, todo };
             Advance::Went
         }
-        Changed::NoMemory => {
+        Stepped::Hindered(NoMemory) => {
             let (part, todo) = statement.parts();
             drop(todo);
             let (next, answer) = give_up(part);

@@ -9,9 +9,10 @@ ghost use Rattle.write_statement.specs.Running.{IsRunning, IsFound};
 use crate::answering::{answer, give_up};
 use crate::machine::{Part, WriteStatement};
 use inno_types::Rows;
-use shared_lists::{Searched, SharedLists};
+use shared_lists::SharedLists;
 use sql_lists::{Advance, SqlLists};
 use std::alloc::Global;
+use store_api::{NoMemory, Stepped};
 
 /// Makes one step of the search.
 pub fn step_searching<L: SharedLists>(
@@ -27,14 +28,14 @@ pub fn step_searching<L: SharedLists>(
     ensures nears { Nears to_go session lists.old statement.old lists.new statement.new result }
 {
     match lists.search(session) {
-        Searched::Went => Advance::Went,
-        Searched::Found(rows) => {
+        Stepped::Went => Advance::Went,
+        Stepped::Done(rows) => {
             let part = statement.part();
             let (next, answer) = answer_found(alloc, part, rows, session, lists);
             *statement = next;
             answer
         }
-        Searched::NoMemory => {
+        Stepped::Hindered(NoMemory) => {
             let (next, answer) = give_up(statement.part());
             *statement = next;
             answer

@@ -10,8 +10,8 @@ returns-in-Went g c =
       nears = takes_back_nears c.args.s c.args.lists.now c.undo.new.self c.undo.result c.requires.stands c.undo.ensures.takes;
     }
 
-pub returns-in-Undone : goal.returns-in-Undone
-returns-in-Undone g c =
+pub returns-in-Done : goal.returns-in-Done
+returns-in-Done g c =
     record {
       goes = takes_back_goes c.args.s c.args.lists.now c.undo.new.self c.requires.goes_out c.undo.result c.requires.stands c.undo.ensures.takes;
       quiet = takes_back_quietly c.args.s c.args.lists.now c.undo.new.self c.requires.goes_out c.undo.result c.undo.ensures.takes;

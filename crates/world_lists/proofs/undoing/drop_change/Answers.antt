@@ -1,6 +1,6 @@
 use Rattle.std.proofs.Common.{refl}
 use Rattle.store_api.specs.declared.moves.Move.TheVariants.{NoMemory}
-use Rattle.row_changes.specs.declared.reached.Reached.TheVariants.{Hindered}
+use Rattle.row_changes.specs.Reached.{Hindered}
 use Rattle.row_changes.proofs.Awaited.{awaits_none_in}
 use Rattle.world_lists.proofs.Changing.{table_dropped, gone_by, step_of, dropped, nothing_after, answer_hindered}
 use Rattle.world_lists.proofs.undoing.drop_change.Goals as goal

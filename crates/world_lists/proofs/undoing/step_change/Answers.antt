@@ -1,5 +1,5 @@
 use Rattle.std.proofs.Common.{refl, ap}
-use Rattle.row_changes.specs.declared.reached.Reached.TheVariants.{Went, Done, Hindered}
+use Rattle.row_changes.specs.Reached.{Went, Done, Hindered}
 use Rattle.row_changes.specs.InPlace.{reached_at}
 use Rattle.law_held_steps.proofs.Places.{none_moves}
 use Rattle.world_lists.proofs.Changing.{table_left, table_over, gone_by, step_of, answer_over, answer_hindered, lies_there}

@@ -1,7 +1,7 @@
 use Rattle.std.proofs.Common.{[], ap, sym, subst, ◌∙◌, inl, refl}
 use Rattle.shared_lists.specs.Tasks.{Idle, asked}
 use Rattle.shared_lists.specs.declared.answers.Reading.TheVariants.{Newest}
-use Rattle.shared_lists.specs.declared.answers.Searched.TheVariants.{Went, Found, NoMemory}
+use Rattle.store_api.specs.declared.stepped.Stepped.TheVariants.{Went, Done, Hindered}
 use Rattle.sql_lists.proofs.Moving.{moves_turns, search_nears}
 use Rattle.law_claims.specs.Claims.{Tables}
 use Rattle.law_claims.proofs.Keeping.{keeper_writes}
@@ -38,24 +38,24 @@ pub answer_found-next-requires : goal.answer_found-next-requires
 answer_found-next-requires g c =
     let r = subst (λ (m : WriteStatement). IsRunning c.args.lists.now c.args.session m) c.part-part.ensures c.requires.running in
     record {
-      found = search_found c.args.session c.args.lists.now c.search.new.self c.part-part.result c.in-Found.rows r
-          (searches_as c.args.session c.args.lists.now c.search.new.self c.part-part.result c.search.result (Found c.in-Found.rows) r c.in-Found.is
+      found = search_found c.args.session c.args.lists.now c.search.new.self c.part-part.result c.in-Done.rows r
+          (searches_as c.args.session c.args.lists.now c.search.new.self c.part-part.result c.search.result (Done c.in-Done.rows) r c.in-Done.is
           (c.search.ensures.searches c.part-part.result.table r.reading.plan Newest r.task_is));
     }
 
-pub returns-in-Found-clause-nears : goal.returns-in-Found-clause-nears
-returns-in-Found-clause-nears g c =
+pub returns-in-Done-clause-nears : goal.returns-in-Done-clause-nears
+returns-in-Done-clause-nears g c =
     subst (λ (m : WriteStatement). Nears to_go c.args.session c.args.lists.now m c.answer_found-next.new.lists c.answer_found-next.result.0
     c.answer_found-next.result.1) (sym c.part-part.ensures)
     (nears_of c.args.session c.args.lists.now (Searching c.part-part.result) c.answer_found-next.new.lists c.answer_found-next.result.0
     c.answer_found-next.result.1 (c.answer_found-next.ensures.nears _ _ _))
 
-pub returns-in-Found-clause-steps : goal.returns-in-Found-clause-steps
-returns-in-Found-clause-steps g c =
+pub returns-in-Done-clause-steps : goal.returns-in-Done-clause-steps
+returns-in-Done-clause-steps g c =
     let part = c.part-part.result in
     let r = subst (λ (m : WriteStatement). IsRunning c.args.lists.now c.args.session m) c.part-part.ensures c.requires.running in
     let turns =
-    (searches_as c.args.session c.args.lists.now c.search.new.self part c.search.result (Found c.in-Found.rows) r c.in-Found.is
+    (searches_as c.args.session c.args.lists.now c.search.new.self part c.search.result (Done c.in-Done.rows) r c.in-Done.is
     (c.search.ensures.searches part.table r.reading.plan Newest r.task_is)).0 in
     steps_on IsRunning c.args.session c.args.lists.now c.search.new.self c.answer_found-next.new.lists c.answer_found-next.result.0
     c.answer_found-next.result.1
@@ -64,12 +64,12 @@ returns-in-Found-clause-steps g c =
     keeper_writes c.args.session Tables c.args.lists.now.past c.args.lists.now.writer (r.reading.changing.keeps Tables tt))
     c.answer_found-next.ensures.steps
 
-pub returns-in-NoMemory-clause-steps : goal.returns-in-NoMemory-clause-steps
-returns-in-NoMemory-clause-steps g c =
+pub returns-in-Hindered-clause-steps : goal.returns-in-Hindered-clause-steps
+returns-in-Hindered-clause-steps g c =
     let part = c.part.result in
     let r = subst (λ (m : WriteStatement). IsRunning c.args.lists.now c.args.session m) c.part.ensures c.requires.running in
     let turns =
-    searches_as c.args.session c.args.lists.now c.search.new.self part c.search.result NoMemory r c.in-NoMemory.is
+    searches_as c.args.session c.args.lists.now c.search.new.self part c.search.result (Hindered c.in-Hindered.why) r c.in-Hindered.is
     (c.search.ensures.searches part.table r.reading.plan Newest r.task_is) in
     changing_given_up c.args.session c.args.lists.now c.search.new.self Idle part (of_part part) [] c.give_up-next.result.0 c.give_up-next.result.1
     r.reading.changing turns (inl refl) c.give_up-next.ensures.state c.give_up-next.ensures.answer
