@@ -11,7 +11,7 @@ ghost use Rattle.sql_history.specs.Settings.{at_first, at_begin, at_end, saved, 
 ghost use Rattle.store_api.specs.declared.stepped.Stepped.TheVariants.{Went};
 ghost use Rattle.law_stored_rows.specs.Storable.{IsStorable};
 ghost use Rattle.law_past_agreement.specs.Order.{created, IsOfRow, MayCome, IsOrdered};
-ghost use Rattle.shared_lists.specs.Fitting.{FitsWell, FitsThen};
+ghost use Rattle.shared_lists.specs.Fitting.{FitsWell, FitsThen, RemovesOne};
 ghost use Rattle.shared_lists.specs.Tasks.{Idle, Searching, is_changing, asked, steps_left, MayTakeBack};
 ghost use Rattle.shared_lists.specs.State.{Lists, task_of, places_before, counted, Adds, Closes, Turns, Stays, IsNow, writer_without};
 ghost use Rattle.shared_lists.specs.Steps.{Searches, AreNewestRows, Changes, rows_entered, TakesBack};
@@ -278,6 +278,7 @@ pub trait SharedLists: Drop {
         requires locked { (lists self.old).state.writer ≡ Some session }
         requires changing { is_changing (task_of session (lists self.old).state) ≡ true }
         requires may { (change : _) → asked (task_of session (lists self.old).state) ≡ Some change → MayCome (lists self.old).state.past (ChangedEvent session change) }
+        requires removes { (change : _) → asked (task_of session (lists self.old).state) ≡ Some change → RemovesOne session (lists self.old).state.past change }
         ensures changes { Changes session (lists self.old).state (lists self.new).state result }
         ensures settings { (lists self.new).settings ≡ (lists self.old).settings }
         ensures rows { (lists self.new).rows ≡ (lists self.old).rows + rows_entered result (task_of session (lists self.old).state) };

@@ -17,7 +17,7 @@ ghost use Rattle.sql_history.specs.Legal.{IsLegal, MayBegin, MayView, MayChange,
 ghost use Rattle.store_api.specs.declared.stepped.Stepped.TheVariants.{Went};
 ghost use Rattle.law_stored_rows.specs.Storable.{IsStorable};
 ghost use Rattle.law_past_agreement.specs.Order.{created, IsOfRow, IsTabled, IsUndoable, IsOrdered};
-ghost use Rattle.shared_lists.specs.Fitting.{FitsWell, FitsThen};
+ghost use Rattle.shared_lists.specs.Fitting.{FitsWell, FitsThen, RemovesOne};
 ghost use Rattle.shared_lists.specs.Tasks.{Idle, Searching, is_changing, asked, steps_left, MayTakeBack};
 ghost use Rattle.shared_lists.specs.State.{IsFirst, IsNow, Adds, Closes, Turns, Stays, task_of, places_before, counted, writer_without};
 ghost use Rattle.shared_lists.specs.Steps.{Searches, AreNewestRows, Changes, TakesBack};
@@ -337,6 +337,7 @@ impl<L: SharedLists> SqlLists<L> {
         requires changing { is_changing (task_of session self.old) ≡ true }
         requires alone { (other : ℕ) → other ≢ session → own other self.old.past ≡ [] }
         requires may { (change : _) → asked (task_of session self.old) ≡ Some change → MayChange Spells session change self.old.past × IsTabled (length (created self.old.past)) change × IsOfRow change }
+        requires removes { (change : _) → asked (task_of session self.old) ≡ Some change → RemovesOne session self.old.past change }
         ensures changes { Changes session self.old self.new result }
     {
         self.lists.change(session)
