@@ -1,6 +1,6 @@
 -- What a session knows of its row that is at work alone, as the plain lock has it: of all other places the keys say what is there. It is what
 -- is held of the rows of all sessions, and the other way round.
-use Rattle.std.proofs.Common.{◌≡◌, ◌≢◌, ◌⊎◌, inl, inr, ℕ, Bool, true, false, cond, Option, Some, None, List, ◌∷◌, refl, sym, ap, subst, ◌∙◌}
+use Rattle.std.proofs.Common.{[], slice_get, ◌||◌, ◌≡◌, ◌≢◌, ◌⊎◌, inl, inr, ℕ, Bool, true, false, cond, Option, Some, None, List, ◌∷◌, refl, sym, ap, subst, ◌∙◌}
 use Rattle.std.proofs.lemmas.Bool.{cases_eq, cases_Bool}
 use Rattle.std.specs.List.{list_any}
 use Rattle.inno_types.specs.declared.value.Value.{Value}
@@ -96,11 +96,11 @@ any_older column value (version ∷ versions) has = more (has_value column value
     more true is = refl
     more false is = is
 
-module _ {chains : Chains} {state : WorldState} {desks : List Desk} (s : ℕ)
+module _ (chains : Chains) (state : WorldState) (desks : List Desk) (s : ℕ)
     (others : (t : ℕ) → t ≢ s → is_quiet_doing (doing_at t desks) ≡ true) where
   -- only its keys can lag
   lags_but : (place : Place) → lags_at place state desks s ≡ false → (t : ℕ) → lags_at place state desks t ≡ false
-  lags_but place mine = each s (λ t. lags_at place state desks t ≡ false) mine (λ t differs. quiet_lags place (others t differs))
+  lags_but place mine = each s (λ t. lags_at place state desks t ≡ false) mine (λ t differs. quiet_lags state t desks place (others t differs))
 
   -- ---- from what is held of all rows
 
@@ -172,7 +172,7 @@ module _ {chains : Chains} {state : WorldState} {desks : List Desk} (s : ℕ)
       each = each_row lag.said mine;
       lagging = λ t other. each s (λ t. lags_at other state desks t ≡ true → TellsOfOlder other chains lag.said) (λ is.
           subst (λ (p : Place). TellsOfOlder p chains lag.said) (same_place place other (sym (ap (is_place other) at) ∙ is)) lag.older)
-          (λ t differs is. let no = quiet_lags other (others t differs) in absurd (cc)) t;
+          (λ t differs is. let no = quiet_lags state t desks other (others t differs) in absurd (cc)) t;
       settled = λ other none which. lag.lag other.table which other.key (sym (ap (is_place other) at) ∙ none s);
     }
 
@@ -195,11 +195,11 @@ module _ {chains : Chains} {state : WorldState} {desks : List Desk} (s : ℕ)
     back_lags {undo} {room} {place} putting = elim (lags_while chains (what_is_there chains) place undo room state putting told) [
       | inl lag ↦ lag
       | inr back ↦ record {
-          said = what_is_there chains;
-          coded = whole_yet chains place undo (rows_of state) back;
-          lag = λ table which value apart. refl;
-          older = λ which column value. any_older column value (versions_at place chains);
-        }
+        said = what_is_there chains;
+        coded = whole_yet chains place undo (rows_of state) back;
+        lag = λ table which value apart. refl;
+        older = λ which column value. any_older column value (versions_at place chains);
+      }
     ]
 
     lagging_row : {change : KeysChange} (newest : IsLastOf state s change) (lag : LagsAt newest.place chains (what_is_there chains) state)

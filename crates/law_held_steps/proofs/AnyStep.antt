@@ -76,9 +76,9 @@ last_log {s} {state} agree last =
     (subst (IsLogOf state last.work.log) last.own_is (agree.each s last.session last.work last.has_work))
 
 -- what a session knows of its row that is left as it was
-module _ (s : ℕ) {chains : Chains} {said : Said} {old new : WorldState} (leaves : LeavesRows old new) (agrees : Agrees chains new)
+module _ (s : ℕ) {chains : Chains} {old new : WorldState} (leaves : LeavesRows old new) (agrees : Agrees chains new)
     (session : slice_get new.sessions s ≡ slice_get old.sessions s) (own_is : own s new.past ≡ own s old.past) where
-  pub last_of_left : {change : KeysChange} → IsLastOf old s change → IsLastOf new s change
+  abbrev pub last_of_left : {change : KeysChange} → IsLastOf old s change → IsLastOf new s change
   last_of_left is = record {
     logged = is.logged;
     place = is.place;
@@ -87,19 +87,19 @@ module _ (s : ℕ) {chains : Chains} {said : Said} {old new : WorldState} (leave
     key_is = is.key_is;
   }
 
-  lagging_left : {change : KeysChange} → IsLagging chains said old s change → IsLagging chains said new s change
-  lagging_left {change} is = record {
+  lagging_left : {said : Said} {change : KeysChange} → IsLagging chains said old s change → IsLagging chains said new s change
+  lagging_left {said} {change} is = record {
     newest = last_of_left is.newest;
     changing = change_left old new leaves s chains (settled_at is.newest.place chains said) (Keys change) is.changing session agrees;
   }
 
-  row_left : (undo : Undo) (room : WorkRoom) (doing : Doing) → RowHeld chains said old s undo room doing → RowHeld chains said new s undo room doing
-  row_left undo room Nothing row = row
-  row_left undo room (Searching on) row = row
-  row_left undo room (Changing (Record change key after)) row = change_left old new leaves s chains said (Record change key after) row session agrees
-  row_left undo room (Changing (Keys change)) row = lagging_left row
-  row_left undo room Lagging row = (row.0, lagging_left row.1)
-  row_left undo room Undoing row = record {
+  row_left : (said : Said) (undo : Undo) (room : WorkRoom) (doing : Doing) → RowHeld chains said old s undo room doing → RowHeld chains said new s undo room doing
+  row_left said undo room Nothing row = row
+  row_left said undo room (Searching on) row = row
+  row_left said undo room (Changing (Record change key after)) row = change_left old new leaves s chains said (Record change key after) row session agrees
+  row_left said undo room (Changing (Keys change)) row = lagging_left row
+  row_left said undo room Lagging row = (row.0, lagging_left row.1)
+  row_left said undo room Undoing row = record {
     logged = row.logged;
     place = row.place;
     last = last_left s leaves.schemas session own_is row.last;
@@ -107,9 +107,9 @@ module _ (s : ℕ) {chains : Chains} {said : Said} {old new : WorldState} (leave
     putting = others_leave chains (settled_at row.place chains said) row.place undo room old new row.putting leaves;
   }
 
-  pub row_left_at : (desk : Option Desk) → RowHeldAt chains said old s desk → RowHeldAt chains said new s desk
-  row_left_at None row = row
-  row_left_at (Some desk) row = row_left (read_into desk.undo) desk.room desk.doing row
+  pub row_left_at : (said : Said) (desk : Option Desk) → RowHeldAt chains said old s desk → RowHeldAt chains said new s desk
+  row_left_at said None row = row
+  row_left_at said (Some desk) row = row_left said (read_into desk.undo) desk.room desk.doing row
 
 -- who changes no row knows nothing of one
 quiet_knows : (chains : Chains) (said : Said) (state : WorldState) (s : ℕ) (undo : Undo) (room : WorkRoom) (doing : Doing) → is_quiet_doing doing ≡ true
@@ -129,9 +129,9 @@ lags_nowhere state s Nothing is = refl
 lags_nowhere state s (Searching on) is = refl
 lags_nowhere state s other is = absurd (cc)
 
-pub quiet_lags : {state : WorldState} {s : ℕ} {desks : List Desk} (place : Place) → is_quiet_doing (doing_at s desks) ≡ true
+pub quiet_lags : (state : WorldState) (s : ℕ) (desks : List Desk) (place : Place) → is_quiet_doing (doing_at s desks) ≡ true
     → lags_at place state desks s ≡ false
-quiet_lags {state} {s} {desks} place is = ap (is_place place) (lags_nowhere state s (doing_at s desks) is)
+quiet_lags state s desks place is = ap (is_place place) (lags_nowhere state s (doing_at s desks) is)
 
 lags_as : (old new : WorldState) (s : ℕ) (doing : Doing) → new.schemas ≡ old.schemas → own s new.past ≡ own s old.past
     → lags_in new s doing ≡ lags_in old s doing
@@ -147,7 +147,7 @@ none_lag {chains} {state} {desks} coded quiet = record {
   said = what_is_there chains;
   coded = coded;
   each = λ s. quiet_row chains (what_is_there chains) state s (desk_at s desks) (quiet s);
-  lagging = λ s place is. let no = quiet_lags place (quiet s) in absurd (cc);
+  lagging = λ s place is. let no = quiet_lags state s desks place (quiet s) in absurd (cc);
   settled = λ place none which. refl;
 }
 
@@ -166,7 +166,7 @@ module _ {chains : Chains} {old new : WorldState} {desks now : List Desk} (leave
     (left : (s : ℕ) → IsIdleOrLeft s old new desks now) where
   lags_still : (place : Place) (s : ℕ) → lags_at place new now s ≡ lags_at place old desks s
   lags_still place s = elim (left s) [
-    | inl quiet ↦ quiet_lags place quiet.1 ∙ sym (quiet_lags place quiet.0)
+    | inl quiet ↦ quiet_lags new s now place quiet.1 ∙ sym (quiet_lags old s desks place quiet.0)
     | inr is ↦ ap (λ desk. is_place place (lags_in new s (doing_in desk))) is.desk
         ∙ ap (is_place place) (lags_as old new s (doing_at s desks) leaves.schemas is.own_is)
   ]
@@ -178,7 +178,7 @@ module _ {chains : Chains} {old new : WorldState} {desks now : List Desk} (leave
     each = λ s. elim (left s) [
       | inl quiet ↦ quiet_row chains rows.said new s (desk_at s now) quiet.1
       | inr is ↦ subst (RowHeldAt chains rows.said new s) (sym is.desk)
-          (row_left_at s leaves agrees is.session is.own_is (desk_at s desks) (rows.each s))
+          (row_left_at s leaves agrees is.session is.own_is rows.said (desk_at s desks) (rows.each s))
     ];
     lagging = λ s place is. rows.lagging s place (sym (lags_still place s) ∙ is);
     settled = λ place none. rows.settled place (λ s. sym (lags_still place s) ∙ none s);

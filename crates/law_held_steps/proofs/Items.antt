@@ -16,6 +16,7 @@ use Rattle.world.specs.{Sessions.with_save, Endings.IsCommitted, Endings.IsRolle
 use Rattle.law_logged_changes.specs.{Steps.LeavesLog, Steps.HasNoLog, Steps.LeavesLogs, Steps.OfAll, Logs.LogsAgree, Logs.IsLogOf}
 use Rattle.desks.specs.Desks.{desk_at, with_start, doing_at, started_at, is_quiet_doing, HasRooms, doing_in, started_in, IsNewDesk, Store}
 use Rattle.desks.specs.Holding.{SearchHeld, IsHeld, IsFresh}
+use Rattle.row_versions.specs.Versions.{Versions}
 use Rattle.desks.specs.{declared.desk.Desk.Desk, declared.desk.Doing.TheVariants.Nothing, Leaves.Does}
 use Rattle.law_logged_changes.proofs.Leaving.{rows_leave, all_left, more_grow}
 use Rattle.law_held_steps.proofs.AnyStep.{some_same, each, others_past, past_grows, quiet_step, held_after, waits_not, none_lag}

@@ -14,7 +14,7 @@ use Rattle.entries.specs.Pairs.{Pair}
 use Rattle.row_changes.specs.declared.keys_change.KeysChange.{KeysChange}
 use Rattle.shared_lists.specs.Fitting.{FitsThen}
 use Rattle.desks.specs.Holding.{AreFew, IsHeld, IsLast, IsLastOf, RowsHeld, SearchHeld}
-use Rattle.desks.specs.Desks.{Store, desk_at, doing_in, doing_at, with_doing, is_undoing}
+use Rattle.desks.specs.Desks.{Store, desk_at, doing_in, doing_at, with_doing, is_undoing, is_quiet_doing}
 use Rattle.desks.specs.{declared.desk.Desk.Desk, declared.desk.Doing.Doing, Leaves.Does}
 use Rattle.inno_types.specs.{declared.lock.Level.Level, declared.value.Schema.Schema}
 use Rattle.row_versions.specs.{Chains.Chains, declared.place.Place.Place}
@@ -170,7 +170,7 @@ module _ {s : ℕ} {store : Store} {new : WorldState} (held : IsHeld store) (min
     rows_then : IsTold new → LogsAgree new → ((desk : Desk) → HoldsAlone after new s (read_into desk.undo) desk.room doing)
         → RowsHeld after new (with_doing s doing store.desks)
     rows_then later logs rows =
-        rows_by s (λ u differs. ap (λ desk. is_quiet_doing (doing_in desk)) (gives.others u differs)
+        rows_by after new (with_doing s doing store.desks) s (λ u differs. ap (λ desk. is_quiet_doing (doing_in desk)) (gives.others u differs)
         ∙ held.quiet u (λ is. differs (some_same u s (sym is ∙ mine)))) later logs gives.here (rows was.0)
 
     pub keeps : is_undoing (doing_at s store.desks) ≡ false → is_searching doing ≡ false → FitsThen new.past → IsTold new → LogsAgree new

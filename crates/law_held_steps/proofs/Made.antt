@@ -105,7 +105,7 @@ module _ {store : Store} (held : IsHeld store) where
           agrees = held.agrees;
           fits = held.fits;
           writes = held.writes;
-          rows = rows_by s (others_quiet s held mine now.desks gives.others) told held.logs gives.here (rows was.0);
+          rows = rows_by held.chains state now.desks s (others_quiet s held mine now.desks gives.others) told held.logs gives.here (rows was.0);
           quiet = each s (λ u. store.writer ≢ Some u → is_quiet_doing (doing_at u now.desks) ≡ true) (λ other. absurd (other mine))
               (λ u differs other. ap (λ desk. is_quiet_doing (doing_in desk)) (gives.others u differs) ∙ held.quiet u other);
           searches = each s (λ u. SearchHeld held.chains now u (doing_at u now.desks))

@@ -103,11 +103,11 @@ module _ (s : ℕ) {store : Store} (held : IsHeld store) where
       ap (λ desk. is_quiet_doing (doing_in desk)) (same u differs) ∙ held.quiet u (λ is. differs (some_same u s (sym is ∙ mine)))
 
   pub rows_mine : store.writer ≡ Some s → HoldsAloneAt held.chains store.world s (desk_at s store.desks)
-  rows_mine mine = held_alone s (others_quiet mine store.desks (λ u differs. refl)) held.rows
+  rows_mine mine = held_alone held.chains store.world store.desks s (others_quiet mine store.desks (λ u differs. refl)) held.rows
 
   -- who may write and has nothing under way finds all rows coded
   pub rests_coded : store.writer ≡ Some s → doing_at s store.desks ≡ Nothing → HasRows held.chains store.world
-  rests_coded mine rests = coded_all s (others_quiet mine store.desks (λ u differs. refl)) held.rows (ap (lags_in store.world s) rests)
+  rests_coded mine rests = coded_all held.chains store.world store.desks s (others_quiet mine store.desks (λ u differs. refl)) held.rows (ap (lags_in store.world s) rests)
 
   -- who has more than a search under way may write
   pub busy_writes : {doing : Doing} → doing_at s store.desks ≡ doing → is_quiet_doing doing ≡ false → store.writer ≡ Some s
@@ -132,7 +132,7 @@ module _ (s : ℕ) {store : Store} (held : IsHeld store) where
       (ap started_in gives.here ∙ gives.started ∙ sym (ap started_in gives.before)) gives.count (λ other. absurd (other mine))
       (subst (λ desk. SearchHeld held.chains (record store { world = new; desks = now }) s (doing_in desk)) (sym gives.here) search)
       (λ desk there. subst HasRooms (some_same is desk (sym gives.here ∙ there)) rooms)
-      (rows_by s (others_quiet mine now gives.others) tells logs gives.here rows) logs
+      (rows_by held.chains new now s (others_quiet mine now gives.others) tells logs gives.here rows) logs
 
 -- a step that was hindered doesn't answer that it went on
 module _ (actor : ℕ) (old new : WorldState) (memory : IsInMemory old) where
@@ -750,7 +750,7 @@ module _ (s : ℕ) {store : Store} (held : IsHeld store) (busy : doing_at s stor
                 whole = done.whole;
                 anew = λ none. done.anew;
               });
-            }) (subst FitsThen (sym past_now) held.fits) (rows_by s (others_quiet s held by_me taken.desks gives.others) told logs_now gives.here rows_now) logs_now
+            }) (subst FitsThen (sym past_now) held.fits) (rows_by after new taken.desks s (others_quiet s held by_me taken.desks gives.others) told logs_now gives.here rows_now) logs_now
             (gives.count ∙ held.count ∙ ap length (sym names)) (subst (λ (n : List (List ℕ)). length n ≤ 68) (sym names) held.few)
             (omega (arith, held.cut, long)) (λ place. omega (arith, held.short place, popped_fewer back_to.place place held.chains after pops, long))
 

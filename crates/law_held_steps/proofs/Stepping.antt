@@ -121,8 +121,8 @@ module _ {chains : Chains} {state : WorldState} (agrees : Agrees chains state) {
 abbrev pub HasSome : Chains → WorldState → Type 0
 HasSome chains state = (said : Said) × AreRowsAs chains said state
 
-some_rows : {store : Store} (held : IsHeld store) → HasSome held.chains store.world
-some_rows held = (held.rows.said, held.rows.coded)
+rows_of_all : {store : Store} (held : IsHeld store) → HasSome held.chains store.world
+rows_of_all held = (held.rows.said, held.rows.coded)
 
 -- the change by which a session's keys lag at this place
 lags_by : (chains : Chains) (said : Said) (state : WorldState) (w : ℕ) (undo : Undo) (room : WorkRoom) (doing : Doing) (place : Place)
@@ -150,13 +150,13 @@ lags_below : (place : Place) (state : WorldState) (desks : List Desk) (n : ℕ)
 lags_below place state desks zero = inr (λ s less. absurd (omega (arith, less)))
 lags_below place state desks (suc n) = elim (cases_Bool (lags_at place state desks n)) [
   | inl is ↦ inl (n, is)
-  | inr no ↦ elim (lags_below place state desks n) [
-      | inl some ↦ inl some
-      | inr none ↦ inr (λ s less. elim (cases_eq s n) [
-          | inl same ↦ ap (lags_at place state desks) same ∙ no
-          | inr differs ↦ none s (omega (arith, less, differs))
-        ])
-    ]
+  | inr not ↦ elim (lags_below place state desks n) [
+    | inl some ↦ inl some
+    | inr none ↦ inr (λ s less. elim (cases_eq s n) [
+      | inl same ↦ ap (lags_at place state desks) same ∙ not
+      | inr differs ↦ none s (omega (arith, less, differs))
+    ])
+  ]
 ]
 
 who_lags : (place : Place) (state : WorldState) (desks : List Desk)
@@ -164,9 +164,9 @@ who_lags : (place : Place) (state : WorldState) (desks : List Desk)
 who_lags place state desks = elim (lags_below place state desks (length desks)) [
   | inl some ↦ inl some
   | inr none ↦ inr (λ s. elim (cases_lt s (length desks)) [
-      | inl less ↦ none s less
-      | inr beyond ↦ ap (λ desk. is_place place (lags_in state s (doing_in desk))) (slice_get_past desks s beyond)
-    ])
+    | inl less ↦ none s less
+    | inr beyond ↦ ap (λ desk. is_place place (lags_in state s (doing_in desk))) (slice_get_past desks s beyond)
+  ])
 ]
 
 -- nobody changes a row, if who may write doesn't
@@ -175,9 +175,9 @@ coded_while_quiet : {store : Store} (held : IsHeld store) → IsTold store.world
 coded_while_quiet {store} held told is = go store.writer refl
   where
     go : (writer : Option ℕ) → store.writer ≡ writer → AreCoded store.world.schemas (pairs_of store.world) store.world.versions.kept_at held.chains
-    go None none = coded_all 0 (λ t differs. held.quiet t (λ may. let no : None ≡ Some t = sym none ∙ may in cc)) held.rows
+    go None none = coded_all held.chains store.world store.desks 0 (λ t differs. held.quiet t (λ may. let no : None ≡ Some t = sym none ∙ may in cc)) held.rows
         (lags_nowhere store.world 0 (doing_at 0 store.desks) (held.quiet 0 (λ may. let no : None ≡ Some 0 = sym none ∙ may in cc))) told
-    go (Some w) may = coded_all w (others_quiet w held may store.desks (λ u differs. refl)) held.rows
+    go (Some w) may = coded_all held.chains store.world store.desks w (others_quiet w held may store.desks (λ u differs. refl)) held.rows
         (lags_nowhere store.world w (doing_at w store.desks) (sym (ap (λ writer. is_quiet writer store.desks) may) ∙ is)) told
 
 -- a table whose rows are coded has its columns
@@ -197,9 +197,6 @@ columns_of chains said state table {schema} coded there =
 module _ {store : Store} (held : IsHeld store) (told : IsTold store.world) (s : ℕ) (searching : is_quiet_doing (doing_at s store.desks) ≡ true)
     {schema : Schema} (scan : Scan) (there : slice_get store.world.schemas scan.table ≡ Some schema) (le : scan.which ≤ length schema.keys)
     (holds : SightHolds store s scan.sight) where
-  abbrev rows : RowsHeld held.chains store.world store.desks
-  rows = held.rows
-
   -- whose keys lag may write; who reads the newest rows may write, and so is no other
   unseen : {w : ℕ} {logged : Logged} {place : Place} (sight : Sight) → SightHolds store s sight → s ≢ w → store.writer ≡ Some w
       → IsLast store.world w logged place → sees_by sight (id_of store.world.past w) ≡ false
@@ -207,35 +204,35 @@ module _ {store : Store} (held : IsHeld store) (told : IsTold store.world) (s : 
   unseen {w} Newest holds differs writes last = absurd (differs (some_same s w (sym holds ∙ writes)))
 
   lagging_unseen : (w : ℕ) (place : Place) (desk : Option Desk) → desk_at w store.desks ≡ desk → lags_at place store.world store.desks w ≡ true
-      → IsUnseen held.chains rows.said scan.sight place
+      → IsUnseen held.chains held.rows.said scan.sight place
   lagging_unseen w place None is lags = let no = ap (λ desk. is_place place (lags_in store.world w (doing_in desk))) is in absurd (cc)
   lagging_unseen w place (Some desk) is lags =
-      let differs : s ≢ w = λ same. let no = quiet_lags {store.world} place (subst (λ u. is_quiet_doing (doing_at u store.desks) ≡ true) same searching) in cc in
-      let last = lags_by held.chains rows.said store.world w (read_into desk.undo) desk.room desk.doing place
-          (subst (RowHeldAt held.chains rows.said store.world w) is (rows.each w))
-          (sym (ap (λ desk. is_place place (lags_in store.world w (doing_in desk))) is) ∙ lags) in
+      let differs : s ≢ w = λ same. let no = quiet_lags store.world w store.desks place (subst (λ u. is_quiet_doing (doing_at u store.desks) ≡ true) same searching) in cc in
+      let last = lags_by held.chains held.rows.said store.world w (read_into desk.undo) desk.room desk.doing place
+      (subst (RowHeldAt held.chains held.rows.said store.world w) is (held.rows.each w))
+      (sym (ap (λ desk. is_place place (lags_in store.world w (doing_in desk))) is) ∙ lags) in
       let by : IsWrittenBy held.chains place (id_of store.world.past w) = written held.agrees last.1 in
       let busy : is_quiet_doing (doing_at w store.desks) ≡ false = lagging_busy place w lags in
       record {
         version = by.version;
         others = by.others;
         newest_is = by.versions;
-        tells = rows.lagging w place lags;
+        tells = held.rows.lagging w place lags;
         unseen = ap (sees_by scan.sight) by.writer_is ∙ unseen scan.sight holds differs (busy_writes w held refl busy) last.1;
       }
     where
       lagging_busy : (place : Place) (w : ℕ) → lags_at place store.world store.desks w ≡ true → is_quiet_doing (doing_at w store.desks) ≡ false
       lagging_busy place w lags = elim (cases_Bool (is_quiet_doing (doing_at w store.desks))) [
-        | inl quiet ↦ let no = quiet_lags {store.world} place quiet in absurd (cc)
+        | inl quiet ↦ let no = quiet_lags store.world w store.desks place quiet in absurd (cc)
         | inr busy ↦ busy
       ]
 
   pub shows_held : ShowsRows schema scan store.world (in_table scan.table held.chains)
   shows_held =
-      shows_lagging store.world held.chains rows.said told rows.coded schema scan there
-      (columns_of held.chains rows.said store.world scan.table rows.coded there) le (λ place. elim (who_lags place store.world store.desks) [
+      shows_lagging store.world held.chains held.rows.said told held.rows.coded schema scan there
+      (columns_of held.chains held.rows.said store.world scan.table held.rows.coded there) le (λ place. elim (who_lags place store.world store.desks) [
         | inl some ↦ inr (lagging_unseen some.0 place (desk_at some.0 store.desks) refl some.1)
-        | inr none ↦ inl (rows.settled place none)
+        | inr none ↦ inl (held.rows.settled place none)
       ])
 
 -- ---- A search that begins, with the view by which it reads; one that is under way goes on, ends or is given up.
@@ -243,7 +240,7 @@ module _ {store : Store} (held : IsHeld store) (told : IsTold store.world) (s : 
 pub columns_held : {store : Store} (table : ℕ) {schema : Schema} → IsHeld store → IsTold store.world → slice_get store.world.schemas table ≡ Some schema
     → HasItsColumns schema
 columns_held {store} table held told there =
-    let rows : HasSome held.chains store.world = some_rows held in
+    let rows : HasSome held.chains store.world = rows_of_all held in
     columns_of held.chains rows.0 store.world table rows.1 there
 
 pub new_search : (table : ℕ) (plan : Plan) (sight : Sight) (search : RowSearch) → search.scan ≡ record {
@@ -387,7 +384,7 @@ module _ {store : Store} (held : IsHeld store) (told : IsTold store.world) (s : 
   now = store.world
 
   rows : HasSome held.chains now
-  rows = some_rows held
+  rows = rows_of_all held
 
   abbrev scan : Scan
   scan = on.search.scan
@@ -436,7 +433,7 @@ module _ (s : ℕ) {store : Store} {on : TableSearch} (held : IsHeld store) (is 
   search_held = subst (SearchHeld held.chains store s) is (held.searches s)
 
   some_rows : IsTold old → HasSome held.chains old
-  some_rows told = (held.rows.said, held.rows.coded)
+  some_rows told = rows_of_all held
 
   short : (place : Place) → length (versions_at place held.chains) ≤ most_versions
   short = few_held held
@@ -544,7 +541,7 @@ module _ {store : Store} (table : ℕ) (plan : Plan) (schema : Schema) (held : I
       short = few_held held;
     }
     tells_by false is =
-        let rows : HasSome held.chains store.world = some_rows held in
+        let rows : HasSome held.chains store.world = rows_of_all held in
         record {
           there = there;
           columns = columns_held table held told there;
