@@ -195,12 +195,12 @@ module _ (s : ℕ) {store : Store} {lists : Lists} (kept : IsKept store) (view :
       gives : later ≡ with_doing s (Changing (begun table edit key)) store.desks
       gives = subst (λ (c : RowChange). later ≡ with_doing s (Changing c) store.desks) is_first gives_first
 
-      pub change_kept : IsOpen s lists.state.past → IsKept (record store { desks = later })
-      change_kept is_open =
+      pub change_kept : IsTold state → IsOpen s lists.state.past → IsKept (record store { desks = later })
+      change_kept told is_open =
           let idles = at_rest s kept view idle in
           let there = subst (λ (schema : Schema). slice_get state.schemas table ≡ Some schema) one can.there in
           kept_beside kept (same_no_more state) s (Changing (begun table edit key)) (rests (desk_at s store.desks) idles (λ undone. refl)) gives
-          (begins kept.held (writer_now s kept view locked) table found edit key idles (past_here s kept view (IsOpen s) is_open) fits_mine there spelled)
+          (begins kept.held (writer_now s kept view locked) told table found edit key idles (past_here s kept view (IsOpen s) is_open) fits_mine there spelled)
 
       pub change_begins : s < length lists.state.names → Begins s change lists (lists_of (record store { desks = later }))
       change_begins joined =
