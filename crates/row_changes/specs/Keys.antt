@@ -19,6 +19,13 @@ value_stays column None (Some after) = false
 value_stays column (Some before) None = false
 value_stays column (Some before) (Some after) = is_same_value (value_in column before) (value_in column after)
 
+-- the table has a key of this number, on one of its columns
+pub record HasColumnOf (schema : Schema) (which : ℕ) : Type 0 where
+  pub key : Key
+  pub key_is : slice_get schema.keys which ≡ Some key
+  pub indexed : Column
+  pub indexed_is : slice_get schema.columns key.column ≡ Some indexed
+
 -- these bytes are the entry of the row in the table's key of this number
 pub record IsEntryIn (schema : Schema) (which : ℕ) (row : List Value) (primary entry : List ℕ) : Type 0 where
   pub key : Key

@@ -219,6 +219,12 @@ abbrev pub when_found : RowEdit → Version → List ℕ → RecordChange → Re
 when_found (Put row) before bytes change = Went (record change { stage = Replace before bytes })
 when_found (Remove value) before bytes change = if before.marked then Hindered change End else Went (record change { stage = Replace before bytes })
 
+-- a row may be put at any stage, and removed where its record was found
+abbrev pub MayMake : RowEdit → RecordStage → Type 0
+MayMake (Put row) stage = Unit {0}
+MayMake (Remove value) (Replace before bytes) = Unit {0}
+MayMake (Remove value) other = ⊥
+
 -- the row of the version that was found
 abbrev pub row_found : RecordStage → List Value
 row_found (Replace before bytes) = before.row

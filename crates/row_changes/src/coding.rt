@@ -36,7 +36,7 @@ pub fn decoded<W: World>(
             }),
             Err(RowBad::NoMemory) => Err(Move::NoMemory),
         },
-        None => Err(Move::NoMemory),
+        None => unreachable!(),
     }
 }
 
@@ -63,7 +63,7 @@ pub fn coded<W: World>(
     ensures { IfOk result (λ bytes. (schema : Schema) → slice_get (W.state world.now).schemas table ≡ Some schema → bytes ≡ version_code schema version.now) }
 {
     let Some(schema) = world.schema(table) else {
-        return Err(NoMemory);
+        unreachable!()
     };
     let mut value = Bytes::new(alloc);
     encode(schema, version, &mut value)?;

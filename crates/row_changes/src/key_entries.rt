@@ -3,7 +3,7 @@
 ghost use Rattle.std.specs.Prelude.{◌≡◌, ◌≤◌, ◌<◌, ℕ, Some, length, IfOk, IfSome, MatchOption};
 ghost use Rattle.row_codec.specs.Rows.{IsRowOf};
 ghost use Rattle.law_stored_rows.specs.Edits.{key_index};
-ghost use Rattle.row_changes.specs.Keys.{value_stays, StayBetween, IsFirstToChange, IsEntryIn, IsEntryFor, AreEntries};
+ghost use Rattle.row_changes.specs.Keys.{value_stays, StayBetween, IsFirstToChange, IsEntryIn, IsEntryFor, AreEntries, HasColumnOf};
 
 use inno_db::{at_place, order, to_value};
 use inno_types::{Bytes, Row, Schema};
@@ -32,6 +32,7 @@ pub fn next_entries(
     requires from { from ≤ length schema.now.keys }
     requires before { IfSome before.now (IsRowOf schema.now.columns) }
     requires after { IfSome after.now (IsRowOf schema.now.columns) }
+    requires keys { (which : ℕ) → which < length schema.now.keys → HasColumnOf schema.now which }
     ensures { IfOk result (λ found. MatchOption found (StayBetween schema.now from (length schema.now.keys) before.now after.now) (AreEntries schema.now from before.now after.now primary.now)) }
 {
     let which = first_to_change(schema, from, before, after);
@@ -77,7 +78,8 @@ fn entry_for(
     row: &Option<Row>,
     primary: &Bytes,
 ) -> Result<Option<Bytes>, NoMemory>
-    requires { IfSome row.now (IsRowOf schema.now.columns) }
+    requires row { IfSome row.now (IsRowOf schema.now.columns) }
+    requires key { HasColumnOf schema.now which }
     ensures { IfOk result (IsEntryFor schema.now which row.now primary.now) }
 {
     match row {
@@ -93,16 +95,12 @@ fn entry_of(
     row: &Row,
     primary: &Bytes,
 ) -> Result<Bytes, NoMemory>
-    requires { IsRowOf schema.now.columns row.now }
+    requires row { IsRowOf schema.now.columns row.now }
+    requires key { HasColumnOf schema.now which }
     ensures { IfOk result (IsEntryIn schema.now which row.now primary.now) }
 {
-    let Some(key) = schema.keys.as_slice().get(which) else {
-        return Err(NoMemory);
-    };
-    let place = usize::from(key.column);
-    let Some(column) = schema.columns.as_slice().get(place) else {
-        return Err(NoMemory);
-    };
+    let place = usize::from(schema.keys.as_slice()[which].column);
+    let column = &schema.columns.as_slice()[place];
     let value = to_value(at_place(row, place))?;
     let mut entry = Bytes::new(alloc);
     put_entry(&value, column.kind, primary, &mut entry)?;

@@ -90,7 +90,7 @@ impl KeysChange {
                 &self.after,
                 &self.key,
             ),
-            None => Err(NoMemory),
+            None => unreachable!(),
         }
     }
 

@@ -6,7 +6,7 @@ ghost use Rattle.std.specs.Prelude.{◌≡◌, ℕ, List, IfOk};
 ghost use Rattle.law_stored_rows.specs.Edits.{clustered_index};
 ghost use Rattle.law_stored_rows.specs.Records.{row_shown};
 ghost use Rattle.row_changes.specs.Edits.{version_by};
-ghost use Rattle.row_changes.specs.Records.{IsChangingRecord, ChangesRecord, when_missed, when_found, row_found, undo_of_former};
+ghost use Rattle.row_changes.specs.Records.{IsChangingRecord, ChangesRecord, MayMake, when_missed, when_found, row_found, undo_of_former};
 ghost use Rattle.row_changes.specs.Awaited.{AwaitsAt};
 ghost use Rattle.row_changes.specs.InPlace.{record_reached};
 ghost use Rattle.row_changes.specs.RecordReached.{Went};
@@ -216,6 +216,7 @@ impl RecordChange {
 
     /// The version that becomes the newest. What is removed was found.
     fn version(&self, writer: u64, pointer: u64) -> Result<Version, NoMemory>
+        requires { MayMake self.now.edit self.now.stage }
         ensures { IfOk result (λ version. version ≡ version_by self.now.edit (row_found self.now.stage) writer pointer) }
     {
         let (row, marked) = match (&self.edit, &self.stage) {
@@ -224,7 +225,7 @@ impl RecordChange {
             (
                 RowEdit::Remove(_),
                 RecordStage::Enter | RecordStage::Room | RecordStage::Find | RecordStage::Insert,
-            ) => return Err(NoMemory),
+            ) => unreachable!(),
         };
         Ok(Version {
             row: row.copied()?,
@@ -237,6 +238,7 @@ impl RecordChange {
 
 /// The row that the former record shows, and the undo record that keeps it.
 fn former(table: u8, key: &Bytes, stage: &RecordStage) -> Result<(Option<Row>, Undo), NoMemory>
+    requires { (before : Version) × (bytes : List ℕ) × (stage.now ≡ RecordStage.Replace before bytes) }
     ensures { IfOk result (λ r. (before : Version) (bytes : List ℕ) → stage.now ≡ RecordStage.Replace before bytes → (r.0 ≡ row_shown before.marked before.row) × (r.1 ≡ undo_of_former table key.now bytes)) }
 {
     match stage {
@@ -244,9 +246,8 @@ fn former(table: u8, key: &Bytes, stage: &RecordStage) -> Result<(Option<Row>, U
             shown_row(before)?,
             undo_of_former(table, key, bytes)?,
         )),
-        RecordStage::Enter | RecordStage::Room | RecordStage::Find | RecordStage::Insert => Err(
-            NoMemory,
-        ),
+        RecordStage::Enter | RecordStage::Room | RecordStage::Find | RecordStage::Insert =>
+            unreachable!(),
     }
 }
 
