@@ -1,17 +1,18 @@
 -- What one key says of a place while a change goes over into the keys, and what stays known meanwhile.
 use Rattle.std.proofs.Common.{◌≡◌, ◌≢◌, ⊎_elim, ◌∙◌, sym, ap, subst, refl, ℕ, zero, suc, ◌+◌, ◌<◌, ◌≤◌, ◌^◌, ◌==◌, Bool, true, false, cond, List, ◌∷◌, length}
-use Rattle.std.proofs.Common.{Option, None, Some, slice_get, arith, rules, ◌-◌, ◌*◌}
+use Rattle.std.proofs.Common.{Option, None, Some, slice_get, arith, rules, ◌-◌, ◌*◌, ◌⊎◌, inl, inr}
 use Rattle.std.specs.Prelude.{◌&&◌, IfSome}
 use Rattle.std.proofs.lemmas.{Bool.cases_eq, Bool.eqb-true, Option.slice_get_within, Option.slice_get_cases, Option.get_or_from_slice_get}
-use Rattle.inno_types.specs.{declared.value.Value.Value, declared.value.Key.Key, declared.value.Schema.Schema}
+use Rattle.key_codec.specs.Keys.{HasKey, key_code, entry_code}
+use Rattle.inno_types.specs.{declared.value.Value.Value, declared.value.Column.Column, declared.value.Key.Key, declared.value.Schema.Schema}
 use Rattle.inno_db.specs.Database.{key_of}
 use Rattle.store_api.specs.{declared.moves.Move.Move}
 use Rattle.store_api.specs.declared.answers.Version.{Version as Coded}
-use Rattle.entries.specs.{Index.Index}
+use Rattle.entries.specs.{Pairs.value_of}
 use Rattle.row_versions.specs.{declared.place.Place.Place, declared.version.Version.Version}
 use Rattle.row_versions.specs.Chains.{Chains, versions_at, is_same_place, newest}
 use Rattle.row_codec.specs.Rows.{version_code}
-use Rattle.law_stored_rows.specs.{Edits.key_index, Edits.clustered_index, Entries.value_in, Entries.entry_of, Entries.TellAlike, Records.shown}
+use Rattle.law_stored_rows.specs.{Edits.key_index, Edits.clustered_index, Entries.value_in, Entries.has_value, Entries.entry_of, Entries.TellAlike, Records.shown}
 use Rattle.law_stored_rows.specs.{Tables.Said, Tables.AreCodedAs, Tables.SaysNow, Tables.SayTheSameBut, Storable.IsStorable}
 use Rattle.law_stored_rows.specs.Steps.{PutsEntry as PutsStored}
 use Rattle.row_changes.specs.{Told.HasRowsAt, Told.AreRowsAs, Edits.IsRowFor, declared.entry_put.PutPhase.PutPhase}
@@ -21,12 +22,12 @@ use Rattle.row_changes.specs.{Reached.Hindered, Pairs.Hinders, Pairs.RowsStay, P
 use Rattle.row_changes.specs.Keys.{StaysBesideKeys, gone, SaySoFar, said_next, keys_next, without_row, keys_steps, HasRowsSoFar, ChangesKeys, IsEntering}
 use Rattle.row_changes.specs.Keys.{IsChangingKeys, GoesOnWithKeys, value_stays, AreEntries, StayBetween, IsEntryIn, IsEntryFor}
 use Rattle.row_changes.specs.Entries.{marked, unmarked, PutsEntry, GoesOnPutting, HindersEntry, put_steps}
-use Rattle.law_stored_rows.proofs.{Pairs.no_key, Values.same_place, Values.place_itself, Values.same_value, Coding.short_entries}
+use Rattle.law_stored_rows.proofs.{Pairs.no_key, Values.same_place, Values.place_itself, Values.same_value, Values.value_itself, Values.entry_there, Coding.short_entries}
 use Rattle.law_stored_rows.proofs.Steps.{old_marked, new_put, first_put}
 use Rattle.law_stored_rows.proofs.{Coding.value_in-kind, Keys.now_says, Keys.others_say, Keys.lag_says, Keys.said_alike, Keys.change_over}
-use Rattle.law_stored_rows.proofs.Entries.{value_again, without_row as tells_no_row}
+use Rattle.law_stored_rows.proofs.Entries.{is_unmarked, value_again, without_row as tells_no_row}
 use Rattle.row_changes.proofs.{Sessions.one_found, Pushed.at_primary, Pushed.plain, Pushed.code_of, Pushed.table_kept}
-use Rattle.row_changes.proofs.Telling.{stays_told, rows_again, rows_at, coded_again, put_told, put_pairs}
+use Rattle.row_changes.proofs.Telling.{tells, stays_told, rows_again, rows_at, coded_again, put_told, put_pairs}
 use Rattle.world.specs.{State.IsIndex, State.WorldState, Told.pairs_of, Told.IsTold}
 use Rattle.store_api.specs.declared.moves.Move.TheVariants as moves
 
@@ -114,11 +115,6 @@ beside_stay old new stay = record {
   rest = stay.rest;
   later = stay.later;
 }
-
--- what hinders the putting of an entry
-put_hinders : (actor : ℕ) (entry : List ℕ) (old new : Index) (why : Move) → Hinders actor old new why → HindersEntry actor entry old new why
-put_hinders actor entry old new moves.End h = rw h (record {})
-put_hinders actor entry old new other h = h
 
 some_key : (schema : Schema) (which : ℕ) → which < length schema.keys → (key : Key) × (slice_get schema.keys which ≡ Some key)
 some_key schema which within = ⊎_elim (λ found. (found.0, found.2)) (λ none. let out = none.0 in absurd (omega arith)) (slice_get_cases schema.keys which).1
@@ -305,15 +301,52 @@ module _ (chains : Chains) (beside : Said) (old new : WorldState) (change : Keys
 
   -- ---- the old entry
 
-  pub mark_hindered : (actor index which : ℕ) (entry : List ℕ) (why : Move) → change.put ≡ None → change.which ≤ which
-      → index ≡ key_index change.table which → RowsStay old new → HindersEntry actor entry (old.indexes index) (new.indexes index) why
-      → ChangesKeys actor chains beside old new change (Hindered change why)
-  mark_hindered actor index which entry why none from is stay because = (
-    refl,
-    stay,
-    changing_kept stay (rw none (record {})),
-    record { which = which; from = from; entry = entry; cause = rw is at because },
-  )
+  module _ (entries : KeyEntries) (entry : List ℕ) (none : change.put ≡ None)
+      (all : AreEntries p.schema change.which change.before change.after change.key entries) (old_is : entries.old ≡ Some entry) where
+    -- it is there, since the key says what was there before
+    old_there : IsTold old → value_of entry (pairs_of old (key_index change.table entries.which)) ≡ Some unmarked
+    old_there told = go change.before refl (rw old_is at all.old_is)
+      where
+        go : (before : Option (List Value)) → change.before ≡ before → IsEntryFor p.schema entries.which before change.key (Some entry)
+            → value_of entry (pairs_of old (key_index change.table entries.which)) ≡ Some unmarked
+        go None was e = absurd e
+        go (Some row) was e =
+            let value = value_in e.key.column row in
+            let says = rows_passed entries.which none all.first.from_there all.first.stay told in
+            let keyed = says.1.keyed.keys change.table entries.which p.schema e.key p.table.there e.key_is in
+            let primary : p.at.column ≡ keyed.primary = (let first = p.at.primary in let again = keyed.primary_is in cc) in
+            let indexed : e.indexed ≡ keyed.indexed = (let first = e.indexed_is in let again = keyed.indexed_is in cc) in
+            let fits : IsRowFor p.schema row change.key = rw was at p.before in
+            let has = entry_there p.schema change.key _ (plain row 0) e.key.column keyed.indexed (code_of p.schema row change.key 0 (omega arith) fits)
+            keyed.indexed_is in
+            let is_there : has_value e.key.column value (newest p.older) ≡ true = rw (p.was told ∙ was) (value_itself value) in
+            let primary_code = p.at.spelled ∙ ap (λ (c : Column). key_code c.kind p.value) primary in
+            let code : entry ≡ entry_code keyed.indexed.kind value (key_code keyed.primary.kind p.value) =
+            e.spelled ∙ (λ i. entry_code (indexed i).kind value (primary_code i)) in
+            ap (λ (k : List ℕ). value_of k (pairs_of old (key_index change.table entries.which))) code
+            ∙ keyed.marks p.value value (subst (λ (c : Column). HasKey c.kind p.value) primary p.at.has_key) has
+            ∙ ap (entry_of e.key.column value) says.2.here ∙ is_unmarked e.key.column value p.older is_there
+
+    mark_cause : (actor : ℕ) (why : Move) → HindersEntry actor entry (old.indexes (key_index change.table entries.which)) (new.indexes
+        (key_index change.table entries.which)) why → Hinders actor (old.indexes (key_index change.table entries.which))
+        (new.indexes (key_index change.table entries.which)) why ⊎ ((why ≡ moves.End) × (IsTold old → ⊥))
+    mark_cause actor moves.End lacks = inr (
+      refl,
+      λ told.
+          let index = key_index change.table entries.which in
+          let gone = tells (λ pairs. value_of entry pairs ≡ None) (old.indexes index).pairs lacks (told.pairs index) in
+          let there = old_there told in cc,
+    )
+    mark_cause actor other call = inl call
+
+    pub mark_hindered : (actor index : ℕ) (why : Move) → index ≡ key_index change.table entries.which → RowsStay old new
+        → HindersEntry actor entry (old.indexes index) (new.indexes index) why → ChangesKeys actor chains beside old new change (Hindered change why)
+    mark_hindered actor index why is stay because = (
+      refl,
+      stay,
+      changing_kept stay (rw none (record {})),
+      record { which = entries.which; from = all.first.from_there; cause = mark_cause actor why (rw is at because) },
+    )
 
   waiting_steps : change.put ≡ None → keys_steps (keys - change.which) change.put ≡ 4 * (keys - change.which)
   waiting_steps none = ap (keys_steps (keys - change.which)) none
@@ -472,7 +505,6 @@ module _ (chains : Chains) (beside : Said) (old new : WorldState) (change : Keys
       record {
         which = change.which;
         from = omega arith;
-        entry = put.entry;
-        cause = put_hinders actor put.entry _ _ why (rw entering.index_is at h.3);
+        cause = inl (rw entering.index_is at h.3);
       },
     )

@@ -1,13 +1,13 @@
 -- What is known while the keys of a table take over a change of a row, and what each step does.
-use Rattle.std.specs.Prelude.{◌≡◌, ℕ, ◌<◌, ◌≤◌, Bool, true, false, List, length, slice_get, Option, None, Some, ◌+◌, ◌-◌, ◌*◌, ◌^◌, ◌∷◌, IfSome}
+use Rattle.std.specs.Prelude.{◌≡◌, ◌⊎◌, ℕ, ◌<◌, ◌≤◌, Bool, true, false, List, length, slice_get, Option, None, Some, ◌+◌, ◌-◌, ◌*◌, ◌^◌, ◌∷◌, IfSome}
 use Rattle.inno_types.specs.{declared.value.Value.Value, declared.value.Column.Column, declared.value.Key.Key, declared.value.Schema.Schema}
 use Rattle.key_codec.specs.Keys.{entry_code}
 use Rattle.law_stored_rows.specs.{Entries.value_in, Entries.is_same_value, Edits.clustered_index, Edits.key_index, Tables.Said, Tables.SayTheSameBut}
 use Rattle.row_changes.specs.{declared.key_entries.KeyEntries.KeyEntries, declared.entry_put.EntryPut.EntryPut, declared.entry_put.PutPhase.TheVariants.Look}
 use Rattle.row_changes.specs.{declared.keys_change.KeysChange.KeysChange, Reached.Reached, Pairs.RowsStay, Entries.IsPutting}
-use Rattle.row_changes.specs.{Entries.put_steps, Entries.HindersEntry, Edits.IsRowFor, Edits.IsKeyAt, Records.IsTable, Told.AreRowsAs, Told.HasRowsAt}
+use Rattle.row_changes.specs.{Entries.put_steps, Pairs.Hinders, Edits.IsRowFor, Edits.IsKeyAt, Records.IsTable, Told.AreRowsAs, Told.HasRowsAt}
 use Rattle.row_changes.specs.Reached.{Went, Done, Hindered}
-use Rattle.store_api.specs.declared.moves.Move.{Move}
+use Rattle.store_api.specs.{declared.moves.Move.Move, declared.moves.Move.TheVariants.End}
 use Rattle.entries.specs.Index.{AreKept}
 use Rattle.row_versions.specs.{Versions.Stays, declared.place.Place.Place, declared.version.Version.Version, Chains.Chains, Chains.versions_at, Chains.newest}
 use Rattle.world.specs.{State.WorldState, Stores.StoreGoes, Told.IsTold}
@@ -149,12 +149,13 @@ pub record GoesOnWithKeys (chains : Chains) (beside : Said) (old new : WorldStat
   pub nears : (schema : Schema) → slice_get old.schemas change.table ≡ Some schema
       → keys_steps (length schema.keys - next.which) next.put < keys_steps (length schema.keys - change.which) change.put
 
--- Why the change has not gone on: memory was lacking, or the call of an entry was hindered, in the index of a key.
+-- Why the change has not gone on: memory was lacking, or the call of an entry was hindered, in the index of a key. That the old entry isn't
+-- there comes only where the world doesn't tell what is kept.
 pub record HindersKeys (actor : ℕ) (old new : WorldState) (change : KeysChange) (why : Move) : Type 0 where
   pub which : ℕ
   pub from : change.which ≤ which
-  pub entry : List ℕ
-  pub cause : HindersEntry actor entry (old.indexes (key_index change.table which)) (new.indexes (key_index change.table which)) why
+  pub cause : Hinders actor (old.indexes (key_index change.table which)) (new.indexes (key_index change.table which)) why
+      ⊎ ((why ≡ End) × (IsTold old → ⊥))
 
 abbrev pub ChangesKeys : ℕ → Chains → Said → WorldState → WorldState → KeysChange → Reached KeysChange → Type 0
 ChangesKeys actor chains beside old new change (Went next) = GoesOnWithKeys chains beside old new change next

@@ -11,7 +11,8 @@ returns-in-Ok-clause-changes g c = λ chains beside p.
 abbrev pub returns-clause-changes : goal.returns-clause-changes
 returns-clause-changes g c = λ chains beside p.
     let h = c.in-Err.ensures.marks in
-    mark_hindered _ _ _ _ _ p _ _ _ _ _ c.requires.none (c.requires.entries p.schema p.table.there).first.from_there c.requires.index h.0 h.2
+    mark_hindered _ _ _ _ _ p (record { which = c.args.which; old = Some c.args.mark.entry; new = c.args.new }) c.args.mark.entry c.requires.none
+    (c.requires.entries p.schema p.table.there) refl _ _ _ c.requires.index h.0 h.2
 
 pub returns-clause-awaits : goal.returns-clause-awaits
 returns-clause-awaits g c =
