@@ -1,6 +1,6 @@
 -- Rows that were found, each at its key, in the order of places.
-use Rattle.std.proofs.Common.{◌≡◌, ◌∙◌, sym, ap, refl, ℕ, zero, suc, ◌+◌, Bool, true, false, cond, List, [], ◌∷◌, map, Option, None, Some, arith}
-use Rattle.std.proofs.{lemmas.Bool.Decides.nat_tests, lemmas.Bool.and_from, lemmas.List.Sums.sum_by-cons}
+use Rattle.std.proofs.Common.{◌≡◌, ◌∙◌, sym, ap, refl, ℕ, zero, suc, ◌+◌, Bool, true, cond, List, [], ◌∷◌, map, Option, None, Some, arith, inl, inr}
+use Rattle.std.proofs.{lemmas.Bool.Decides.nat_tests, lemmas.Bool.and_from, lemmas.Bool.cases_Bool, lemmas.List.Sums.sum_by-cons}
 use Rattle.std.specs.{List.AllByRecursion, Ordering.is_lt, Ordering.nat_cmp, Ordering.ordering_then, FinMap.find, FinMap.is_sorted, FinMap.Entries.below_all}
 use Rattle.std.specs.{declared.cmp.Ordering.Ordering, declared.cmp.Ordering.TheVariants.Less, declared.cmp.Ordering.TheVariants.Equal}
 use Rattle.inno_db.specs.Database.{place_cmp, value_cmp, key_of}
@@ -26,12 +26,6 @@ rows_back schema (found ∷ rows) = ap (λ (later : List (List Value)). found.ro
 same_number : (n : ℕ) (r : Ordering) → ordering_then (nat_cmp n n) r ≡ r
 same_number n r = let is : nat_cmp n n ≡ Equal = grind (arith, nat_tests) in rw is refl
 
-one_plus : (n : ℕ) → 1 + n ≡ suc n
-one_plus n = omega arith
-
-none_plus : (n : ℕ) → 0 + n ≡ n
-none_plus n = omega arith
-
 -- the row, where it was found
 abbrev found_if : ℕ → Option (List Value) → Option (List Value)
 found_if zero row = None
@@ -39,10 +33,7 @@ found_if (suc n) row = row
 
 found_once : (passes : List Value → Bool) (row : Option (List Value)) → found_if (once_if passes row) row ≡ kept_if passes row
 found_once passes None = refl
-found_once passes (Some row) = go (passes row) where
-  go : (b : Bool) → found_if (cond b 1 0) (Some row) ≡ cond b (Some row) None
-  go true = refl
-  go false = refl
+found_once passes (Some row) = grind arith
 
 module _ (schema : Schema) (row_at : Value → Option (List Value)) (table : ℕ) where
   times-cons : (value : Value) (found : FoundRow) (rows : List FoundRow)
@@ -55,20 +46,15 @@ module _ (schema : Schema) (row_at : Value → Option (List Value)) (table : ℕ
   find_found : (value : Value) (rows : List FoundRow) → AllByRecursion (IsSeenRow schema row_at) rows
       → find place_cmp (table, value) (at_places table (keyed schema rows)) ≡ found_if (times_found schema value rows) (row_at value)
   find_found value [] seen = refl
-  find_found value (found ∷ rows) seen = go (is_same_value value (key_of schema found.row)) refl (find_found value rows seen.1) where
-    go : (b : Bool) → is_same_value value (key_of schema found.row) ≡ b → stands_at value rows ≡ found_if (times_found schema value rows) (row_at value)
-        → find place_cmp (table, value) (at_places table (keyed schema (found ∷ rows))) ≡ found_if (times_found schema value (found ∷ rows)) (row_at value)
-    go true same rest =
-        let counted : times_found schema value (found ∷ rows) ≡ suc (times_found schema value rows)
-        = times-cons value found rows ∙ (ap (λ b. cond b 1 0 + times_found schema value rows) same ∙ one_plus (times_found schema value rows)) in
-        let seen_here : row_at value ≡ Some found.row = ap row_at (same_value value (key_of schema found.row) same) ∙ seen.0.seen in
-        ap (λ b. cond b (Some found.row) (stands_at value rows)) (in_one_table table value (key_of schema found.row) ∙ same) ∙
-        (sym seen_here ∙ ap (λ n. found_if n (row_at value)) (sym counted))
-    go false apart rest =
-        let counted : times_found schema value (found ∷ rows) ≡ times_found schema value rows
-        = times-cons value found rows ∙ (ap (λ b. cond b 1 0 + times_found schema value rows) apart ∙ none_plus (times_found schema value rows)) in
-        ap (λ b. cond b (Some found.row) (stands_at value rows)) (in_one_table table value (key_of schema found.row) ∙ apart) ∙
-        (rest ∙ ap (λ n. found_if n (row_at value)) (sym counted))
+  find_found value (found ∷ rows) seen = elim (cases_Bool (is_same_value value (key_of schema found.row))) [
+    | inl same ↦
+        let here : row_at value ≡ Some found.row = ap row_at (same_value value (key_of schema found.row) same) ∙ seen.0.seen in
+        let one : 1 + times_found schema value rows ≡ suc (times_found schema value rows) = omega arith in
+        rw (times-cons value found rows, in_one_table table value (key_of schema found.row), same, here) (rw one)
+    | inr apart ↦
+        let none : 0 + times_found schema value rows ≡ times_found schema value rows = omega arith in
+        rw (times-cons value found rows, in_one_table table value (key_of schema found.row), apart) (rw none (find_found value rows seen.1))
+  ]
 
   -- at each place stands what the reader sees there, where it passes
   pub found_in : (which : ℕ) (passes : List Value → Bool) (rows : List FoundRow) (value : Value) → AreFound schema which row_at passes rows

@@ -1,10 +1,9 @@
 -- The newest row of a place, for the session that alone has changes.
-use Rattle.std.proofs.Common.{◌≡◌, ◌≢◌, ◌∙◌, sym, ap, ℕ, Option, List, [], ◌++◌, inl, inr}
+use Rattle.std.proofs.Common.{◌≡◌, ◌≢◌, ◌∙◌, sym, ℕ, Option, List, [], inl, inr}
 use Rattle.std.proofs.lemmas.Bool.Decides.{eqb_tells}
 use Rattle.inno_types.specs.declared.value.Value.{Value}
-use Rattle.inno_db.specs.declared.change.Change.{Change}
 use Rattle.row_versions.specs.declared.place.Place.{Place}
-use Rattle.law_past_agreement.specs.{Order.created, Rows.is_at, Rows.row_at, Rows.row_opened, Rows.row_seen, Rows.IsNewestSeen}
+use Rattle.law_past_agreement.specs.{Order.created, Rows.is_at, Rows.row_opened, Rows.row_seen, Rows.IsNewestSeen}
 use Rattle.law_past_agreement.proofs.Rows.{row_at-append}
 use Rattle.inno_model.specs.{declared.event.Event.Event, Past.own, Past.commits, Past.committed}
 
@@ -17,8 +16,7 @@ latest h s place row alone newest =
     let opened = row_opened h place in
     let at = is_at (created h) place in
     elim (eqb_tells newest.0 s) [
-      | inl same ↦ newest.2 ∙ ap (λ u. row_seen h u (commits h) place) same.1
-      | inr differ ↦
-          newest.2 ∙ (ap (λ (changes : List Change). row_at opened at (changes ++ committed (commits h) h)) (alone newest.0 differ.1)
-          ∙ sym (row_at-append opened at (own s h) (committed (commits h) h) (newest.1 s (λ is. differ.1 (sym is)))))
+      | inl same ↦ rw same.1 at newest.2
+      | inr differ ↦ newest.2 ∙ (rw (alone newest.0 differ.1) (sym (row_at-append opened at (own s h) (committed (commits h) h)
+          (newest.1 s (λ is. differ.1 (sym is))))))
     ]
