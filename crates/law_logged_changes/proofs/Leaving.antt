@@ -11,7 +11,7 @@ use Rattle.row_changes.proofs.{Ids.one_work, Changing.stage_kept, Changing.told_
 use Rattle.law_logged_changes.proofs.{Logs.all_of, Logs.log_on, Listed.listed_of}
 use Rattle.law_stored_rows.proofs.{KeptRows.more_of, Pairs.no_key}
 use Rattle.std.specs.{List.AllByRecursion, Prelude.slice_get, Prelude.IfSome, Prelude.is_some}
-use Rattle.undo_apply.specs.{Stages.GoesOn, Stages.IsHindered, Stages.IsDone, Stages.PutsBack, declared.work_room.WorkRoom.WorkRoom}
+use Rattle.undo_apply.specs.{Stages.GoesOn, Stages.IsDone, Stages.PutsBack, declared.work_room.WorkRoom.WorkRoom}
 use Rattle.row_changes.specs.{Keys.IsChangingKeys, Keys.said_next, Keys.HasRowsSoFar, Keys.IsEntering, Asides.StepsAside, Pairs.RowsStay, Pairs.PutsPair}
 use Rattle.row_changes.specs.{declared.entry_put.PutPhase.PutPhase, declared.keys_change.KeysChange.KeysChange, declared.row_change.RowChange.RowChange}
 use Rattle.row_changes.specs.{Entries.PutPhaseHolds, declared.record_change.RecordChange.RecordChange, declared.entry_put.EntryPut.EntryPut, Told.HasRows}
@@ -166,9 +166,6 @@ logs_beside old new rest u session work of has =
 -- ---- the steps
 
 module _ (chains : Chains) (beside : Said) (place : Place) (actor : ℕ) (undo : Undo) (room next : WorkRoom) (old new : WorldState) where
-  hindered_leaves : (why : Move) → IsHindered chains beside place actor undo room next old new why → LeavesRecords old new × ChangesPairsAlone old new
-  hindered_leaves why is = (stay_leaves old new is.stays, is.stays.rest)
-
   goes_leaves : GoesOn chains beside place undo room next old new → LeavesRecords old new × ChangesPairsAlone old new
   goes_leaves goes =
       let tells = goes.holds.tells in
@@ -181,8 +178,8 @@ module _ (chains : Chains) (beside : Said) (place : Place) (actor : ℕ) (undo :
       → LeavesRecords old new × ChangesPairsAlone old new
   step_leaves Done is not_done = absurd (not_done refl)
   step_leaves Step (inl goes) not_done = goes_leaves goes
-  step_leaves Step (inr is) not_done = hindered_leaves Step is
-  step_leaves why is not_done = hindered_leaves why is
+  step_leaves Step (inr is) not_done = (stay_leaves old new is.stays, is.stays.rest)
+  step_leaves why is not_done = (stay_leaves old new is.stays, is.stays.rest)
 
   pub done_beside : IsDone chains beside place undo room next old new → ChangesPairsAlone old new
   done_beside done = ⊎_elim (λ stays. stays.rest) (λ puts. puts.rest) done.changes

@@ -9,7 +9,7 @@ use Rattle.law_stored_rows.proofs.{KeptRows.more_of, KeptRows.found_of, KeptRows
 use Rattle.std.proofs.Common.{◌≡◌, ◌≢◌, inl, inr, ⊎_elim, ℕ, ◌^◌, ◌<◌, true, false, List, [], ◌∷◌, Option, Some, None, refl, sym, ap, ◌∙◌, arith}
 use Rattle.std.proofs.lemmas.Bool.{cases_eq, eq-eqb, ne_eqb}
 use Rattle.world.specs.{State.WorldState, State.Session, State.Work, State.Logged, State.HasWork, Indexes.IsUndo, Told.IsTold, Told.pairs_of}
-use Rattle.row_changes.specs.Records.{IsTable, Records, PutsOver, id_for, IsChangingRecord, RecordsEdit, PutsFirst, PutsVersion, ChangesRecord, undo_of_new}
+use Rattle.row_changes.specs.Records.{Records, PutsOver, id_for, IsChangingRecord, RecordsEdit, PutsFirst, PutsVersion, ChangesRecord, undo_of_new}
 use Rattle.row_changes.specs.Records.{undo_of_former}
 use Rattle.row_changes.specs.{Rows.primary_of, Rows.place_of, Rows.IsChangingRow, Rows.ChangesRow, Edits.change_of, Edits.rows_put, Edits.version_by}
 use Rattle.row_changes.specs.{Reached.Went, Reached.Done, Reached.Hindered, Reached.Reached, Told.HasRowsAt, declared.record_change.RecordChange.RecordChange}
@@ -18,7 +18,7 @@ use Rattle.row_changes.specs.{declared.row_change.RowChange.RowChange, Keys.Stay
 use Rattle.undo_apply.specs.Standing.{TellsOf, LeadsBack, was_before}
 use Rattle.law_logged_changes.specs.Logs.{RecordsAt, records_of, taken_back, Stands, LogStands, IsLogOf, LogsAgree, IsAloneAt}
 use Rattle.law_logged_changes.specs.{Steps.HasLogged, Steps.LeavesRecords, Steps.LeavesOtherRows, GoingOn.IsAloneIn}
-use Rattle.std.specs.{Prelude.is_some, List.AllByRecursion}
+use Rattle.std.specs.{Prelude.is_some, Prelude.IsTrue, List.AllByRecursion}
 use Rattle.inno_types.specs.{declared.value.Value.Value, declared.value.Schema.Schema}
 use Rattle.inno_db.specs.{declared.change.Change.Change, declared.change.Change.TheVariants.Create}
 use Rattle.inno_model.specs.{Past.own, declared.event.Event.TheVariants.Changed}
@@ -57,7 +57,6 @@ undo_at change kind value = record { kind = kind; table = change.table; key = ch
 
 -- What is known of the step: the version's record stands, and its undo record has this kind and value.
 pub record IsLogging (s : ℕ) (old new : WorldState) (change : RecordChange) (schema : Schema) (kind : ℕ) (value : List ℕ) (coded : Coded) : Type 0 where
-  pub table : IsTable change.table schema old
   pub rows : Records s (change_of change.table change.edit) (rows_put change.edit) change.table change.key (version_code schema coded)
       (undo_at change kind value) old new
   pub sound : IsUndo old.schemas (undo_at change kind value)
@@ -67,7 +66,7 @@ pub record IsLogging (s : ℕ) (old new : WorldState) (change : RecordChange) (s
   pub pointer_is : kind ≡ 2 → coded.pointer ≡ rows.work.session.next_pointer
   pub more : IsTold new → KeepsMore old.versions.kept_at new.versions.kept_at
   pub fresh : IsTold new → kind ≡ 2 → old.versions.kept_at rows.work.session.next_pointer ≡ None
-  pub told : IsTold new → IsTold old
+  pub versions_told : IsTrue new.versions.told → IsTrue old.versions.told
 
 module _ (s : ℕ) (chains : Chains) (said : Said) (old new : WorldState) (change : RecordChange) (p : IsChangingRecord s old change)
     (rows : HasRowsAt chains said change.table change.key old) {kind : ℕ} {value : List ℕ} {coded : Coded}
@@ -90,6 +89,12 @@ module _ (s : ℕ) (chains : Chains) (said : Said) (old new : WorldState) (chang
   same_past : new.past ≡ Changed s (change_of change.table change.edit) ∷ old.past
   same_past = ap (λ (state : WorldState). state.past) is.rows.rest
 
+  told_before : IsTold new → IsTold old
+  told_before told = record {
+    pairs = pairs_told (clustered_index change.table) change.key (Some bytes) old new (is.rows.here, is.rows.elsewhere) told;
+    versions = is.versions_told told.versions;
+  }
+
   tells_old : TellsOf undo p.schema place old.schemas
   tells_old =
       let at = key_at p.schema change.edit change.key p.fits in
@@ -110,7 +115,7 @@ module _ (s : ℕ) (chains : Chains) (said : Said) (old new : WorldState) (chang
   clustered : IsTold new → AreClustered old.schemas (pairs_of old) old.versions.kept_at chains
   clustered told =
       let of_key = key_at p.schema change.edit change.key p.fits in
-      (rows p.schema (primary_of p.schema change.edit) p.table.there of_key (is.told told)).1.clustered
+      (rows p.schema (primary_of p.schema change.edit) p.table.there of_key (told_before told)).1.clustered
 
   record_now : IsTold new → records_of new change.table change.key ≡ Some bytes
   record_now told =
@@ -119,7 +124,7 @@ module _ (s : ℕ) (chains : Chains) (said : Said) (old new : WorldState) (chang
 
   records_before : IsTold new → (table : ℕ) (key : List ℕ) → records_of old table key ≡ taken_back undo (records_of new) table key
   records_before told =
-      taken_as undo (records_of new) (records_of old) (is.was (is.told told))
+      taken_as undo (records_of new) (records_of old) (is.was (told_before told))
       (λ table key apart. sym (put_elsewhere undo (Some bytes) (pairs_of old) (pairs_of new) (puts_now told) table key apart))
 
   -- ---- the log
@@ -141,13 +146,13 @@ module _ (s : ℕ) (chains : Chains) (said : Said) (old new : WorldState) (chang
     };
     elsewhere = λ told two. all_mapped (IsKeptYet old) (λ (l : Logged). l.undo.kind ≡ 2 → l.pointer ≢ logged.pointer) log
         (λ l some kind_too same. let there = some kind_too in let none = ap is_some (is.fresh told two) in cc)
-        (log_keeps old (is.told told) (records_of old) log changes stands);
+        (log_keeps old (told_before told) (records_of old) log changes stands);
   }
 
   log_now : (log : List Logged) (changes : List Change) → IsLogOf old log changes → IsLogOf new (logged ∷ log) (change_of change.table change.edit ∷ changes)
   log_now log changes stands =
       one_more (change_of change.table change.edit) changes (stands_now log changes stands)
-      (log_over (records_of old) (taken_back undo (records_of new)) log changes is.told same_schemas
+      (log_over (records_of old) (taken_back undo (records_of new)) log changes told_before same_schemas
       (λ told table key. sym (records_before told table key)) is.more stands)
 
   own_now : own s new.past ≡ change_of change.table change.edit ∷ own s old.past
@@ -174,7 +179,7 @@ module _ (s : ℕ) (chains : Chains) (said : Said) (old new : WorldState) (chang
   others_left : LeavesOtherRows change.table change.key old new
   others_left = record {
     schemas = same_schemas;
-    told = is.told;
+    told = told_before;
     records = λ told. put_elsewhere undo (Some bytes) (pairs_of old) (pairs_of new) (puts_now told);
     kept = λ told other also apart. more_of old.versions.kept_at new.versions.kept_at other also (is.more told);
   }
@@ -208,7 +213,6 @@ module _ (s : ℕ) (old new : WorldState) (change : RecordChange) (p : IsChangin
   pub logging_first : (f : PutsFirst s old new change p.schema)
       → IsLogging s old new change p.schema 1 [] (version_by change.edit [] writer 0)
   logging_first f = record {
-    table = p.table;
     rows = all;
     sound = record { kept = inl (refl, refl); key = key_short p; value = omega arith };
     code_is = code_of_edit p.schema change.edit change.key [] (plain [] 0) writer 0 p.fits (inl f.is_put) small (omega arith);
@@ -220,12 +224,7 @@ module _ (s : ℕ) (old new : WorldState) (change : RecordChange) (p : IsChangin
     pointer_is = λ two. absurd (omega (arith, two));
     more = stay_kept old new kept;
     fresh = λ told two. absurd (omega (arith, two));
-    told =
-        λ told. record {
-          pairs = pairs_told (clustered_index change.table) change.key (Some (version_code p.schema (version_by change.edit [] writer 0))) old
-              new (all.here, all.elsewhere) told;
-          versions = kept.told told.versions;
-        };
+    versions_told = kept.told;
   } where
     all : RecordsEdit s change p.schema [] writer 0 (undo_of_new change.table change.key) old new
     all = rw (one_work s f.session p.session f.work p.work old f.had p.has_work) at f.records
@@ -236,7 +235,6 @@ module _ (s : ℕ) (old new : WorldState) (change : RecordChange) (p : IsChangin
   pub logging_over : (former : Coded) (o : PutsOver s old new change p.schema former)
       → IsLogging s old new change p.schema 2 o.bytes (version_by change.edit former.row writer o.session.next_pointer)
   logging_over former o = record {
-    table = p.table;
     rows = all;
     sound = record {
       kept = inr (refl, (kept_over p o).version, (kept_over p o).kept);
@@ -259,12 +257,7 @@ module _ (s : ℕ) (old new : WorldState) (change : RecordChange) (p : IsChangin
     more = λ told.
         kept_more old.schemas o.session.next_pointer (undo_of_former change.table change.key o.bytes) old.versions new.versions (kept_over p o) told.versions;
     fresh = λ told two. ap (λ (x : Session). old.versions.kept_at x.next_pointer) one ∙ (kept_over p o).fresh told.versions;
-    told = λ told. record {
-      pairs =
-          pairs_told (clustered_index change.table) change.key
-          (Some (version_code p.schema (version_by change.edit former.row writer o.session.next_pointer))) old new (all.here, all.elsewhere) told;
-      versions = (kept_over p o).told told.versions;
-    };
+    versions_told = (kept_over p o).told;
   } where
     all : RecordsEdit s change p.schema former.row writer o.session.next_pointer (undo_of_former change.table change.key o.bytes) old new
     all = rw (one_work s o.session p.session o.work p.work old o.had p.has_work) at o.records
