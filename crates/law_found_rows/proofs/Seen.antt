@@ -11,7 +11,7 @@ use Rattle.law_stored_rows.specs.Tables.{in_table}
 use Rattle.law_past_agreement.specs.Rows.{is_at, row_at, row_of, row_opened, seen, row_seen}
 use Rattle.law_past_agreement.specs.{Order.created, Order.IsTabled, Order.IsOrdered, Order.IsNoOthers, Agreement.ViewAgrees}
 use Rattle.law_past_agreement.proofs.Tables.{at_stays, own_tabled, committed_tabled}
-use Rattle.law_found_rows.proofs.Latest.{at_key}
+use Rattle.law_found_rows.proofs.Databases.{at_key}
 use Rattle.world.specs.State.{WorldState, Session, Work, Seen, HasWork}
 use Rattle.law_world_agreement.specs.Agreement.{sight_of, Agrees}
 use Rattle.row_search.specs.Sights.{rows_seen}
