@@ -1,13 +1,12 @@
 -- A search stays as far as it has come as others step, and comes further as it steps itself.
-use Rattle.std.proofs.Common.{◌≡◌, ◌≤◌, ◌<◌, sym, subst, ℕ, length, slice_get, Option, Some}
+use Rattle.std.proofs.Common.{◌≡◌, ◌≤◌, ◌<◌, sym, subst, ℕ, length, slice_get, Some}
 use Rattle.inno_types.specs.declared.value.Schema.{Schema}
-use Rattle.entries.specs.Pairs.{Pair}
 use Rattle.store_api.specs.declared.moves.Move.{Move}
 use Rattle.row_search.specs.{Searches.IsSearching, Searches.Finds, Searches.BeginsWithNothing, Searches.MayBegin, Searches.place_in, declared.scan.Scan.Scan}
 use Rattle.row_search.specs.{declared.search.RowSearch.RowSearch, Others.KeepsWay, Steps.IsSameScan, Steps.GoesOn, Steps.Waits, Tables.ShowsRows}
 use Rattle.row_search.proofs.Others.{found_still, way_still, searching_still}
 use Rattle.law_found_rows.specs.Finding.{IsFinding, IsFindingAnew, LeavesScan}
-use Rattle.row_versions.specs.{declared.kept.Kept.Kept, Versions.Stays, Chains.Chains}
+use Rattle.row_versions.specs.{Versions.Stays, Chains.Chains}
 use Rattle.law_stored_rows.specs.{Records.KeepsMore, Tables.in_table}
 use Rattle.world.specs.{State.WorldState, Told.IsTold}
 
@@ -21,8 +20,7 @@ finds_on s schema old new before after search leaves way is =
       searching = searching_still s schema old new search is.searching leaves.there leaves.place (λ told. leaves.told) (λ told. way);
       finds =
           found_still schema old.versions.kept_at new.versions.kept_at (place_in s search.scan new) (in_table search.scan.table before)
-          (in_table search.scan.table after) search leaves.seen way
-          (subst (λ (place : Option Pair). Finds schema old.versions.kept_at place (in_table search.scan.table before) search) (sym leaves.place) is.finds);
+          (in_table search.scan.table after) search leaves.seen way (rw leaves.place is.finds);
     }
 
 pub keeps_finding : (s : ℕ) (schema : Schema) (old new : WorldState) (before after : Chains) (search : RowSearch)
@@ -45,7 +43,7 @@ pub finds_anew : (s : ℕ) (schema : Schema) (old new : WorldState) (before afte
     → LeavesScan s schema search.scan old new before after
     → IsFindingAnew s schema old before search → IsFindingAnew s schema new after search
 finds_anew s schema old new before after search leaves is = λ other same found none searching.
-    finds_on s schema old new before after other (subst (λ (scan : Scan). LeavesScan s schema scan old new before after) (sym same) leaves)
+    finds_on s schema old new before after other (rw same leaves)
     (none schema old.versions.kept_at new.versions.kept_at) (is other same found none searching)
 
 -- ---- its own steps
@@ -67,9 +65,7 @@ recast : (s : ℕ) (schema : Schema) (old new : WorldState) (chains : Chains) (s
 recast s schema old new chains scan next table stays told searching finds =
     record {
       searching = searching;
-      finds =
-          subst (λ (kept : ℕ → Option Kept). Finds schema kept (place_in s next.scan new) (in_table next.scan.table chains) next)
-          (sym (stays.kept told.versions))
+      finds = rw (stays.kept told.versions)
           (subst (λ (n : ℕ). Finds schema old.versions.kept_at (place_in s next.scan new) (in_table n chains) next) (sym table) finds);
     }
 

@@ -1,5 +1,5 @@
 -- The rows of a table in a database, one by one: those that fit the table.
-use Rattle.std.proofs.Common.{◌≡◌, ◌∙◌, sym, ap, subst, ℕ, true, false, cond, List, [], ◌∷◌, map, Some, eqb, ⊎_elim}
+use Rattle.std.proofs.Common.{◌≡◌, ◌∙◌, sym, ap, ℕ, true, false, List, [], ◌∷◌, map, Some, eqb, ⊎_elim}
 use Rattle.std.proofs.{lemmas.Bool.Decides.eqb_tells, lemmas.List.Elements.All-from_recursion}
 use Rattle.std.specs.Prelude.{filter, ◌==◌, All, slice_get}
 use Rattle.std.specs.{List.AllByRecursion, FinMap.get, FinMap.entries, FinMap.entries_sorted, FinMap.get-entries}
@@ -22,10 +22,8 @@ module _ (P : List Value → Type 0) (db : Database) (n : ℕ) (each : (key : Va
       let more = filter (λ (e : Place × List Value). e.0.0 == n) es in
       ⊎_elim
       (λ (h : (eqb e.0.0 n ≡ true) × (e.0.0 ≡ n)).
-      let here : P e.1 = each e.0.1 e.1 (ap (λ m. get db.rows (m, e.0.1)) (sym h.1) ∙ (get-entries db.rows e.0 ∙ found.0)) in
-      subst (λ b. AllByRecursion P (map (λ (e : Place × List Value). e.1) (cond b (e ∷ more) more))) (sym h.0) (here, rest))
-      (λ (h : (eqb e.0.0 n ≡ false) × _). subst (λ b. AllByRecursion P (map (λ (e : Place × List Value). e.1) (cond b (e ∷ more) more))) (sym h.0) rest)
-      (eqb_tells e.0.0 n)
+      let here : P e.1 = each e.0.1 e.1 (ap (λ m. get db.rows (m, e.0.1)) (sym h.1) ∙ (get-entries db.rows e.0 ∙ found.0)) in rw h.0 (here, rest))
+      (λ (h : (eqb e.0.0 n ≡ false) × _). rw h.0 rest) (eqb_tells e.0.0 n)
 
   pub each_row : AllByRecursion P (rows_of n db)
   each_row = among (entries db.rows) (all_found (entries db.rows) (entries_sorted db.rows))

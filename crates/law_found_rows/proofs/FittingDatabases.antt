@@ -1,9 +1,9 @@
 -- Databases of a history whose changes fitted when they were made.
 use Rattle.inno_model.specs.declared.event.Event.TheVariants as events
-use Rattle.std.proofs.Common.{◌≡◌, ℕ, ◌<◌, List, [], ◌∷◌, ◌++◌, length, refl, sym, ap, subst, ◌∙◌}
+use Rattle.std.proofs.Common.{◌≡◌, ℕ, ◌<◌, List, [], ◌∷◌, ◌++◌, length, refl, sym, subst, ◌∙◌}
 use Rattle.std.proofs.lemmas.List.{append-nil, append_assoc}
 use Rattle.std.proofs.lemmas.List.Elements.{All-nil, All-cons, All-head, All-tail, All-append, All-weaker}
-use Rattle.std.specs.{Prelude.All, FinMap.insert}
+use Rattle.std.specs.{Prelude.All}
 use Rattle.inno_model.specs.{declared.event.Event.Event, Past.own, Past.commits, Past.committed, Past.opening, Past.changed}
 use Rattle.law_past_agreement.proofs.Tables.{key_stays}
 use Rattle.sql_history.specs.Items.{own_before, base}
@@ -44,12 +44,7 @@ created_since : (past : List Event) → (more : List Schema) × (created past �
 created_since [] = ([], refl)
 created_since (events.Opened db ∷ past) = ([], sym (append-nil db.schemas))
 created_since (events.Changed s (Create schema) ∷ past) =
-    let before =
-    created_since past in (
-      before.0 ++ schema ∷ [],
-      ap (λ (l : List Schema). l ++ schema ∷ []) before.1 ∙ append_assoc (opening past).schemas before.0
-          (schema ∷ []),
-    )
+    let before = created_since past in (before.0 ++ schema ∷ [], rw before.1 (append_assoc (opening past).schemas before.0 (schema ∷ [])))
 created_since (events.Changed s (Put table row) ∷ past) = created_since past
 created_since (events.Changed s (Remove table key) ∷ past) = created_since past
 created_since (e ∷ past) = created_since past
@@ -85,22 +80,19 @@ module _ (db : Database) (fits : AreFitting db) (tables : List Schema) (storable
   key_after : (more : List Schema) (earlier : List Change) (table : ℕ) (row : List Value) → tables ≡ (db.schemas ++ made earlier) ++ more
       → table < length (db.schemas ++ made earlier) → key_in tables table row ≡ key_in (changed db earlier).schemas table row
   key_after more earlier table row is lt =
-      ap (λ (l : List Schema). key_in l table row) is ∙ key_stays (db.schemas ++ made earlier) more table row lt ∙ sym
-      (ap (λ (l : List Schema). key_in l table row) (schemas_after db earlier))
+      rw (is, schemas_after db earlier) (key_stays (db.schemas ++ made earlier) more table row lt)
 
   -- the rows fit all tables, of which some may have been made later
   rows_fit : (more : List Schema) (changes : List Change) → tables ≡ (db.schemas ++ made changes) ++ more → AreInOrder db.schemas changes
       → All (FitsTables tables) changes → AreFitting (record { schemas = tables; rows = (changed db changes).rows })
-  rows_fit more [] is in_order all = more_tables_fit db tables more (is ∙ ap (λ (l : List Schema). l ++ more) (append-nil db.schemas)) storable fits
+  rows_fit more [] is in_order all = more_tables_fit db tables more (rw append-nil at is) storable fits
   rows_fit more (Create schema ∷ earlier) is in_order all =
       let later : tables ≡ (db.schemas ++ made earlier) ++ (schema ∷ more) =
-      is ∙ (ap (λ (l : List Schema). l ++ more) (sym (append_assoc db.schemas (made earlier) (schema ∷ []))) ∙ append_assoc (db.schemas ++ made earlier)
-      (schema ∷ []) more) in
+      rw (← append_assoc db.schemas (made earlier) (schema ∷ []), append_assoc (db.schemas ++ made earlier) (schema ∷ []) more) at is in
       rows_fit (schema ∷ more) earlier later in_order.1 (All-tail (FitsTables tables) (Create schema) earlier all)
   rows_fit more (Put table row ∷ earlier) is in_order all =
       let before = rows_fit more earlier is in_order.1 (All-tail (FitsTables tables) (Put table row) earlier all) in
-      subst (λ (key : Value). AreFitting (record { schemas = tables; rows = insert (changed db earlier).rows (table, key) row }))
-      (key_after more earlier table row is in_order.0)
+      rw (← key_after more earlier table row is in_order.0)
       (AreFitting-apply_one (record { schemas = tables; rows = (changed db earlier).rows }) (Put table row) before
       (All-head (FitsTables tables) (Put table row) earlier all))
   rows_fit more (Remove table key ∷ earlier) is in_order all =
@@ -121,8 +113,7 @@ latest_coded past s later fits ordered in_order parts tables =
     All-append (FitsWell (created past)) (own_before s past) (committed (commits past) past) (own_before_fits past s fits ordered)
     (committed_fits past (commits past) fits ordered) in
     let mine : AreInOrder (opening past).schemas (later ++ changes) =
-    subst (AreInOrder (opening past).schemas) (append_assoc later (own_before s past) (committed (commits past) past))
-    (subst (λ (own : List Change). AreInOrder (opening past).schemas (own ++ committed (commits past) past)) parts (in_order s)) in
+    rw (parts, append_assoc later (own_before s past) (committed (commits past) past)) at (in_order s) in
     let is : created past ≡ ((opening past).schemas ++ made changes) ++ [] =
     tables ∙ schemas_after (opening past) changes ∙ sym (append-nil ((opening past).schemas ++ made changes)) in
     record {

@@ -1,5 +1,6 @@
 -- A database with those rows alone that pass a test.
-use Rattle.std.proofs.Common.{◌≡◌, ◌∙◌, sym, ap, subst, refl, ℕ, Bool, true, false, cond, ◌&&◌, T, List, [], ◌∷◌, map, Option, None, Some, eqb}
+use Rattle.std.proofs.Common.{◌≡◌, ◌∙◌, sym, ap, subst, refl, ℕ, Bool, true, false, cond, ◌&&◌, T, List, [], ◌∷◌, map, Option, None, Some, arith}
+use Rattle.std.proofs.lemmas.Bool.Decides.{nat_tests}
 use Rattle.std.specs.Prelude.{filter, ◌==◌}
 use Rattle.std.specs.FinMap.{get, find, is_sorted, entries, entries_sorted, get-entries, from_sorted, entries-from_sorted}
 use Rattle.std.specs.{Ordering.is_lt, Ordering.is_eq, Ordering.eq_by_cmp, FinMap.Entries.below_all, declared.cmp.Ordering.Ordering}
@@ -75,35 +76,17 @@ module _ (passes : List Value → Bool) where
       → find place_cmp place (passing es) ≡ kept_if passes (find place_cmp place es)
   find_passing place [] sorted = refl
   find_passing place (e ∷ es) sorted =
-      go (passes e.1) (eq_by_cmp place_cmp place e.0) refl refl (find_passing place es (second (below_all place_cmp e.0 es) (is_sorted place_cmp es) sorted))
-    where
-      gone : eq_by_cmp place_cmp place e.0 ≡ true → find place_cmp place es ≡ None
-      gone same =
-          none_below place es (subst (λ (p : Place). T (below_all place_cmp p es)) (sym (same_places place e.0 (equal (place_cmp place e.0) same)))
-          (first (below_all place_cmp e.0 es) (is_sorted place_cmp es) sorted))
-
-      go : (b same : Bool) → passes e.1 ≡ b → eq_by_cmp place_cmp place e.0 ≡ same
-          → find place_cmp place (passing es) ≡ kept_if passes (find place_cmp place es)
-          → find place_cmp place (cond b (e ∷ passing es) (passing es)) ≡ kept_if passes (cond same (Some e.1) (find place_cmp place es))
-      go true true p s rest = ap (λ b. cond b (Some e.1) (find place_cmp place (passing es))) s ∙ sym (ap (λ b. cond b (Some e.1) None) p)
-      go true false p s rest = ap (λ b. cond b (Some e.1) (find place_cmp place (passing es))) s ∙ rest
-      go false true p s rest = rest ∙ (ap (kept_if passes) (gone s) ∙ sym (ap (λ b. cond b (Some e.1) None) p))
-      go false false p s rest = rest
+      grind (arith, gone, find_passing place es (second (below_all place_cmp e.0 es) (is_sorted place_cmp es) sorted)) where
+        gone : eq_by_cmp place_cmp place e.0 ≡ true → find place_cmp place es ≡ None
+        gone same =
+            none_below place es (subst (λ (p : Place). T (below_all place_cmp p es)) (sym (same_places place e.0 (equal (place_cmp place e.0) same)))
+            (first (below_all place_cmp e.0 es) (is_sorted place_cmp es) sorted))
 
   rows_passing : (n : ℕ) (es : List (Place × List Value))
       → map (λ (e : Place × List Value). e.1) (filter (λ (e : Place × List Value). e.0.0 == n) (passing es)) ≡ filter passes
       (map (λ (e : Place × List Value). e.1) (filter (λ (e : Place × List Value). e.0.0 == n) es))
   rows_passing n [] = refl
-  rows_passing n (e ∷ es) = go (passes e.1) (eqb e.0.0 n) refl refl (rows_passing n es) where
-    go : (b here : Bool) → passes e.1 ≡ b → eqb e.0.0 n ≡ here → rows (of_table n (passing es)) ≡ filter passes (rows (of_table n es))
-        → rows (of_table n (cond b (e ∷ passing es) (passing es))) ≡ filter passes (rows (cond here (e ∷ of_table n es) (of_table n es)))
-    go true true p h rest =
-        ap (λ b. rows (cond b (e ∷ of_table n (passing es)) (of_table n (passing es)))) h ∙
-        (ap (λ (later : List (List Value)). e.1 ∷ later) rest ∙ sym
-        (ap (λ b. cond b (e.1 ∷ filter passes (rows (of_table n es))) (filter passes (rows (of_table n es)))) p))
-    go true false p h rest = ap (λ b. rows (cond b (e ∷ of_table n (passing es)) (of_table n (passing es)))) h ∙ rest
-    go false true p h rest = rest ∙ sym (ap (λ b. cond b (e.1 ∷ filter passes (rows (of_table n es))) (filter passes (rows (of_table n es)))) p)
-    go false false p h rest = rest
+  rows_passing n (e ∷ es) = grind (arith, nat_tests, rows_passing n es)
 
   -- the map of the rows that pass
   pub passing_map : RowMap → RowMap

@@ -2,16 +2,16 @@
 use Rattle.inno_db.specs.declared.change.Change.TheVariants as changes
 use Rattle.inno_model.specs.declared.event.Event.TheVariants as events
 use Rattle.row_search.specs.declared.sight.Sight.TheVariants as sights
-use Rattle.std.proofs.Common.{◌≡◌, ◌≢◌, ◌∙◌, sym, ap, subst, refl, ℕ, ◌≤◌, true, false, cond, List, [], ◌∷◌, ◌++◌, length, Option, Some, inl, inr, arith}
+use Rattle.std.proofs.Common.{◌≡◌, ◌≢◌, ◌∙◌, sym, ap, refl, ℕ, ◌≤◌, true, false, cond, List, [], ◌∷◌, ◌++◌, length, Option, Some, inl, inr, arith}
 use Rattle.std.proofs.{lemmas.Bool.Decides.nat_tests, lemmas.List.append-nil}
-use Rattle.std.specs.{Prelude.option_map, List.AllByRecursion}
+use Rattle.std.specs.{List.AllByRecursion}
 use Rattle.inno_db.specs.declared.change.Change.{Change}
 use Rattle.inno_model.specs.{declared.event.Event.Event, Past.is_of, Past.own, Past.commits, Past.committed, Past.view_of}
 use Rattle.law_stored_rows.specs.Tables.{in_table}
 use Rattle.law_past_agreement.specs.Rows.{is_at, row_at, row_of, row_opened, seen, row_seen}
 use Rattle.law_past_agreement.specs.{Order.created, Order.IsTabled, Order.IsOrdered, Order.IsNoOthers, Agreement.ViewAgrees}
 use Rattle.law_past_agreement.proofs.Tables.{at_stays, own_tabled, committed_tabled}
-use Rattle.law_found_rows.proofs.Latest.{at_key}
+use Rattle.law_found_rows.proofs.Databases.{at_key}
 use Rattle.world.specs.State.{WorldState, Session, Work, Seen, HasWork}
 use Rattle.law_world_agreement.specs.Agreement.{sight_of, Agrees}
 use Rattle.row_search.specs.Sights.{rows_seen}
@@ -63,19 +63,16 @@ entry_leaves t s n e h place ordered mine differ within =
     let same_seen : seen (e ∷ h) s n ≡ seen h s n = ap (λ cs. cs ++ committed n (e ∷ h)) same_own ∙ ap (λ cs. own s h ++ cs) (committed_stays e h n within) in
     let tabled : AllByRecursion (IsTabled (length (created h))) (seen h s n)
     = all_joined (IsTabled (length (created h))) (own s h) (committed n h) (own_tabled h ordered s) (committed_tabled h ordered n) in
-    ap (λ before. row_at before (is_at (created (e ∷ h)) place) (seen (e ∷ h) s n)) (opening_stays t e h place mine)
-    ∙ (ap (λ cs. row_at (row_opened h place) (is_at (created (e ∷ h)) place) cs) same_seen
-    ∙ (ap (λ (l : List Schema). row_at (row_opened h place) (is_at l place) (seen h s n)) more.1 ∙ row_at_so (row_opened h place) (created h) more.0 place
-    (seen h s n) tabled))
+    rw (opening_stays t e h place mine, same_seen, more.1) (row_at_so (row_opened h place) (created h) more.0 place (seen h s n) tabled)
 
 module _ (t s : ℕ) (old new : List Event) (ordered : IsOrdered old) (differ : t ≢ s) where
   pub view_stays : AddsAtMostOne t old new → view_of s new ≡ view_of s old
-  view_stays (inl same) = ap (view_of s) same
-  view_stays (inr adds) = ap (view_of s) adds.2 ∙ (untouched adds.0 old s (other_of adds.0 t s adds.1 differ)).view_is
+  view_stays (inl same) = rw same
+  view_stays (inr adds) = rw adds.2 (untouched adds.0 old s (other_of adds.0 t s adds.1 differ)).view_is
 
   pub row_stays : (n : ℕ) (place : Place) → n ≤ commits old → AddsAtMostOne t old new → row_seen new s n place ≡ row_seen old s n place
-  row_stays n place within (inl same) = ap (λ h. row_seen h s n place) same
-  row_stays n place within (inr adds) = ap (λ h. row_seen h s n place) adds.2 ∙ entry_leaves t s n adds.0 old place ordered adds.1 differ within
+  row_stays n place within (inl same) = rw same
+  row_stays n place within (inr adds) = rw adds.2 (entry_leaves t s n adds.0 old place ordered adds.1 differ within)
 
 -- ---- in a world
 
@@ -86,8 +83,7 @@ pub same_rows : (before after : Chains) (old new : WorldState) (s t table : ℕ)
     → (value : Value) → rows_seen (sights.View (sight_of view) work.id) (in_table table after) value ≡ rows_seen (sights.View (sight_of view) work.id)
     (in_table table before) value
 same_rows before after old new s t table session session_now work work_now view was agrees had has is is_now same_id differ adds value =
-    let v : ViewAgrees old.past s (Some (sight_of view)) =
-    subst (λ o. ViewAgrees old.past s (option_map sight_of o)) is (work_of before old s session work was had).view_is in
+    let v : ViewAgrees old.past s (Some (sight_of view)) = rw is at (work_of before old s session work was had).view_is in
     let n = v.0 in
     let at : view_of s old.past ≡ Some n = v.1.is-view in
     let place : Place = at_key table value in

@@ -1,15 +1,11 @@
 -- The rows of a table as a world shows them, and the keys of those that a reader sees.
-use Rattle.std.proofs.Common.{◌≡◌, ◌⊎◌, inl, inr, ◌∙◌, sym, ap, subst, refl, ℕ, zero, suc, ◌+◌, ◌≤◌, true, false, cond, List, ◌∷◌, length, Option, None, Some}
-use Rattle.std.proofs.Common.{slice_get, arith}
-use Rattle.std.proofs.lemmas.Bool.{cases_Bool}
+use Rattle.std.proofs.Common.{◌≡◌, ◌⊎◌, inl, inr, ◌∙◌, refl, ℕ, zero, suc, ◌+◌, ◌≤◌, true, false, List, ◌∷◌, length, Option, None, Some, slice_get, arith}
 use Rattle.std.specs.{Prelude.IsSome, List.list_any}
 use Rattle.entries.specs.Pairs.{Pair}
-use Rattle.row_versions.specs.Chains.{Chains, versions_at, first_seen, older, is_same_place}
-use Rattle.row_versions.specs.{declared.place.Place.Place, declared.version.Version.Version}
-use Rattle.law_stored_rows.specs.Tables.{Said, HasItsColumns, AreCodedAs, AreCoded, LagAt, in_table, what_is_there, TellsOfOlder}
+use Rattle.row_versions.specs.{Chains.Chains, Chains.versions_at, Chains.first_seen, declared.place.Place.Place, declared.version.Version.Version}
+use Rattle.law_stored_rows.specs.Tables.{Said, HasItsColumns, AreCodedAs, AreCoded, in_table, what_is_there, TellsOfOlder}
 use Rattle.law_stored_rows.specs.{Edits.clustered_index, Edits.key_index, Entries.value_in, Entries.has_value}
-use Rattle.law_stored_rows.proofs.Values.{same_place}
-use Rattle.row_search.specs.Tables.{most_versions, ShowsTable, HoldsTable, HaveKeys, ShowsRows}
+use Rattle.row_search.specs.Tables.{most_versions, ShowsTable, HoldsTable, ShowsRows}
 use Rattle.row_search.specs.{declared.scan.Scan.Scan, declared.sight.Sight.Sight, Sights.sees_by, Sights.rows_seen}
 use Rattle.inno_types.specs.{declared.value.Value.Value, declared.value.Key.Key, declared.value.Schema.Schema}
 use Rattle.world.specs.{State.WorldState, State.index_of, Told.IsTold, Told.pairs_in, Told.pairs_of}
@@ -18,12 +14,6 @@ use Rattle.row_search.proofs.{Keys.key_there_at, Others.in_clustered, Others.in_
 told_pairs : (found : Option (List Pair)) → IsSome found → found ≡ Some (pairs_in found)
 told_pairs None is = cc
 told_pairs (Some pairs) is = refl
-
-first_index : (table : ℕ) → index_of table 0 ≡ clustered_index table
-first_index table = omega arith
-
-one_more : (n : ℕ) → suc n ≡ 1 + n
-one_more n = omega arith
 
 -- ---- what keys say of a place while a change of it is under way
 
@@ -39,21 +29,13 @@ pub record IsUnseen (chains : Chains) (said : Said) (sight : Sight) (place : Pla
 abbrev pub SaysOrUnseen : Chains → Said → Sight → Place → Type 0
 SaysOrUnseen chains said sight place = ((which : ℕ) → said place.table which place.key ≡ versions_at place chains) ⊎ IsUnseen chains said sight place
 
--- so it is of each place, where they lag at this one alone
-pub lags_at_one : {chains : Chains} {said : Said} {sight : Sight} {place : Place} → LagAt place chains said → IsUnseen chains said sight place
-    → (other : Place) → SaysOrUnseen chains said sight other
-lags_at_one {chains} {said} {sight} {place} lag unseen other = elim (cases_Bool (is_same_place place other)) [
-  | inl same ↦ subst (SaysOrUnseen chains said sight) (same_place place other same) (inr unseen)
-  | inr apart ↦ inl (λ which. lag other.table which other.key apart)
-]
-
 module _ (state : WorldState) (chains : Chains) (said : Said) (told : IsTold state)
     (coded : AreCodedAs state.schemas (pairs_of state) state.versions.kept_at chains said) where
   pairs_there : (index : ℕ) → (state.indexes index).pairs ≡ Some (pairs_of state index)
   pairs_there index = told_pairs (state.indexes index).pairs (told.pairs index)
 
   first_pairs : (table : ℕ) → (state.indexes (index_of table 0)).pairs ≡ Some (pairs_of state (clustered_index table))
-  first_pairs table = ap (λ index. (state.indexes index).pairs) (first_index table) ∙ pairs_there (clustered_index table)
+  first_pairs table = let first : index_of table 0 ≡ clustered_index table = omega arith in rw first (pairs_there (clustered_index table))
 
   pub shows_table : (table : ℕ) (schema : Schema) → slice_get state.schemas table ≡ Some schema → ShowsTable schema table state (in_table table chains)
   shows_table table schema there =
@@ -73,12 +55,10 @@ module _ (state : WorldState) (chains : Chains) (said : Said) (told : IsTold sta
           columns = columns;
           table = shows_table scan.table schema there;
           searched = pairs_of state (clustered_index scan.table);
-          searched_are = ap (λ which. (state.indexes (index_of scan.table which)).pairs) is ∙ first_pairs scan.table;
+          searched_are = rw is (first_pairs scan.table);
           rising = clustered.rising;
-          keys =
-              subst (λ which. HaveKeys schema which (pairs_of state (clustered_index scan.table)) (rows_seen scan.sight (in_table scan.table chains))) (sym is)
-              (in_clustered scan.table schema state.versions.kept_at (pairs_of state (clustered_index scan.table)) (in_table scan.table chains) scan.sight
-              clustered);
+          keys = rw is (in_clustered scan.table schema state.versions.kept_at (pairs_of state (clustered_index scan.table)) (in_table scan.table chains)
+              scan.sight clustered);
         }
 
     -- a key tells of what the reader sees
@@ -97,12 +77,10 @@ module _ (state : WorldState) (chains : Chains) (said : Said) (told : IsTold sta
           columns = columns;
           table = shows_table scan.table schema there;
           searched = pairs_of state (key_index scan.table at);
-          searched_are = ap (λ which. (state.indexes (index_of scan.table which)).pairs) is ∙ pairs_there (key_index scan.table at);
+          searched_are = rw is (pairs_there (key_index scan.table at));
           rising = entries.rising;
-          keys =
-              subst (λ which. HaveKeys schema which (pairs_of state (key_index scan.table at)) (rows_seen scan.sight (in_table scan.table chains))) (sym is)
-              (in_keyed scan.table schema state.versions.kept_at (pairs_of state (clustered_index scan.table)) (pairs_of state (key_index scan.table at))
-              (in_table scan.table chains) (said scan.table at) scan.sight at key clustered key_is entries tells);
+          keys = rw is (in_keyed scan.table schema state.versions.kept_at (pairs_of state (clustered_index scan.table))
+              (pairs_of state (key_index scan.table at)) (in_table scan.table chains) (said scan.table at) scan.sight at key clustered key_is entries tells);
         }
 
     shows_all : (which : ℕ) → scan.which ≡ which → which ≤ length schema.keys → ((at column : ℕ) → TellsOfSeen at column)
@@ -110,22 +88,15 @@ module _ (state : WorldState) (chains : Chains) (said : Said) (told : IsTold sta
     shows_all zero is le tells = shows_clustered is
     shows_all (suc at) is le tells =
         let key = key_there_at schema at le in
-        shows_keyed at key.0 (is ∙ one_more at) key.1 (tells at key.0.column)
+        shows_keyed at key.0 (is ∙ omega arith) key.1 (tells at key.0.column)
 
     -- Of each place the keys say what is there, or what the reader sees.
     tells_of_seen : ((place : Place) → SaysOrUnseen chains said scan.sight place) → (at column : ℕ) → TellsOfSeen at column
     tells_of_seen each at column value row seen = elim (each (record { table = scan.table; key = value })) [
-      | inl says ↦
-          ap (list_any (λ (version : Version). has_value column (value_in column row) version.row)) (says at)
-          ∙ seen_among column scan.sight (in_table scan.table chains value) row seen
+      | inl says ↦ rw (says at) (seen_among column scan.sight (in_table scan.table chains value) row seen)
       | inr lag ↦
-          let seen_older : first_seen (sees_by scan.sight) lag.others ≡ Some row
-          =
-          sym (ap (λ b. cond b lag.version.row (first_seen (sees_by scan.sight) lag.others)) lag.unseen) ∙
-          (sym (ap (first_seen (sees_by scan.sight)) lag.newest_is) ∙ seen) in
-          lag.tells at column (value_in column row)
-          (ap (λ (versions : List Version). list_any (λ (version : Version). has_value column (value_in column row) version.row) (older versions))
-          lag.newest_is ∙ seen_among column scan.sight lag.others row seen_older)
+          let seen_older : first_seen (sees_by scan.sight) lag.others ≡ Some row = rw (lag.newest_is, lag.unseen) at seen in
+          lag.tells at column (value_in column row) (rw lag.newest_is (seen_among column scan.sight lag.others row seen_older))
     ]
 
     pub shows_lagging : scan.which ≤ length schema.keys → ((place : Place) → SaysOrUnseen chains said scan.sight place)

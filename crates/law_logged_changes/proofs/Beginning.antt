@@ -1,25 +1,24 @@
 -- The newest record of a log tells of the newest version of its place, so a taking back may begin.
-use Rattle.row_changes.proofs.Sessions.{one_found}
-use Rattle.std.proofs.Common.{◌≡◌, inl, inr, ⊎_elim, ℕ, List, ◌∷◌, Option, Some, None, refl, sym, ap, subst, ◌∙◌, arith, slice_get, length}
+use Rattle.row_changes.proofs.{Sessions.one_found, Telling.one_value}
+use Rattle.std.proofs.Common.{◌≡◌, inl, inr, ⊎_elim, ℕ, List, ◌∷◌, Option, Some, None, refl, sym, ap, subst, ◌∙◌, arith}
 use Rattle.std.proofs.lemmas.Bool.{cases_order}
-use Rattle.inno_types.specs.{declared.value.Value.Value, declared.value.Column.Column, declared.value.Schema.Schema}
+use Rattle.inno_types.specs.{declared.value.Value.Value, declared.value.Schema.Schema}
 use Rattle.inno_db.specs.declared.change.Change.{Change}
-use Rattle.key_codec.specs.Keys.{HasKey, key_code}
 use Rattle.row_versions.specs.Chains.{Chains, versions_at, older}
 use Rattle.row_versions.specs.{declared.place.Place.Place, declared.version.Version.Version, declared.kept.Kept.Kept}
 use Rattle.law_stored_rows.specs.{Records.shown, Records.kept_of, Tables.Said, Tables.AreCodedAs, Tables.SayTheSameBut}
-use Rattle.law_stored_rows.proofs.{Values.one_key, KeptRows.found_of}
+use Rattle.law_stored_rows.proofs.KeptRows.{found_of}
 use Rattle.law_past_agreement.specs.Rows.{place_in}
 use Rattle.world.specs.{State.WorldState, State.Logged, Told.IsTold, Told.pairs_of}
 use Rattle.row_changes.specs.Keys.{IsChangingKeys, IsPushed, HasRowsSoFar, SaySoFar, gone, said_next}
-use Rattle.row_changes.specs.{declared.entry_put.EntryPut.EntryPut, declared.keys_change.KeysChange.KeysChange, Told.HasRowsBeside, Edits.IsKeyAt}
+use Rattle.row_changes.specs.{declared.entry_put.EntryPut.EntryPut, declared.keys_change.KeysChange.KeysChange, Told.HasRowsBeside}
 use Rattle.undo_apply.specs.Standing.{TellsOf, IsNewest, LeadsBack, versions_before, IsLagging, IsUnderWay}
-use Rattle.undo_apply.specs.{declared.work_room.WorkRoom.WorkRoom, declared.work_room.Stage.Stage, declared.work_room.Stage.TheVariants.Find, Rooms.IsWhole}
-use Rattle.undo_apply.specs.{Told.rows_of, Stages.FitsKeys, Stages.StageHolds, Stages.IsPuttingBack}
+use Rattle.undo_apply.specs.Stages.{StageHolds, IsPuttingBack}
+use Rattle.undo_apply.specs.{declared.work_room.WorkRoom.WorkRoom, declared.work_room.Stage.TheVariants.Find, Rooms.IsWhole, Told.rows_of}
 use Rattle.store_api.specs.declared.answers.Undo.{Undo}
 use Rattle.undo_apply.proofs.{Columns.newest_read, Taken.as_but}
 use Rattle.law_logged_changes.specs.Logs.{records_of, HasRecord, Stands, IsLogOf}
-use Rattle.law_logged_changes.proofs.Logs.{newest_stands}
+use Rattle.law_logged_changes.proofs.Logs.{newest_stands, key_told}
 
 -- ---- the place and its newest version
 
@@ -32,21 +31,12 @@ at table value = record { table = table; key = value }
 module _ (chains : Chains) (state : WorldState) {beside : Said} {undo : Undo} {schema : Schema} {place : Place}
     (tells : TellsOf undo schema place state.schemas)
     (keys : KeysChange) (is : IsChangingKeys chains beside state keys) (table_is : keys.table ≡ undo.table) (key_is : keys.key ≡ undo.key) where
-  one_schema : is.schema ≡ schema
-  one_schema = let there : slice_get state.schemas undo.table ≡ Some is.schema = ap (slice_get state.schemas) (sym table_is) ∙ is.table.there in let also =
-      tells.there in cc
-
-  key_at : IsKeyAt schema is.value undo.key
-  key_at = subst (λ (k : List ℕ). IsKeyAt schema is.value k) key_is (subst (λ (x : Schema). IsKeyAt x is.value keys.key) one_schema is.at)
-
-  one_value : is.value ≡ place.key
-  one_value =
-      let column : key_at.column ≡ tells.primary = let first = key_at.primary in let second = tells.primary_is in cc in
-      one_key tells.primary.kind is.value place.key (subst (λ (c : Column). HasKey c.kind is.value) column key_at.has_key) tells.has_key
-      (sym (subst (λ (c : Column). undo.key ≡ key_code c.kind is.value) column key_at.spelled) ∙ tells.key_is)
-
   pub keys_place : at keys.table is.value ≡ place
-  keys_place = let table = table_is ∙ sym tells.table_is in λ i. record { table = table i; key = one_value i }
+  keys_place =
+      let here : is.schema ≡ schema = let there = is.table.there in let also = tells.there in cc in
+      let key = one_value schema is.value place.key undo.key (rw (here, key_is) at is.at) (key_told tells) in
+      let table = table_is ∙ sym tells.table_is in
+      λ i. record { table = table i; key = key i }
 
 -- what is kept of the row is kept
 led_back : (undo : Undo) (kept : ℕ → Option Kept) (pointer : ℕ) → LeadsBack undo (kept_of kept undo.table undo.key) pointer → LeadsBack undo kept pointer
@@ -55,7 +45,7 @@ led_back undo kept pointer (inr (kind, leads, former, there, bytes)) =
     inr (kind, leads, former, found_of kept undo.table undo.key pointer former there, bytes)
 
 module _ (chains : Chains) (state : WorldState) (logged : Logged) (place : Place) (schema : Schema) (tells : TellsOf logged.undo schema place state.schemas)
-    (has : HasRecord schema (records_of state) state.versions.kept_at logged) where
+    (has : HasRecord state (records_of state) schema logged) where
   pub newest_is : IsNewest logged.undo schema (pairs_of state) state.versions.kept_at has.bytes has.coded
   newest_is = record { there = has.there; code_is = has.code_is; before = led_back logged.undo state.versions.kept_at has.coded.pointer has.before }
 
@@ -95,9 +85,7 @@ module _ (chains : Chains) (state : WorldState) (logged : Logged) (place : Place
       → versions_at place chains ≡ shown has.coded ∷ versions_before chains place
       → (which : ℕ) → IsLagging (shown has.coded) (versions_before chains place) (said place.table which place.key)
   so_far said done put row before same says is which =
-      let Lags : List Version → Type 0 = λ versions. IsLagging (shown has.coded) (versions_before chains place) versions in
-      ⊎_elim (λ here. subst Lags (sym (ap (λ (w : ℕ). said place.table w place.key) here ∙ says.here))
-      (subst (λ (b : List Version). IsLagging (shown has.coded) b (said_next put row before)) (sym same) (next_lags (shown has.coded) put row before)))
+      ⊎_elim (λ here. rw here (rw (says.here, same) (next_lags (shown has.coded) put row before)))
       (λ rest. ⊎_elim (λ less. inr (says.first which less ∙ is)) (λ more. inl (inl (says.later which more ∙ sym same))) rest) (cases_order which done)
 
   pub way_lagging : {beside : Said} (keys : KeysChange) → IsChangingKeys chains beside state keys → keys.table ≡ logged.undo.table
@@ -120,17 +108,17 @@ begins chains beside place room state logged schema tells whole stage holds = re
   schema = schema;
   tells = tells;
   whole = whole;
-  fits = subst (λ (s : Stage). FitsKeys (length schema.keys) logged.undo s) (sym stage) (record {});
-  holds = λ told. subst (λ (s : Stage). StageHolds chains beside place logged.undo schema (rows_of state) room.newest.items s) (sym stage) (holds told);
+  fits = rw stage (record {});
+  holds = λ told. rw stage (holds told);
 }
 
 module _ (state : WorldState) (logged : Logged) (log : List Logged) (change : Change) (own : List Change) (place : Place)
     (log_is : IsLogOf state (logged ∷ log) (change ∷ own)) (place_is : place_in state.schemas change ≡ Some place) where
-  pub top : Stands (IsTold state) state.schemas (records_of state) state.versions.kept_at logged log change
-  top = (newest_stands (IsTold state) state.schemas (records_of state) state.versions.kept_at logged log change own place place_is log_is).0
+  pub top : Stands state (records_of state) logged log change
+  top = (newest_stands change own place_is log_is).0
 
   pub tells_of_it : TellsOf logged.undo top.schema place state.schemas
-  tells_of_it = subst (λ (p : Place). TellsOf logged.undo top.schema p state.schemas) (one_found top.place place top.place_is place_is) top.tells
+  tells_of_it = rw (one_found top.place place top.place_is place_is) at top.tells
 
   module _ (chains : Chains) (room : WorkRoom) where
     pub begins_settled : {beside : Said} → HasRowsBeside chains beside place state → IsWhole room → room.stage ≡ Find

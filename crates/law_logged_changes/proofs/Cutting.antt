@@ -1,22 +1,21 @@
 -- An undo record goes, and with it what it kept.
 use Rattle.law_logged_changes.specs.{Steps.IsToCut, Steps.HasCut, Steps.IsRowAgain, Steps.LeavesOtherRows, Logs.records_of, Logs.IsLogOf}
-use Rattle.law_stored_rows.specs.Tables.{in_table, AreClustered, AreCodedAs, Said}
-use Rattle.law_stored_rows.specs.{Records.IsRecordWith, Records.LeadTo, Records.if_of, Records.kept_of, Edits.clustered_index}
+use Rattle.law_stored_rows.specs.Tables.{in_table, AreClustered, Said}
+use Rattle.law_stored_rows.specs.{Records.IsRecordWith, Records.LeadTo, Records.if_of, Records.kept_of, Records.KeepsMore, Edits.clustered_index}
 use Rattle.law_stored_rows.proofs.{KeptRows.others_keep, RowRecords.record_still, RowRecords.one_lead, RowRecords.one_record}
-use Rattle.std.proofs.Common.{◌≡◌, ◌≢◌, ⊎_elim, inl, inr, ℕ, ◌<◌, List, [], ◌∷◌, length, Option, None, Some, refl, sym, ap, subst, ◌∙◌, slice_get, arith}
+use Rattle.std.proofs.Common.{◌≡◌, ◌≢◌, ◌⊎◌, ⊎_elim, inl, inr, ℕ, ◌<◌, List, [], ◌∷◌, length, Option, None, Some, refl, sym, ap, subst, ◌∙◌, slice_get, arith}
 use Rattle.std.proofs.lemmas.Bool.{cases_eq}
-use Rattle.std.specs.{Prelude.IsSome, Prelude.IsTrue, List.AllByRecursion}
+use Rattle.std.specs.Prelude.{IsSome}
 use Rattle.inno_types.specs.declared.value.Schema.{Schema}
 use Rattle.inno_db.specs.declared.change.Change.{Change}
 use Rattle.inno_model.specs.Past.{own}
 use Rattle.key_codec.specs.Keys.{key_code}
 use Rattle.entries.specs.Pairs.{Pair, value_of}
 use Rattle.row_versions.specs.{declared.kept.Kept.Kept, declared.version.Version.Version, Chains.Chains}
-use Rattle.world.specs.{State.WorldState, State.Session, State.Work, State.Logged, State.HasWork, Told.IsTold, Told.pairs_of, Undoing.IsCutBack}
+use Rattle.world.specs.{State.WorldState, State.Session, State.Logged, State.HasWork, Told.IsTold, Told.pairs_of, Undoing.IsCutBack}
 use Rattle.row_changes.specs.Told.{AreRowsAs}
 use Rattle.row_changes.proofs.{Ids.one_work, Sessions.one_found, Sessions.set_here, Sessions.set_other}
-use Rattle.law_logged_changes.proofs.{Leaving.same_schemas_grow, Leaving.log_beside, Logs.all_of, Logs.all_mapped, Logs.Keeps, Logs.SameRecord, Logs.log_on}
-use Rattle.law_logged_changes.proofs.{Logs.here_or_not}
+use Rattle.law_logged_changes.proofs.{Leaving.log_over, Leaving.log_beside, Logs.log_on, Logs.here_or_not}
 
 -- ---- a record without what its row has again
 
@@ -43,63 +42,39 @@ module _ (schema : Schema) (key : List ℕ) (kept now : ℕ → Option Kept) (go
 
 -- ---- the log without its newest record
 
-all_under : {X : Type 0} (P : X → Type 0) (told : Type 0) (xs : List X) → (told → AllByRecursion P xs) → AllByRecursion (λ x. told → P x) xs
-all_under P told [] each = record {}
-all_under P told (x ∷ xs) each = (λ at. (each at).0, all_under P told xs (λ at. (each at).1))
-
-same_front : (log : List Logged) (first second : Logged) (rest others : List Logged) → log ≡ first ∷ rest → log ≡ second ∷ others
-    → (first ≡ second) × (rest ≡ others)
-same_front log first second rest others is also = (cc, cc)
-
 module _ (s : ℕ) (old new : WorldState) (logged : Logged) (older : List Logged) (before : List Change) (cut : IsToCut s logged older before old)
     (back : IsCutBack s old new) where
   front : (back.gone ≡ logged) × (back.log ≡ older)
   front =
-      let one = ap (λ (w : Work). w.log) (one_work s back.session cut.session back.work cut.work old back.has_work cut.has_work) in
-      same_front back.work.log back.gone logged back.log older back.log_is (one ∙ cut.log_is)
-
-  same_indexes : new.indexes ≡ old.indexes
-  same_indexes = ap (λ (state : WorldState). state.indexes) back.rest
+      let one = one_work s back.session cut.session back.work cut.work old back.has_work cut.has_work in
+      let all = back.log_is in
+      let cuts = cut.log_is in
+      (cc, cc)
 
   same_schemas : new.schemas ≡ old.schemas
   same_schemas = ap (λ (state : WorldState). state.schemas) back.rest
 
-  same_past : new.past ≡ old.past
-  same_past = ap (λ (state : WorldState). state.past) back.rest
-
   same_pairs : pairs_of new ≡ pairs_of old
-  same_pairs = ap (λ indexes. pairs_of (record old { indexes = indexes })) same_indexes
+  same_pairs = ap (λ (state : WorldState). pairs_of state) back.rest
 
   told_before : IsTold new → IsTold old
   told_before told = record {
-    pairs = λ index. subst (λ indexes. IsSome (indexes index).pairs) same_indexes (told.pairs index);
+    pairs = λ index. subst (λ (state : WorldState). IsSome (state.indexes index).pairs) back.rest (told.pairs index);
     versions = back.told told.versions;
   }
 
   kept_elsewhere : IsTold new → (pointer : ℕ) → pointer ≢ logged.pointer → new.versions.kept_at pointer ≡ old.versions.kept_at pointer
   kept_elsewhere told pointer differs = back.kept pointer (λ same. differs (same ∙ ap (λ (l : Logged). l.pointer) front.0)) told.versions
 
-  -- an undo record of a new row keeps no version, so none goes with it
-  behind_new : logged.undo.kind ≡ 1 → IsTrue new.versions.told → new.versions.kept_at logged.pointer ≡ old.versions.kept_at logged.pointer
-  behind_new kind told =
-      subst (λ (l : Logged). new.versions.kept_at l.pointer ≡ old.versions.kept_at l.pointer) front.0
-      (back.behind_new (subst (λ (l : Logged). l.undo.kind ≡ 1) (sym front.0) kind) told)
-
-  -- where it tells of a new row, all is kept
+  -- an undo record of a new row keeps no version, so none goes with it, and all is kept
   all_kept : logged.undo.kind ≡ 1 → IsTold new → new.versions.kept_at ≡ old.versions.kept_at
   all_kept kind told =
-      let each : (pointer : ℕ) → new.versions.kept_at pointer ≡ old.versions.kept_at pointer
-      =
-      λ pointer. ⊎_elim (λ same. subst (λ (p : ℕ). new.versions.kept_at p ≡ old.versions.kept_at p) (sym same) (behind_new kind told.versions))
-      (λ differs. kept_elsewhere told pointer differs) (cases_eq pointer logged.pointer) in
+      let new_row : back.gone.undo.kind ≡ 1 = rw front.0 kind in
+      let gone : logged.pointer ≡ back.gone.pointer = ap (λ (l : Logged). l.pointer) (sym front.0) in
+      let each : (pointer : ℕ) → new.versions.kept_at pointer ≡ old.versions.kept_at pointer =
+      λ pointer. ⊎_elim (λ same. rw same (rw gone (back.behind_new new_row told.versions))) (kept_elsewhere told pointer)
+      (cases_eq pointer logged.pointer) in
       λ i pointer. each pointer i
-
-  -- what holds of the rows and of what was kept holds of what is kept now
-  still : (P : List Schema → (ℕ → List Pair) → (ℕ → Option Kept) → Type 0) → IsTold new → P old.schemas (pairs_of old) new.versions.kept_at
-      → P new.schemas (pairs_of new) new.versions.kept_at
-  still P told holds =
-      subst (λ (schemas : List Schema). P schemas (pairs_of new) new.versions.kept_at) (sym same_schemas)
-      (subst (λ (pairs : ℕ → List Pair). P old.schemas pairs new.versions.kept_at) (sym same_pairs) holds)
 
   -- where the undo record keeps a version, only its own row had that, and has what was before
   module _ (told : IsTold new) (again : IsRowAgain logged old) where
@@ -108,6 +83,12 @@ module _ (s : ℕ) (old new : WorldState) (logged : Logged) (older : List Logged
 
     abbrev kept_now : ℕ → List ℕ → ℕ → Option Kept
     kept_now table key = kept_of new.versions.kept_at table key
+
+    others_kept : (other : ℕ) (also : List ℕ) → (other ≢ logged.undo.table) ⊎ (also ≢ logged.undo.key)
+        → KeepsMore (kept_then other also) (kept_now other also)
+    others_kept other also =
+        others_keep old.versions.kept_at new.versions.kept_at logged.pointer logged.undo.table other logged.undo.key also again.leads.0
+        (kept_elsewhere told) again.leads.1.there
 
     record_cut : (table : ℕ) (schema : Schema) (key : List ℕ) (versions : List Version) → slice_get old.schemas table ≡ Some schema
         → IsRecordWith schema key (kept_then table key) (records_of old table key) versions
@@ -124,9 +105,8 @@ module _ (s : ℕ) (old new : WorldState) (logged : Logged) (older : List Logged
           (record_without schema logged.undo.key kept (kept_now logged.undo.table logged.undo.key) logged.pointer
           (λ pointer differs. ap (if_of logged.undo.table logged.undo.key) (kept_elsewhere told pointer differs))
           (records_of old logged.undo.table logged.undo.key) versions (subst (LeadTo schema logged.undo.key kept logged.pointer) all leads) mine)
-      | inr apart ↦ record_still schema key (kept_then table key) (kept_now table key) (records_of old table key) versions
-          (others_keep old.versions.kept_at new.versions.kept_at logged.pointer logged.undo.table table logged.undo.key key again.leads.0
-          (kept_elsewhere told) again.leads.1.there apart) is
+      | inr apart ↦
+          record_still schema key (kept_then table key) (kept_now table key) (records_of old table key) versions (others_kept table key apart) is
     ]
 
     clustered_cut : (chains : Chains) → AreClustered old.schemas (pairs_of old) old.versions.kept_at chains
@@ -147,46 +127,33 @@ module _ (s : ℕ) (old new : WorldState) (logged : Logged) (older : List Logged
   pub rows_as_cut : (chains : Chains) (said : Said) → (IsTold old → AreRowsAs chains said old) → IsTold new → AreRowsAs chains said new
   rows_as_cut chains said rows told =
       let was = rows (told_before told) in
-      still (λ schemas pairs kept. AreCodedAs schemas pairs kept chains said) told (⊎_elim
-      (λ first. subst (λ (kept : ℕ → Option Kept). AreCodedAs old.schemas (pairs_of old) kept chains said) (sym (all_kept first told)) was)
+      rw (same_schemas, same_pairs) (⊎_elim (λ first. rw (all_kept first told) was)
       (λ second. record { clustered = clustered_cut told (cut.may.again (told_before told) second) chains was.clustered; keyed = was.keyed })
       cut.may.kind_is)
 
-  abbrev KeepsOn : Logged → Type 0
-  KeepsOn =
-      Keeps (IsTold old) (IsTold new) old.schemas new.schemas old.versions.kept_at new.versions.kept_at told_before
-      (same_schemas_grow old.schemas new.schemas same_schemas)
+  same_records : IsTold new → (table : ℕ) (key : List ℕ) → records_of new table key ≡ records_of old table key
+  same_records told table key = ap (λ (pairs : ℕ → List Pair). value_of key (pairs (clustered_index table))) same_pairs
 
-  keeps_on : AllByRecursion KeepsOn older
-  keeps_on =
-      ⊎_elim (λ first. all_of KeepsOn older (λ l told kind former there. ap (λ (kept : ℕ → Option Kept). kept_of kept l.undo.table l.undo.key l.pointer)
-      (all_kept first told) ∙ there))
-      (λ second. all_mapped (λ (l : Logged). IsTold new → l.undo.kind ≡ 2 → l.pointer ≢ logged.pointer) KeepsOn older
-      (λ l apart told kind former there. ap (if_of l.undo.table l.undo.key) (kept_elsewhere told l.pointer (apart told kind)) ∙ there)
-      (all_under (λ (l : Logged). l.undo.kind ≡ 2 → l.pointer ≢ logged.pointer) (IsTold new) older (λ told. cut.may.elsewhere (told_before told) second)))
-      cut.may.kind_is
-
+  -- older records keep their versions behind other pointers
   pub log_cut : IsLogOf new older before
   log_cut =
-      log_on (IsTold old) (IsTold new) old.schemas new.schemas old.versions.kept_at new.versions.kept_at told_before
-      (same_schemas_grow old.schemas new.schemas same_schemas) (records_of old) (records_of new) older before
-      (all_of (SameRecord (IsTold old) (IsTold new) old.schemas new.schemas old.versions.kept_at new.versions.kept_at told_before
-      (same_schemas_grow old.schemas new.schemas same_schemas) (records_of old) (records_of new)) older
-      (λ l told schema there. ap (λ (pairs : ℕ → List Pair). value_of l.undo.key (pairs (clustered_index l.undo.table))) same_pairs))
-      keeps_on cut.logs.mine
+      ⊎_elim
+      (λ first. log_over (records_of old) (records_of new) older before told_before same_schemas same_records
+      (λ told pointer found is. rw (all_kept first told) is) cut.logs.mine)
+      (λ second. log_on told_before same_schemas (λ l. l.undo.kind ≡ 2 → l.pointer ≢ logged.pointer) (records_of old) (records_of new) older before
+      (λ l told apart. same_records told l.undo.table l.undo.key)
+      (λ l told apart two former there. ap (if_of l.undo.table l.undo.key) (kept_elsewhere told l.pointer (apart two)) ∙ there)
+      (λ told. cut.may.elsewhere (told_before told) second) cut.logs.mine) cut.may.kind_is
 
   -- what goes was kept as a version of its own row
   others_left : LeavesOtherRows logged.undo.table logged.undo.key old new
   others_left = record {
     schemas = same_schemas;
     told = told_before;
-    records = λ told other also apart. ap (λ (pairs : ℕ → List Pair). value_of also (pairs (clustered_index other))) same_pairs;
+    records = λ told other also apart. same_records told other also;
     kept = λ told other also apart. elim (cut.may.kind_is) [
-      | inl first ↦ λ pointer found is. ap (λ (kept : ℕ → Option Kept). kept_of kept other also pointer) (all_kept first told) ∙ is
-      | inr second ↦
-          let again = cut.may.again (told_before told) second in
-          others_keep old.versions.kept_at new.versions.kept_at logged.pointer logged.undo.table other logged.undo.key also again.leads.0
-          (kept_elsewhere told) again.leads.1.there apart
+      | inl first ↦ λ pointer found is. rw (all_kept first told) is
+      | inr second ↦ others_kept told (cut.may.again (told_before told) second) other also apart
     ];
   }
 
@@ -206,13 +173,9 @@ module _ (s : ℕ) (old new : WorldState) (logged : Logged) (older : List Logged
     logs = record {
       mine = log_cut;
       others = λ u session work differs has.
-          let had : HasWork u session work old =
-          record {
-            session_is = sym (ap (λ (state : WorldState). slice_get state.sessions u) back.rest ∙ set_other old.sessions s u session_now differs)
-                ∙ has.session_is;
-            work_is = has.work_is;
-          } in
-          subst (λ (changes : List Change). IsLogOf new work.log changes) (ap (own u) (sym same_past))
+          let same = ap (λ (state : WorldState). slice_get state.sessions u) back.rest ∙ set_other old.sessions s u session_now differs in
+          let had : HasWork u session work old = record { session_is = sym same ∙ has.session_is; work_is = has.work_is } in
+          rw (ap (λ (state : WorldState). own u state.past) back.rest)
           (log_beside others_left work.log (own u old.past) (cut.alone u session work differs had) (cut.logs.others u session work differs had));
     };
   }

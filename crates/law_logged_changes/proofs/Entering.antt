@@ -1,10 +1,10 @@
 -- Each step of a change: those that add no entry, and the one that adds its entry.
 use Rattle.row_changes.specs.RecordReached as records
 use Rattle.law_logged_changes.proofs.Leaving.{stay_kept, work_again, agrees_beside}
-use Rattle.std.proofs.Common.{◌≡◌, ⊎_elim, ℕ, ◌^◌, ◌<◌, ◌==◌, Bool, true, false, List, ◌∷◌, length, Option, Some, refl, sym, ap, subst, ◌∙◌, arith}
-use Rattle.std.proofs.{lemmas.Bool.cases_eq, lemmas.Option.slice_get_within}
-use Rattle.std.specs.Prelude.{slice_get, IsTrue, option_map}
-use Rattle.inno_types.specs.{declared.value.Value.Value, declared.value.Schema.Schema}
+use Rattle.std.proofs.Common.{◌≡◌, ⊎_elim, ℕ, ◌^◌, ◌<◌, ◌==◌, Bool, true, false, List, ◌∷◌, length, Some, refl, sym, ap, ◌∙◌, arith}
+use Rattle.std.proofs.{lemmas.Bool.Decides.nat_tests, lemmas.Option.slice_get_within}
+use Rattle.std.specs.Prelude.{slice_get, IsTrue}
+use Rattle.inno_types.specs.declared.value.Schema.{Schema}
 use Rattle.store_api.specs.declared.answers.Undo.{Undo}
 use Rattle.row_versions.specs.Chains.{Chains, with_versions, Pushes}
 use Rattle.row_versions.specs.{Versions.Versions, declared.place.Place.Place, declared.version.Version.Version}
@@ -12,59 +12,51 @@ use Rattle.law_past_agreement.specs.{Rows.place_in, Rows.is_place, Rows.is_at, R
 use Rattle.law_stored_rows.proofs.Values.{same_place}
 use Rattle.law_stored_rows.specs.{Tables.Said, Records.KeepsMore}
 use Rattle.inno_db.specs.declared.change.Change.{Change}
-use Rattle.world.specs.{State.WorldState, State.Session, State.Work, State.HasWork, Indexes.KeepsIf, Told.IsTold}
+use Rattle.world.specs.{State.WorldState, State.Session, State.Work, State.HasWork, State.IsSession, Indexes.KeepsIf, Told.IsTold}
 use Rattle.law_world_agreement.specs.{Agreement.Agrees, Steps.IsChangedBy, Steps.IsEntered}
 use Rattle.law_world_agreement.proofs.{Changing.changed_agrees, Entries.unentered_agrees}
-use Rattle.row_changes.specs.Records.{Records, IsChangingRecord, ChangesRecord, id_for}
-use Rattle.row_changes.specs.Rows.{IsChangingRow, row_after, primary_of, place_of, PushesEdit, ChangesRow}
-use Rattle.row_changes.specs.Reached.{Went, Done, Hindered}
+use Rattle.row_changes.specs.{Records.Records, Records.IsChangingRecord, Records.ChangesRecord, Records.id_for, Rows.IsChangingRow, Rows.row_after}
+use Rattle.row_changes.specs.{Rows.primary_of, Rows.place_of, Rows.PushesEdit, Rows.ChangesRow, Reached.Went, Reached.Done, Reached.Hindered, Reached.Reached}
 use Rattle.row_changes.specs.{declared.row_edit.RowEdit.RowEdit, declared.row_edit.RowEdit.TheVariants.Remove, declared.row_edit.RowEdit.TheVariants.Put}
 use Rattle.row_changes.specs.{declared.row_change.RowChange.TheVariants.Keys, declared.row_change.RowChange.TheVariants.Record}
 use Rattle.row_changes.specs.{declared.record_change.RecordChange.RecordChange, Keys.StaysBesideKeys, declared.keys_change.KeysChange.KeysChange}
-use Rattle.row_changes.specs.{declared.row_change.RowChange.RowChange, Edits.change_of, Edits.rows_put, Asides.StepsAside, Reached.Reached}
+use Rattle.row_changes.specs.{declared.row_change.RowChange.RowChange, Edits.change_of, Edits.rows_put, Asides.StepsAside, Asides.IsReadied}
 use Rattle.row_changes.proofs.{Ids.one_work, Sessions.one_session, Pushed.kept_more, Keying.beside_stay}
 use Rattle.law_logged_changes.specs.Logs.{IsAloneAt}
 use Rattle.law_logged_changes.specs.GoingOn.{StaysOpen, KeepsBeside, EntersAgreed, GoesOnAgreed, StaysAgreed, IsAloneIn}
 use Rattle.inno_db.proofs.Keys.{key_in-at}
 
+-- the session's replies and settings stay, and its transaction does
+stays_open : {s : ℕ} {session : Session} {work : Work} {old new : WorldState} (after : Session) → IsReadied session after → IsSession s after new
+    → HasWork s session work old → StaysOpen s session work old new
+stays_open {work = work} after readied is has = record {
+  session_now = after;
+  work_now = work;
+  has = record { session_is = is; work_is = readied.work ∙ has.work_is };
+  setting = readied.setting;
+  can_reply = readied.can_reply;
+  can_ack = readied.can_ack;
+  txn = refl;
+  level = refl;
+  view = refl;
+  can_end = refl;
+  same = λ past. refl;
+}
+
 -- ---- the session has other rooms
 
 module _ (s : ℕ) (old new : WorldState) (aside : StepsAside s old new) where
   aside_entered : IsEntered old.past old new
-  aside_entered = record {
-    past_is = ap (λ (state : WorldState). state.past) aside.rest;
-    names = ap (λ (state : WorldState). state.names) aside.rest;
-    schemas = ap (λ (state : WorldState). state.schemas) aside.rest;
-    txns = ap (λ (state : WorldState). state.txns) aside.rest;
-    works = λ u.
-        ⊎_elim (λ e. subst (λ n. option_map (λ (x : Session). x.work) (slice_get new.sessions n) ≡ option_map (λ (x : Session). x.work)
-        (slice_get old.sessions n)) (sym e)
-        (ap (option_map (λ (x : Session). x.work)) aside.is ∙ ap Some aside.readied.work ∙ sym (ap (option_map (λ (x : Session). x.work)) aside.was)))
-        (λ differs. ap (option_map (λ (x : Session). x.work)) (aside.others u differs)) (cases_eq u s);
-    count = aside.count;
-  }
+  aside_entered = grind (arith, nat_tests, aside.rest, aside.others, aside.was, aside.is, aside.readied.work, aside.count)
 
   aside_open : (session : Session) (work : Work) → HasWork s session work old → StaysOpen s session work old new
   aside_open session work has =
-      let one = one_session old s aside.before session aside.was has.session_is in
-      record {
-        session_now = aside.after;
-        work_now = work;
-        has = record { session_is = aside.is; work_is = aside.readied.work ∙ ap (λ (x : Session). x.work) one ∙ has.work_is };
-        setting = aside.readied.setting ∙ ap (λ (x : Session). x.setting) one;
-        can_reply = aside.readied.can_reply ∙ ap (λ (x : Session). x.can_reply) one;
-        can_ack = aside.readied.can_ack ∙ ap (λ (x : Session). x.can_ack) one;
-        txn = refl;
-        level = refl;
-        view = refl;
-        can_end = refl;
-        same = λ past. refl;
-      }
+      stays_open aside.after (rw (one_session old s aside.before session aside.was has.session_is) at aside.readied) aside.is has
 
   aside_beside : IsTold new → KeepsBeside s old new
   aside_beside told = record {
-    names = ap (λ (state : WorldState). state.names) aside.rest;
-    schemas = ap (λ (state : WorldState). state.schemas) aside.rest;
+    names = cc;
+    schemas = cc;
     others = aside.others;
     count = aside.count;
     places = aside.places;
@@ -76,51 +68,30 @@ module _ (s : ℕ) (old new : WorldState) (aside : StepsAside s old new) where
   aside_agreed chains known agrees told holds = record {
     agrees = unentered_agrees chains old new agrees aside_entered;
     holds = holds;
-    past = ap (λ (state : WorldState). state.past) aside.rest;
-    rows = ap (λ (state : WorldState). state.rows) aside.rest;
-    txns = ap (λ (state : WorldState). state.txns) aside.rest;
+    past = cc;
+    rows = cc;
+    txns = cc;
     beside = aside_beside told;
   }
 
 -- ---- all sessions are as they were
 
 module _ (s : ℕ) (chains : Chains) (old new : WorldState) (stays : StaysBesideKeys old new) (agrees : Agrees chains old) (told : IsTold new) where
-  keys_agree : Agrees chains new
-  keys_agree = agrees_beside stays.rest agrees
-
   keys_beside : KeepsBeside s old new
   keys_beside = record {
-    names = ap (λ (state : WorldState). state.names) stays.rest;
-    schemas = ap (λ (state : WorldState). state.schemas) stays.rest;
-    others = λ t differs. ap (λ (state : WorldState). slice_get state.sessions t) stays.rest;
-    count = ap (λ (state : WorldState). length state.sessions) stays.rest;
+    names = cc;
+    schemas = cc;
+    others = λ t differs. cc;
+    count = cc;
     places = stays.places;
     kept = stay_kept old new stays.versions told;
-    own = λ session work has.
-        record {
-          session_now = session;
-          work_now = work;
-          has = work_again s session work old new stays.rest has;
-          setting = refl;
-          can_reply = refl;
-          can_ack = refl;
-          txn = refl;
-          level = refl;
-          view = refl;
-          can_end = refl;
-          same = λ past. refl;
-        };
+    own = λ session work has. stays_open session (record { setting = refl; work = refl; can_reply = refl; can_ack = refl })
+        (work_again s session work old new stays.rest has).session_is has;
   }
 
   pub keys_agreed : (known : Type 0) → known → StaysAgreed s chains old new known
-  keys_agreed known holds = record {
-    agrees = keys_agree;
-    holds = holds;
-    past = ap (λ (state : WorldState). state.past) stays.rest;
-    rows = ap (λ (state : WorldState). state.rows) stays.rest;
-    txns = ap (λ (state : WorldState). state.txns) stays.rest;
-    beside = keys_beside;
-  }
+  keys_agreed known holds =
+      record { agrees = agrees_beside stays.rest agrees; holds = holds; past = cc; rows = cc; txns = cc; beside = keys_beside }
 
 -- ---- rows in which one place has a version more
 
@@ -162,20 +133,14 @@ kept_if false schemas pointer undo old new k told other found is = ap (λ (f : �
 module _ (s : ℕ) (chains : Chains) (old new : WorldState) (change : RecordChange) (bytes : List ℕ) (undo : Undo)
     (recorded : Records s (change_of change.table change.edit) (rows_put change.edit) change.table change.key bytes undo old new) (told : IsTold new) where
   abbrev changed_by : IsChangedBy s (change_of change.table change.edit) old.schemas old new
-  changed_by = record {
+  changed_by = let changed = recorded.work.changed in record {
     session = recorded.work.session;
     work = recorded.work.work;
     had = recorded.work.had;
     session_now = recorded.work.session_now;
     work_now = recorded.work.work_now;
     has = recorded.work.has;
-    more = record {
-      txn = recorded.work.changed.txn;
-      level = recorded.work.changed.level;
-      view = recorded.work.changed.view;
-      own = recorded.work.changed.own;
-      id_is = recorded.work.changed.id_is;
-    };
+    more = record { txn = changed.txn; level = changed.level; view = changed.view; own = changed.own; id_is = changed.id_is };
     past = ap (λ (state : WorldState). state.past) recorded.rest;
     names = ap (λ (state : WorldState). state.names) recorded.rest;
     schemas = ap (λ (state : WorldState). state.schemas) recorded.rest;
@@ -225,11 +190,6 @@ module _ (s : ℕ) (chains : Chains) (old new : WorldState) (change : RecordChan
       let push : PushesEdit s change old chains after =
       record { schema = p.schema; there = p.table.there; session = p.session; work = p.work; has_work = p.has_work; pushes = pushed } in
       let same : p.work ≡ recorded.work.work = one_work s p.session recorded.work.session p.work recorded.work.work old p.has_work recorded.work.had in
-      let pushed' : Pushes chains after place (record
-      { writer = id_for recorded.work.work.id old.txns.next; row = row_of (change_of change.table change.edit) }) =
-      subst (λ (w : Work). Pushes chains after place (record { writer = id_for w.id old.txns.next; row = row_of (change_of change.table change.edit) })) same
-      (subst (λ (row : Option (List Value)). Pushes chains after place (record { writer = id_for p.work.id old.txns.next; row = row }))
-      (sym (row_there change.table change.edit)) pushed) in
       record {
         after = after;
         pushes = push;
@@ -237,11 +197,11 @@ module _ (s : ℕ) (chains : Chains) (old new : WorldState) (change : RecordChan
             changed_agrees chains after old new s (change_of change.table change.edit) place agrees
             (λ other at. rw (same_place_of old.schemas (change_of change.table change.edit) place other placed at) alone) (of_row change.table change.edit)
             placed
-            (tabled (length old.schemas) change.table change.edit (slice_get_within old.schemas change.table p.schema p.table.there)) changed_by pushed'
-            (omega (arith, few, ap length changed_by.past));
+            (tabled (length old.schemas) change.table change.edit (slice_get_within old.schemas change.table p.schema p.table.there)) changed_by
+            (rw (← same, row_there change.table change.edit) pushed) (omega (arith, few, ap length changed_by.past));
         changing = keys after push;
         past = changed_by.past;
-        rows = ap (λ (state : WorldState). state.rows) recorded.rest;
+        rows = cc;
         beside = entered_beside;
       }
 
@@ -268,9 +228,9 @@ goes_on s chains said old new (Record change key after) Done agrees alone p c to
 goes_on s chains said old new (Keys change) Done agrees alone p c told few = keys_agreed s chains old new (beside_stay old new c.0) agrees told _ c.1
 goes_on s chains said old new (Record change key after) (Hindered same why) agrees alone p c told few = (
   c.0,
-  aside_agreed s old new c.2.0 chains _ agrees told (subst (IsChangingRow s chains said new) (sym c.0) c.1),
+  aside_agreed s old new c.2.0 chains _ agrees told (rw c.0 c.1),
 )
 goes_on s chains said old new (Keys change) (Hindered same why) agrees alone p c told few = (
   c.0,
-  keys_agreed s chains old new (beside_stay old new c.2.0) agrees told _ (subst (IsChangingRow s chains said new) (sym c.0) c.1),
+  keys_agreed s chains old new (beside_stay old new c.2.0) agrees told _ (rw c.0 c.1),
 )

@@ -1,17 +1,17 @@
 -- Steps that change no record leave logs as they are.
 use Rattle.row_changes.specs.declared.entry_put.PutPhase.TheVariants as puts
 use Rattle.law_logged_changes.specs.Logs.{RecordsAt, LogStands, records_of, IsLogOf, LogsAgree, LogsAgreeBut, IsElsewhere}
-use Rattle.law_logged_changes.specs.Steps.{LeavesRecords, LeavesLog, HasNoLog, LeavesLogs, LeavesOtherRows, OfAll, HasCut, MakesTable, ChangesPairsAlone}
-use Rattle.std.proofs.Common.{Some, ◌≡◌, ◌≢◌, ◌⊎◌, inl, inr, ⊎_elim, ℕ, zero, suc, ◌<◌, List, [], ◌∷◌, ◌++◌, Option, refl, sym, ap, subst, ◌∙◌, slice_get}
+use Rattle.law_logged_changes.specs.Steps.{LeavesRecords, LeavesLog, HasNoLog, LeavesLogs, LeavesOtherRows, OfAll, HasCut, ChangesPairsAlone}
+use Rattle.std.proofs.Common.{Some, ◌≡◌, ◌≢◌, ◌⊎◌, inl, inr, ⊎_elim, ℕ, zero, suc, ◌<◌, List, [], ◌∷◌, ◌++◌, Option, refl, sym, ap, ◌∙◌, slice_get}
 use Rattle.std.proofs.Common.{arith, true, false, None}
-use Rattle.std.proofs.{lemmas.Bool.cases_eq, lemmas.Option.slice_get_within}
-use Rattle.world.specs.{State.WorldState, State.Session, State.Work, State.Logged, State.HasWork, State.IsIndex, Told.pairs_of, Told.IsTold, Told.LeavesRows}
+use Rattle.std.proofs.{lemmas.Bool.cases_eq}
+use Rattle.world.specs.{State.WorldState, State.Session, State.Work, State.Logged, State.HasWork, Told.pairs_of, Told.IsTold, Told.LeavesRows}
 use Rattle.row_changes.proofs.Telling.{went, put_told, told_if, rows_if}
-use Rattle.row_changes.proofs.{Ids.one_work, Sessions.one_session, Changing.stage_kept, Changing.told_kept, Pushed.table_kept, Keying.changing_next}
-use Rattle.law_logged_changes.proofs.{Logs.all_of, Logs.all_mapped, Logs.Grows, Logs.Keeps, Logs.SameRecord, Logs.log_on, Listed.listed_of}
+use Rattle.row_changes.proofs.{Ids.one_work, Changing.stage_kept, Changing.told_kept, Pushed.table_kept, Keying.changing_next}
+use Rattle.law_logged_changes.proofs.{Logs.all_of, Logs.log_on, Listed.listed_of}
 use Rattle.law_stored_rows.proofs.{KeptRows.more_of, Pairs.no_key}
 use Rattle.std.specs.{List.AllByRecursion, Prelude.slice_get, Prelude.IfSome, Prelude.is_some}
-use Rattle.undo_apply.specs.{Stages.GoesOn, Stages.IsHindered, Stages.IsDone, Stages.PutsBack, declared.work_room.WorkRoom.WorkRoom}
+use Rattle.undo_apply.specs.{Stages.GoesOn, Stages.IsDone, Stages.PutsBack, declared.work_room.WorkRoom.WorkRoom}
 use Rattle.row_changes.specs.{Keys.IsChangingKeys, Keys.said_next, Keys.HasRowsSoFar, Keys.IsEntering, Asides.StepsAside, Pairs.RowsStay, Pairs.PutsPair}
 use Rattle.row_changes.specs.{declared.entry_put.PutPhase.PutPhase, declared.keys_change.KeysChange.KeysChange, declared.row_change.RowChange.RowChange}
 use Rattle.row_changes.specs.{Entries.PutPhaseHolds, declared.record_change.RecordChange.RecordChange, declared.entry_put.EntryPut.EntryPut, Told.HasRows}
@@ -20,7 +20,7 @@ use Rattle.row_changes.specs.{declared.row_change.RowChange.TheVariants.Record}
 use Rattle.law_stored_rows.specs.{Records.KeepsMore, Edits.clustered_index, Edits.key_index, Tables.Said, Tables.what_is_there}
 use Rattle.row_versions.specs.{Versions.Stays, declared.kept.Kept.Kept, declared.place.Place.Place, Chains.Chains, declared.version.Version.Version}
 use Rattle.inno_types.specs.{declared.value.Schema.Schema, declared.value.Value.Value}
-use Rattle.inno_db.specs.{declared.change.Change.Change, declared.change.Change.TheVariants.Create}
+use Rattle.inno_db.specs.{declared.change.Change.Change}
 use Rattle.inno_model.specs.Past.{own}
 use Rattle.entries.specs.{Pairs.value_of, Index.Index, Index.AreKept}
 use Rattle.undo_apply.proofs.{Telling.leaves_told, Telling.rows_left as stays_leave, Columns.few_keys}
@@ -40,7 +40,7 @@ stay_leaves old new stays = rows_leave old new (stays_leave stays)
 pub entry_leaves : (table which : ℕ) (entry : List ℕ) (value : Option (List ℕ)) (old new : WorldState) → which < 4
     → PutsPair (key_index table which) entry value old new → LeavesRecords old new
 entry_leaves table which entry value old new few puts = record {
-  schemas = ap (λ (s : WorldState). s.schemas) puts.rest;
+  schemas = cc;
   told = put_told (key_index table which) entry value old new puts;
   pairs = λ other. puts.elsewhere (clustered_index other) (λ same. no_key other table which few (sym same));
   versions = puts.versions;
@@ -54,138 +54,92 @@ same_clustered old new leaves told table =
     went (λ pairs. pairs) (old.indexes (clustered_index table)).pairs (new.indexes (clustered_index table)).pairs (leaves.pairs table)
     (told.pairs (clustered_index table))
 
-pub same_schemas_grow : (schemas others : List Schema) → others ≡ schemas → Grows schemas others
-same_schemas_grow schemas others same table schema there = ap (λ (s : List Schema). slice_get s table) same ∙ there
-
--- a log stands in another world where its tables, the records and what was kept are there yet
-pub log_over : (old new : WorldState) (was is : RecordsAt) (log : List Logged) (changes : List Change) → (IsTold new → IsTold old)
-    → Grows old.schemas new.schemas
-    → (IsTold new → (table : ℕ) (schema : Schema) (key : List ℕ) → slice_get old.schemas table ≡ Some schema → is table key ≡ was table key)
-    → (IsTold new → KeepsMore old.versions.kept_at new.versions.kept_at)
-    → LogStands (IsTold old) old.schemas was old.versions.kept_at log changes → LogStands (IsTold new) new.schemas is new.versions.kept_at log changes
-log_over old new was is log changes told grows records more =
-    log_on (IsTold old) (IsTold new) old.schemas new.schemas old.versions.kept_at new.versions.kept_at told grows was is log changes
-    (all_of (SameRecord (IsTold old) (IsTold new) old.schemas new.schemas old.versions.kept_at new.versions.kept_at told grows was is) log
-    (λ logged at schema there. records at logged.undo.table schema logged.undo.key there))
-    (all_of (Keeps (IsTold old) (IsTold new) old.schemas new.schemas old.versions.kept_at new.versions.kept_at told grows) log (λ logged at kind.
-    more_of old.versions.kept_at new.versions.kept_at logged.undo.table logged.undo.key (more at) logged.pointer))
+-- a log stands in another world where its tables are there, and the records and what was kept are there yet
+pub log_over : {old new : WorldState} (was is : RecordsAt) (log : List Logged) (changes : List Change) → (IsTold new → IsTold old) → new.schemas ≡ old.schemas
+    → (IsTold new → (table : ℕ) (key : List ℕ) → is table key ≡ was table key) → (IsTold new → KeepsMore old.versions.kept_at new.versions.kept_at)
+    → LogStands old was log changes → LogStands new is log changes
+log_over {old} {new} was is log changes told schemas records more =
+    log_on told schemas (λ logged. Unit {0}) was is log changes (λ logged at of. records at logged.undo.table logged.undo.key)
+    (λ logged at of kind. more_of old.versions.kept_at new.versions.kept_at logged.undo.table logged.undo.key (more at) logged.pointer)
+    (λ at. all_of (λ logged. Unit {0}) log (λ logged. tt))
 
 -- a log that tells nothing of a row stands as that changes
 pub log_beside : {table : ℕ} {key : List ℕ} {old new : WorldState} → LeavesOtherRows table key old new → (log : List Logged) (changes : List Change)
     → AllByRecursion (IsElsewhere table key) log → IsLogOf old log changes → IsLogOf new log changes
 log_beside {table} {key} {old} {new} leaves log changes apart =
-    let grows = same_schemas_grow old.schemas new.schemas leaves.schemas in
-    log_on (IsTold old) (IsTold new) old.schemas new.schemas old.versions.kept_at new.versions.kept_at leaves.told grows (records_of old) (records_of new)
-    log changes
-    (all_mapped (IsElsewhere table key) (SameRecord (IsTold old) (IsTold new) old.schemas new.schemas old.versions.kept_at new.versions.kept_at
-    leaves.told grows
-    (records_of old) (records_of new)) log (λ logged other at schema there. leaves.records at logged.undo.table logged.undo.key other) apart)
-    (all_mapped (IsElsewhere table key) (Keeps (IsTold old) (IsTold new) old.schemas new.schemas old.versions.kept_at new.versions.kept_at leaves.told
-    grows) log
-    (λ logged other at kind. leaves.kept at logged.undo.table logged.undo.key other logged.pointer) apart)
+    log_on leaves.told leaves.schemas (IsElsewhere table key) (records_of old) (records_of new) log changes
+    (λ logged at other. leaves.records at logged.undo.table logged.undo.key other)
+    (λ logged at other kind. leaves.kept at logged.undo.table logged.undo.key other logged.pointer) (λ at. apart)
 
 pub stay_kept : (old new : WorldState) → Stays old.versions new.versions → IsTold new → KeepsMore old.versions.kept_at new.versions.kept_at
 stay_kept old new stays told pointer found is = ap (λ (kept : ℕ → Option Kept). kept pointer) (stays.kept told.versions) ∙ is
 
-pub log_left : (old new : WorldState) (log : List Logged) (changes : List Change) → LeavesRecords old new → IsLogOf old log changes → IsLogOf new log changes
-log_left old new log changes leaves =
-    log_over old new (records_of old) (records_of new) log changes leaves.told (same_schemas_grow old.schemas new.schemas leaves.schemas)
-    (λ told table schema key there. ap (value_of key) (same_clustered old new leaves told table)) (stay_kept old new leaves.versions)
-
 -- ---- all logs
 
-log_kept : (u : ℕ) (session : Session) (work : Work) (old new : WorldState) → LeavesRecords old new
-    → ((session : Session) (work : Work) → HasWork u session work old → IsLogOf old work.log (own u old.past))
-    → LeavesLog u work old new ⊎ HasNoLog u work new → IsLogOf new work.log (own u new.past)
-log_kept u session work old new leaves each (inl left) =
-    subst (λ (log : List Logged). IsLogOf new log (own u new.past)) (sym left.log_is)
-    (subst (λ (changes : List Change). IsLogOf new left.before.log changes) (sym left.own_is)
-    (log_left old new left.before.log (own u old.past) leaves (each left.session left.before left.has_work)))
-log_kept u session work old new leaves each (inr none) = subst (λ (changes : List Change). IsLogOf new work.log changes) (sym none.own_is) none.log_is
+module _ {old new : WorldState} (leaves : LeavesRecords old new) where
+  log_left : (log : List Logged) (changes : List Change) → IsLogOf old log changes → IsLogOf new log changes
+  log_left log changes =
+      log_over (records_of old) (records_of new) log changes leaves.told leaves.schemas
+      (λ told table key. ap (value_of key) (same_clustered old new leaves told table)) (stay_kept old new leaves.versions)
+
+  log_kept : (u : ℕ) (work : Work) → ((session : Session) (work : Work) → HasWork u session work old → IsLogOf old work.log (own u old.past))
+      → LeavesLog u work old new ⊎ HasNoLog u work new → IsLogOf new work.log (own u new.past)
+  log_kept u work each (inl left) =
+      rw (left.log_is, left.own_is) (log_left left.before.log (own u old.past) (each left.session left.before left.has_work))
+  log_kept u work each (inr none) = rw none.own_is none.log_is
+
+  but_left : (s : ℕ) (log : List Logged) (changes : List Change) → LeavesLogs (λ u. u ≢ s) old new → LogsAgreeBut s log changes old
+      → LogsAgreeBut s log changes new
+  but_left s log changes logs agree = record {
+    mine = log_left log changes agree.mine;
+    others = λ u session work differs has. log_kept u work (λ x w had. agree.others u x w differs had) (logs u session work differs has);
+  }
 
 pub all_left : (old new : WorldState) → LeavesRecords old new → LeavesLogs OfAll old new → LogsAgree old → LogsAgree new
-all_left old new leaves logs agree = record {
-  each = λ u session work has. log_kept u session work old new leaves (agree.each u) (logs u session work (record {}) has);
-}
+all_left old new leaves logs agree =
+    record { each = λ u session work has. log_kept leaves u work (agree.each u) (logs u session work (record {}) has) }
 
-pub but_left : (s : ℕ) (old new : WorldState) (log : List Logged) (changes : List Change) → LeavesRecords old new → LeavesLogs (λ u. u ≢ s) old new
-    → LogsAgreeBut s log changes old → LogsAgreeBut s log changes new
-but_left s old new log changes leaves logs agree = record {
-  mine = log_left old new log changes leaves agree.mine;
-  others = λ u session work differs has. log_kept u session work old new leaves (λ x w had. agree.others u x w differs had) (logs u session work differs has);
-}
+-- each session had its transaction before
+aside_had : {s : ℕ} {old new : WorldState} → StepsAside s old new → (u : ℕ) (session : Session) (work : Work) → HasWork u session work new
+    → (before : Session) × HasWork u before work old
+aside_had {s} aside u session work has =
+    ⊎_elim (λ same. (aside.before, record { session_is = rw same aside.was; work_is = (let one = rw same at has.session_is in let is = aside.is in cc) }))
+    (λ differs. (session, record { session_is = sym (aside.others u differs) ∙ has.session_is; work_is = has.work_is })) (cases_eq u s)
 
 pub aside_left : (s : ℕ) (old new : WorldState) → StepsAside s old new → LogsAgree old → LogsAgree new
-aside_left s old new aside agree = all_left old new
-    (rows_leave old new (record { schemas = ap (λ (state : WorldState). state.schemas) aside.rest; pairs = aside.pairs; versions = aside.versions })) logs agree
-  where
-    past : new.past ≡ old.past
-    past = ap (λ (state : WorldState). state.past) aside.rest
-
-    logs : LeavesLogs OfAll old new
-    logs u session work of has = ⊎_elim
-        (λ same. inl (record {
-          session = aside.before;
-          before = work;
-          has_work = record {
-            session_is = ap (slice_get old.sessions) same ∙ aside.was;
-            work_is =
-                sym aside.readied.work ∙ ap (λ (x : Session). x.work)
-                (one_session new s aside.after session aside.is (ap (slice_get new.sessions) (sym same) ∙ has.session_is)) ∙ has.work_is;
-          };
-          log_is = refl;
-          own_is = ap (own u) past;
-        })) (λ differs. inl (record {
-          session = session;
-          before = work;
-          has_work = record { session_is = sym (aside.others u differs) ∙ has.session_is; work_is = has.work_is };
-          log_is = refl;
-          own_is = ap (own u) past;
-        })) (cases_eq u s)
+aside_left s old new aside agree =
+    all_left old new (rows_leave old new (record { schemas = cc; pairs = aside.pairs; versions = aside.versions })) logs agree where
+      logs : LeavesLogs OfAll old new
+      logs u session work of has =
+          let had = aside_had aside u session work has in inl (record { session = had.0; before = work; has_work = had.1; log_is = refl; own_is = cc })
 
 -- ---- a log that is to be cut, or has been
 
 pub cut_left : (s : ℕ) (old new : WorldState) (log : List Logged) (before : List Change) (session : Session) (work : Work) → LeavesRecords old new
     → LeavesLogs (λ u. u ≢ s) old new → HasCut s log before old → HasWork s session work new → work.log ≡ log → HasCut s log before new
-cut_left s old new log before session work leaves logs cut has is = record {
-  session = session;
-  work = work;
-  has_work = has;
-  log_is = is;
-  logs = but_left s old new log before leaves logs cut.logs;
-}
+cut_left s old new log before session work leaves logs cut has is =
+    record { session = session; work = work; has_work = has; log_is = is; logs = but_left leaves s log before logs cut.logs }
 
 -- ---- one session apart
 
-pub all_again : (s : ℕ) (state : WorldState) (log : List Logged) (changes : List Change) → LogsAgreeBut s log changes state → own s state.past ≡ changes
-    → ((session : Session) (work : Work) → HasWork s session work state → work.log ≡ log) → LogsAgree state
-all_again s state log changes agree own_is log_is = record {
-  each = λ u session work has. ⊎_elim
-      (λ same. subst (λ (t : ℕ). IsLogOf state work.log (own t state.past)) (sym same)
-      (subst (λ (l : List Logged). IsLogOf state l (own s state.past)) (sym (log_is session work (subst (λ (t : ℕ). HasWork t session work state) same has)))
-      (subst (λ (c : List Change). IsLogOf state log c) (sym own_is) agree.mine))) (λ differs. agree.others u session work differs has) (cases_eq u s);
-}
-
 pub cut_again : (s : ℕ) (log : List Logged) (before : List Change) (state : WorldState) → HasCut s log before state → own s state.past ≡ before
     → LogsAgree state
-cut_again s log before state cut own_is =
-    all_again s state log before cut.logs own_is
-    (λ session work has. ap (λ (w : Work). w.log) (one_work s session cut.session work cut.work state has cut.has_work) ∙ cut.log_is)
+cut_again s log before state cut own_is = record {
+  each = λ u session work has. ⊎_elim
+      (λ same. let mine = one_work s session cut.session work cut.work state (rw same at has) cut.has_work in
+      rw same (rw (mine, cut.log_is, own_is) cut.logs.mine)) (λ differs. cut.logs.others u session work differs has) (cases_eq u s);
+}
 
 -- ---- a table more
+
+-- all tables are there yet
+abbrev pub Grows : List Schema → List Schema → Type 0
+Grows schemas others = (table : ℕ) (schema : Schema) → slice_get schemas table ≡ Some schema → slice_get others table ≡ Some schema
 
 pub more_grow : (schemas : List Schema) (schema : Schema) → Grows schemas (schemas ++ schema ∷ [])
 more_grow [] schema table found there = absurd (cc)
 more_grow (first ∷ schemas) schema zero found there = there
 more_grow (first ∷ schemas) schema (suc table) found there = more_grow schemas schema table found there
-
-pub table_made : (old new : WorldState) (schema : Schema) (log : List Logged) (changes : List Change) → MakesTable schema old new → IsLogOf old log changes
-    → IsLogOf new log (Create schema ∷ changes)
-table_made old new schema log changes made stands =
-    log_over old new (records_of old) (records_of new) log changes made.told (subst (Grows old.schemas) (sym made.schemas) (more_grow old.schemas schema))
-    (λ told table found key there. ap (value_of key)
-    (went (λ pairs. pairs) (old.indexes (clustered_index table)).pairs (new.indexes (clustered_index table)).pairs
-    (made.pairs table (slice_get_within old.schemas table found there)) (told.pairs (clustered_index table)))) (stay_kept old new made.versions) stands
 
 -- ---- Until a taking back is done, entries of keys alone change.
 
@@ -193,38 +147,25 @@ table_made old new schema log changes made stands =
 
 pub work_beside : (u : ℕ) (session : Session) (work : Work) (old new : WorldState) → ChangesPairsAlone old new → HasWork u session work new
     → HasWork u session work old
-work_beside u session work old new rest has =
-    record { session_is = sym (ap (λ (state : WorldState). slice_get state.sessions u) rest) ∙ has.session_is; work_is = has.work_is }
+work_beside u session work old new rest has = record { session_is = cc; work_is = has.work_is }
 
 pub work_again : (u : ℕ) (session : Session) (work : Work) (old new : WorldState) → ChangesPairsAlone old new → HasWork u session work old
     → HasWork u session work new
-work_again u session work old new rest has =
-    record { session_is = ap (λ (state : WorldState). slice_get state.sessions u) rest ∙ has.session_is; work_is = has.work_is }
+work_again u session work old new rest has = record { session_is = cc; work_is = has.work_is }
 
 pub own_beside : (u : ℕ) (old new : WorldState) → ChangesPairsAlone old new → own u new.past ≡ own u old.past
-own_beside u old new rest = ap (λ (state : WorldState). own u state.past) rest
+own_beside u old new rest = cc
 
-pub agrees_beside : {old new : WorldState} {chains : Chains} → ChangesPairsAlone old new → Agrees chains old
-    → Agrees chains new
-agrees_beside {old} {new} {chains} rest agrees =
-    agrees_alike chains old new agrees (ap (λ (x : WorldState). x.names) rest) (ap (λ (x : WorldState). x.past) rest)
-    (ap (λ (x : WorldState). x.schemas) rest) (ap (λ (x : WorldState). x.txns) rest) (ap (λ (x : WorldState). x.sessions) rest)
+pub agrees_beside : {old new : WorldState} {chains : Chains} → ChangesPairsAlone old new → Agrees chains old → Agrees chains new
+agrees_beside {old} {new} {chains} rest agrees = agrees_alike chains old new agrees (cc) (cc) (cc) (cc) (cc)
 
 pub logs_beside : (old new : WorldState) → ChangesPairsAlone old new → LeavesLogs OfAll old new
-logs_beside old new rest u session work of has = inl (record {
-  session = session;
-  before = work;
-  has_work = work_beside u session work old new rest has;
-  log_is = refl;
-  own_is = own_beside u old new rest;
-})
+logs_beside old new rest u session work of has =
+    inl (record { session = session; before = work; has_work = work_beside u session work old new rest has; log_is = refl; own_is = cc })
 
 -- ---- the steps
 
 module _ (chains : Chains) (beside : Said) (place : Place) (actor : ℕ) (undo : Undo) (room next : WorkRoom) (old new : WorldState) where
-  hindered_leaves : (why : Move) → IsHindered chains beside place actor undo room next old new why → LeavesRecords old new × ChangesPairsAlone old new
-  hindered_leaves why is = (stay_leaves old new is.stays, is.stays.rest)
-
   goes_leaves : GoesOn chains beside place undo room next old new → LeavesRecords old new × ChangesPairsAlone old new
   goes_leaves goes =
       let tells = goes.holds.tells in
@@ -237,8 +178,8 @@ module _ (chains : Chains) (beside : Said) (place : Place) (actor : ℕ) (undo :
       → LeavesRecords old new × ChangesPairsAlone old new
   step_leaves Done is not_done = absurd (not_done refl)
   step_leaves Step (inl goes) not_done = goes_leaves goes
-  step_leaves Step (inr is) not_done = hindered_leaves Step is
-  step_leaves why is not_done = hindered_leaves why is
+  step_leaves Step (inr is) not_done = (stay_leaves old new is.stays, is.stays.rest)
+  step_leaves why is not_done = (stay_leaves old new is.stays, is.stays.rest)
 
   pub done_beside : IsDone chains beside place undo room next old new → ChangesPairsAlone old new
   done_beside done = ⊎_elim (λ stays. stays.rest) (λ puts. puts.rest) done.changes
@@ -305,7 +246,7 @@ module _ (old new : WorldState) (leaves : LeavesRows old new) where
     entry_is = p.entry_is;
     within = p.within;
     putting = record {
-      index_is = subst (λ (schemas : List Schema). IsIndex schemas put.index) (sym leaves.schemas) p.putting.index_is;
+      index_is = rw leaves.schemas p.putting.index_is;
       short = p.putting.short;
       phase = phase_kept put.phase put.entry (old.indexes put.index) (new.indexes put.index) (leaves.pairs put.index) p.putting.phase;
     };
@@ -323,7 +264,7 @@ module _ (old new : WorldState) (leaves : LeavesRows old new) where
       → slice_get new.sessions s ≡ slice_get old.sessions s → Agrees chains new → IsChangingRow s chains beside new change
   change_left s chains beside (Record change key after) p session agrees = (
     record_left s chains change p.0 session agrees,
-    λ schema value there at told. let was = p.1 schema value (ap (λ (schemas : List Schema). slice_get schemas change.table) (sym leaves.schemas) ∙ there) at
+    λ schema value there at told. let was = p.1 schema value (rw leaves.schemas at there) at
         (left_told told) in (was.0, rows_left chains was.0 told was.1, was.2, was.3),
     p.2,
     p.3,

@@ -3,25 +3,22 @@ use Rattle.row_changes.specs.RecordReached as records
 use Rattle.row_changes.proofs.Pushed.{kept_over, kept_more, key_at, code_of_edit, plain, none_of, written_pointer, small_id}
 use Rattle.row_changes.proofs.Telling.{pairs_told, puts_pairs, tells}
 use Rattle.row_changes.proofs.{Ids.one_work, Sessions.one_session, Sessions.one_found, Changing.key_short, Changing.value_short, Keying.beside_stay}
-use Rattle.law_logged_changes.proofs.Leaving.{stay_kept, log_over, log_beside, same_schemas_grow, all_left, aside_left, logs_beside}
-use Rattle.law_logged_changes.proofs.Logs.{taken_here, taken_elsewhere, here_or_not, put_elsewhere, all_mapped, one_more, log_elsewhere}
-use Rattle.law_logged_changes.proofs.Entering.{place_there}
+use Rattle.law_logged_changes.proofs.Leaving.{stay_kept, log_over, log_beside, all_left, aside_left, logs_beside}
+use Rattle.law_logged_changes.proofs.{Logs.taken_as, Logs.put_elsewhere, Logs.all_mapped, Logs.one_more, Logs.log_elsewhere, Entering.place_there}
 use Rattle.law_stored_rows.proofs.{KeptRows.more_of, KeptRows.found_of, KeptRows.kept_here, Pairs.at_index, Pairs.value_now}
-use Rattle.std.proofs.Common.{◌==◌, ◌≡◌, ◌≢◌, inl, inr, ⊎_elim, ℕ, ◌^◌, ◌<◌, true, false, List, [], ◌∷◌, Option, Some, None, refl, sym, ap, subst, ◌∙◌, arith}
-use Rattle.std.proofs.Common.{slice_get}
-use Rattle.std.proofs.lemmas.Bool.{cases_eq, cond-true, cond-false, eq-eqb, ne_eqb}
+use Rattle.std.proofs.Common.{◌≡◌, ◌≢◌, inl, inr, ⊎_elim, ℕ, ◌^◌, ◌<◌, true, false, List, [], ◌∷◌, Option, Some, None, refl, sym, ap, ◌∙◌, arith}
+use Rattle.std.proofs.lemmas.Bool.{cases_eq, eq-eqb, ne_eqb}
 use Rattle.world.specs.{State.WorldState, State.Session, State.Work, State.Logged, State.HasWork, Indexes.IsUndo, Told.IsTold, Told.pairs_of}
-use Rattle.row_changes.specs.Records.{IsTable, Records, PutsOver, id_for, IsChangingRecord, RecordsEdit, PutsFirst, PutsVersion, ChangesRecord, undo_of_new}
+use Rattle.row_changes.specs.Records.{Records, PutsOver, id_for, IsChangingRecord, RecordsEdit, PutsFirst, PutsVersion, ChangesRecord, undo_of_new}
 use Rattle.row_changes.specs.Records.{undo_of_former}
 use Rattle.row_changes.specs.{Rows.primary_of, Rows.place_of, Rows.IsChangingRow, Rows.ChangesRow, Edits.change_of, Edits.rows_put, Edits.version_by}
-use Rattle.row_changes.specs.{Reached.Went, Reached.Done}
-use Rattle.row_changes.specs.{Reached.Hindered, Told.HasRowsAt, declared.record_change.RecordChange.RecordChange}
+use Rattle.row_changes.specs.{Reached.Went, Reached.Done, Reached.Hindered, Reached.Reached, Told.HasRowsAt, declared.record_change.RecordChange.RecordChange}
 use Rattle.row_changes.specs.{declared.row_change.RowChange.TheVariants.Record, declared.row_change.RowChange.TheVariants.Keys}
-use Rattle.row_changes.specs.{Reached.Reached, declared.row_change.RowChange.RowChange, Keys.StaysBesideKeys}
+use Rattle.row_changes.specs.{declared.row_change.RowChange.RowChange, Keys.StaysBesideKeys}
 use Rattle.undo_apply.specs.Standing.{TellsOf, LeadsBack, was_before}
 use Rattle.law_logged_changes.specs.Logs.{RecordsAt, records_of, taken_back, Stands, LogStands, IsLogOf, LogsAgree, IsAloneAt}
 use Rattle.law_logged_changes.specs.{Steps.HasLogged, Steps.LeavesRecords, Steps.LeavesOtherRows, GoingOn.IsAloneIn}
-use Rattle.std.specs.{Prelude.is_some, List.AllByRecursion}
+use Rattle.std.specs.{Prelude.is_some, Prelude.IsTrue, List.AllByRecursion}
 use Rattle.inno_types.specs.{declared.value.Value.Value, declared.value.Schema.Schema}
 use Rattle.inno_db.specs.{declared.change.Change.Change, declared.change.Change.TheVariants.Create}
 use Rattle.inno_model.specs.{Past.own, declared.event.Event.TheVariants.Changed}
@@ -39,18 +36,18 @@ some_kept : (undo : Undo) (kept : ℕ → Option Kept) (pointer : ℕ) → undo.
 some_kept undo kept pointer kind (inl new) = absurd (omega (arith, kind, new.0))
 some_kept undo kept pointer kind (inr (k, some, former, there, bytes)) = ap is_some (found_of kept undo.table undo.key pointer former there)
 
-abbrev IsKeptYet : (ℕ → Option Kept) → Logged → Type 0
-IsKeptYet kept logged = logged.undo.kind ≡ 2 → is_some (kept logged.pointer) ≡ true
+abbrev IsKeptYet : WorldState → Logged → Type 0
+IsKeptYet state logged = logged.undo.kind ≡ 2 → is_some (state.versions.kept_at logged.pointer) ≡ true
 
-log_keeps : (told : Type 0) (schemas : List Schema) (records : RecordsAt) (kept : ℕ → Option Kept) (log : List Logged) (changes : List Change) → told
-    → LogStands told schemas records kept log changes → AllByRecursion (IsKeptYet kept) log
-log_keeps told schemas records kept log [] at stands = subst (AllByRecursion (IsKeptYet kept)) (sym stands) (record {})
-log_keeps told schemas records kept log (Create schema ∷ changes) at stands = log_keeps told schemas records kept log changes at stands
-log_keeps told schemas records kept [] (change ∷ changes) at stands = record {}
-log_keeps told schemas records kept (logged ∷ log) (change ∷ changes) at stands = (
-  λ kind. let has = stands.0.record_is at in
-      subst (λ (pointer : ℕ). is_some (kept pointer) ≡ true) (has.pointer_is kind) (some_kept logged.undo kept has.coded.pointer kind has.before),
-  log_keeps told schemas (taken_back logged.undo records) kept log changes at stands.1,
+log_keeps : (state : WorldState) → IsTold state → (records : RecordsAt) (log : List Logged) (changes : List Change) → LogStands state records log changes
+    → AllByRecursion (IsKeptYet state) log
+log_keeps state told records [] changes stands = record {}
+log_keeps state told records (logged ∷ log) [] stands = absurd (cc)
+log_keeps state told records (logged ∷ log) (Create schema ∷ changes) stands = log_keeps state told records (logged ∷ log) changes stands
+log_keeps state told records (logged ∷ log) (change ∷ changes) stands = (
+  λ kind. let has = stands.0.record_is told in
+      rw (← has.pointer_is kind) (some_kept logged.undo state.versions.kept_at has.coded.pointer kind has.before),
+  log_keeps state told (taken_back logged.undo records) log changes stands.1,
 )
 
 -- ---- the step
@@ -58,22 +55,22 @@ log_keeps told schemas records kept (logged ∷ log) (change ∷ changes) at sta
 abbrev undo_at : RecordChange → ℕ → List ℕ → Undo
 undo_at change kind value = record { kind = kind; table = change.table; key = change.key; value = value }
 
--- What is known of the step: the version has this record, and its undo record this kind and value.
-pub record IsLogging (s : ℕ) (old new : WorldState) (change : RecordChange) (schema : Schema) (kind : ℕ) (value bytes : List ℕ) (coded : Coded) : Type 0 where
-  pub table : IsTable change.table schema old
-  pub rows : Records s (change_of change.table change.edit) (rows_put change.edit) change.table change.key bytes (undo_at change kind value) old new
+-- What is known of the step: the version's record stands, and its undo record has this kind and value.
+pub record IsLogging (s : ℕ) (old new : WorldState) (change : RecordChange) (schema : Schema) (kind : ℕ) (value : List ℕ) (coded : Coded) : Type 0 where
+  pub rows : Records s (change_of change.table change.edit) (rows_put change.edit) change.table change.key (version_code schema coded)
+      (undo_at change kind value) old new
   pub sound : IsUndo old.schemas (undo_at change kind value)
-  pub code_is : IsCodeOf schema change.key bytes coded
+  pub code_is : IsCodeOf schema change.key (version_code schema coded) coded
   pub was : IsTold old → records_of old change.table change.key ≡ was_before (undo_at change kind value)
   pub leads : IsTold new → LeadsBack (undo_at change kind value) (kept_of new.versions.kept_at change.table change.key) coded.pointer
   pub pointer_is : kind ≡ 2 → coded.pointer ≡ rows.work.session.next_pointer
   pub more : IsTold new → KeepsMore old.versions.kept_at new.versions.kept_at
   pub fresh : IsTold new → kind ≡ 2 → old.versions.kept_at rows.work.session.next_pointer ≡ None
-  pub told : IsTold new → IsTold old
+  pub versions_told : IsTrue new.versions.told → IsTrue old.versions.told
 
 module _ (s : ℕ) (chains : Chains) (said : Said) (old new : WorldState) (change : RecordChange) (p : IsChangingRecord s old change)
-    (rows : HasRowsAt chains said change.table change.key old) (kind : ℕ) (value bytes : List ℕ) (coded : Coded)
-    (is : IsLogging s old new change p.schema kind value bytes coded) where
+    (rows : HasRowsAt chains said change.table change.key old) {kind : ℕ} {value : List ℕ} {coded : Coded}
+    (is : IsLogging s old new change p.schema kind value coded) where
   abbrev undo : Undo
   undo = undo_at change kind value
 
@@ -83,11 +80,20 @@ module _ (s : ℕ) (chains : Chains) (said : Said) (old new : WorldState) (chang
   abbrev place : Place
   place = record { table = change.table; key = primary_of p.schema change.edit }
 
+  abbrev bytes : List ℕ
+  bytes = version_code p.schema coded
+
   same_schemas : new.schemas ≡ old.schemas
   same_schemas = ap (λ (state : WorldState). state.schemas) is.rows.rest
 
   same_past : new.past ≡ Changed s (change_of change.table change.edit) ∷ old.past
   same_past = ap (λ (state : WorldState). state.past) is.rows.rest
+
+  told_before : IsTold new → IsTold old
+  told_before told = record {
+    pairs = pairs_told (clustered_index change.table) change.key (Some bytes) old new (is.rows.here, is.rows.elsewhere) told;
+    versions = is.versions_told told.versions;
+  }
 
   tells_old : TellsOf undo p.schema place old.schemas
   tells_old =
@@ -109,7 +115,7 @@ module _ (s : ℕ) (chains : Chains) (said : Said) (old new : WorldState) (chang
   clustered : IsTold new → AreClustered old.schemas (pairs_of old) old.versions.kept_at chains
   clustered told =
       let of_key = key_at p.schema change.edit change.key p.fits in
-      (rows p.schema (primary_of p.schema change.edit) p.table.there of_key (is.told told)).1.clustered
+      (rows p.schema (primary_of p.schema change.edit) p.table.there of_key (told_before told)).1.clustered
 
   record_now : IsTold new → records_of new change.table change.key ≡ Some bytes
   record_now told =
@@ -117,23 +123,19 @@ module _ (s : ℕ) (chains : Chains) (said : Said) (old new : WorldState) (chang
       ∙ value_now change.key (Some bytes) (pairs_of old (clustered_index change.table)) ((clustered told).tables change.table p.schema p.table.there).rising
 
   records_before : IsTold new → (table : ℕ) (key : List ℕ) → records_of old table key ≡ taken_back undo (records_of new) table key
-  records_before told table key =
-      ⊎_elim (λ here. ap (λ (t : ℕ). records_of old t key) here.0 ∙ ap (records_of old change.table) here.1 ∙ is.was (is.told told) ∙ sym
-      (taken_here undo (records_of new) table key here.0 here.1))
-      (λ apart. sym (put_elsewhere undo (Some bytes) (pairs_of old) (pairs_of new) table key (puts_now told) apart) ∙ sym
-      (taken_elsewhere undo (records_of new) table key apart)) (here_or_not undo table key)
+  records_before told =
+      taken_as undo (records_of new) (records_of old) (is.was (told_before told))
+      (λ table key apart. sym (put_elsewhere undo (Some bytes) (pairs_of old) (pairs_of new) (puts_now told) table key apart))
 
   -- ---- the log
 
   stands_now : (log : List Logged) (changes : List Change) → IsLogOf old log changes
-      → Stands (IsTold new) new.schemas (records_of new) new.versions.kept_at logged log (change_of change.table change.edit)
+      → Stands new (records_of new) logged log (change_of change.table change.edit)
   stands_now log changes stands = record {
     place = place;
-    place_is =
-        place_there new.schemas change.table change.edit p.schema
-        (ap (λ (schemas : List Schema). slice_get schemas change.table) same_schemas ∙ p.table.there);
+    place_is = rw same_schemas (place_there old.schemas change.table change.edit p.schema p.table.there);
     schema = p.schema;
-    tells = subst (λ (schemas : List Schema). TellsOf undo p.schema place schemas) (sym same_schemas) tells_old;
+    tells = rw same_schemas tells_old;
     record_is = λ told. record {
       bytes = bytes;
       coded = coded;
@@ -142,21 +144,19 @@ module _ (s : ℕ) (chains : Chains) (said : Said) (old new : WorldState) (chang
       before = is.leads told;
       pointer_is = is.pointer_is;
     };
-    elsewhere = λ told two. all_mapped (IsKeptYet old.versions.kept_at) (λ (l : Logged). l.undo.kind ≡ 2 → l.pointer ≢ logged.pointer) log
-        (λ l some kind_too same. let none : is_some (old.versions.kept_at l.pointer) ≡ false = ap (λ (pointer : ℕ). is_some (old.versions.kept_at pointer))
-        same ∙ ap is_some (is.fresh told two) in let there = some kind_too in cc)
-        (log_keeps (IsTold old) old.schemas (records_of old) old.versions.kept_at log changes (is.told told) stands);
+    elsewhere = λ told two. all_mapped (IsKeptYet old) (λ (l : Logged). l.undo.kind ≡ 2 → l.pointer ≢ logged.pointer) log
+        (λ l some kind_too same. let there = some kind_too in let none = ap is_some (is.fresh told two) in cc)
+        (log_keeps old (told_before told) (records_of old) log changes stands);
   }
 
   log_now : (log : List Logged) (changes : List Change) → IsLogOf old log changes → IsLogOf new (logged ∷ log) (change_of change.table change.edit ∷ changes)
   log_now log changes stands =
-      one_more (IsTold new) new.schemas (records_of new) new.versions.kept_at logged log (change_of change.table change.edit) changes
-      (stands_now log changes stands)
-      (log_over old new (records_of old) (taken_back undo (records_of new)) log changes is.told (same_schemas_grow old.schemas new.schemas same_schemas)
-      (λ told table schema key there. sym (records_before told table key)) is.more stands)
+      one_more (change_of change.table change.edit) changes (stands_now log changes stands)
+      (log_over (records_of old) (taken_back undo (records_of new)) log changes told_before same_schemas
+      (λ told table key. sym (records_before told table key)) is.more stands)
 
   own_now : own s new.past ≡ change_of change.table change.edit ∷ own s old.past
-  own_now = ap (own s) same_past ∙ cond-true (s == s) (change_of change.table change.edit ∷ own s old.past) (own s old.past) (eq-eqb s s refl)
+  own_now = rw (same_past, eq-eqb s s refl)
 
   pub has_logged : (session : Session) (work : Work) → HasWork s session work old → IsLogOf old work.log (own s old.past) → HasLogged s change work.log old new
   has_logged session work has stands = record {
@@ -168,8 +168,7 @@ module _ (s : ℕ) (chains : Chains) (said : Said) (old new : WorldState) (chang
     own_is = own_now;
     table_is = refl;
     key_is = refl;
-    stands = subst (λ (log : List Logged). IsLogOf new log (own s new.past)) (sym log_is)
-        (subst (λ (changes : List Change). IsLogOf new (logged ∷ work.log) changes) (sym own_now) (log_now work.log (own s old.past) stands));
+    stands = rw (log_is, own_now) (log_now work.log (own s old.past) stands);
   } where
     log_is : is.rows.work.work_now.log ≡ logged ∷ work.log
     log_is =
@@ -180,30 +179,26 @@ module _ (s : ℕ) (chains : Chains) (said : Said) (old new : WorldState) (chang
   others_left : LeavesOtherRows change.table change.key old new
   others_left = record {
     schemas = same_schemas;
-    told = is.told;
-    records = λ told other also apart. put_elsewhere undo (Some bytes) (pairs_of old) (pairs_of new) other also (puts_now told) apart;
+    told = told_before;
+    records = λ told. put_elsewhere undo (Some bytes) (pairs_of old) (pairs_of new) (puts_now told);
     kept = λ told other also apart. more_of old.versions.kept_at new.versions.kept_at other also (is.more told);
   }
 
   others_own : (u : ℕ) → u ≢ s → own u new.past ≡ own u old.past
-  others_own u differs =
-      ap (own u) same_past ∙ cond-false (s == u) (change_of change.table change.edit ∷ own u old.past) (own u old.past)
-      (ne_eqb s u (λ same. differs (sym same)))
+  others_own u differs = rw (same_past, ne_eqb s u (λ same. differs (sym same)))
 
   pub all_logged : IsAloneAt place s old → LogsAgree old → LogsAgree new
   all_logged alone agree = record {
     each = λ u session work has. ⊎_elim
         (λ same.
-        let mine = has_logged is.rows.work.session is.rows.work.work is.rows.work.had (agree.each s is.rows.work.session is.rows.work.work is.rows.work.had) in
-        let here : HasWork s session work new = subst (λ (t : ℕ). HasWork t session work new) same has in
-        let one = one_work s mine.session session mine.work work new mine.has_work here in
-        subst (λ (t : ℕ). IsLogOf new work.log (own t new.past)) (sym same) (subst (λ (w : Work). IsLogOf new w.log (own s new.past)) one mine.stands))
+        let by = is.rows.work in
+        let mine = has_logged by.session by.work by.had (agree.each s by.session by.work by.had) in
+        rw same (rw (one_work s session mine.session work mine.work new (rw same at has) mine.has_work) mine.stands))
         (λ differs.
         let had : HasWork u session work old = record { session_is = sym (is.rows.work.others u differs) ∙ has.session_is; work_is = has.work_is } in
         let stands = agree.each u session work had in
-        subst (λ (changes : List Change). IsLogOf new work.log changes) (sym (others_own u differs)) (log_beside others_left work.log (own u old.past)
-        (log_elsewhere (IsTold old) old.schemas undo p.schema place old.versions.kept_at (records_of old) work.log (own u old.past) tells_old (alone u differs)
-        stands) stands)) (cases_eq u s);
+        rw (others_own u differs) (log_beside others_left work.log (own u old.past)
+        (log_elsewhere old tells_old (records_of old) work.log (own u old.past) (alone u differs) stands) stands)) (cases_eq u s);
   }
 
 -- ---- whether there was a record
@@ -216,9 +211,8 @@ module _ (s : ℕ) (old new : WorldState) (change : RecordChange) (p : IsChangin
   small = small_id p.work.id old.txns.next p.small p.listed.few
 
   pub logging_first : (f : PutsFirst s old new change p.schema)
-      → IsLogging s old new change p.schema 1 [] (version_code p.schema (version_by change.edit [] writer 0)) (version_by change.edit [] writer 0)
+      → IsLogging s old new change p.schema 1 [] (version_by change.edit [] writer 0)
   logging_first f = record {
-    table = p.table;
     rows = all;
     sound = record { kept = inl (refl, refl); key = key_short p; value = omega arith };
     code_is = code_of_edit p.schema change.edit change.key [] (plain [] 0) writer 0 p.fits (inl f.is_put) small (omega arith);
@@ -230,26 +224,17 @@ module _ (s : ℕ) (old new : WorldState) (change : RecordChange) (p : IsChangin
     pointer_is = λ two. absurd (omega (arith, two));
     more = stay_kept old new kept;
     fresh = λ told two. absurd (omega (arith, two));
-    told =
-        λ told. record {
-          pairs = pairs_told (clustered_index change.table) change.key (Some (version_code p.schema (version_by change.edit [] writer 0))) old
-              new (all.here, all.elsewhere) told;
-          versions = kept.told told.versions;
-        };
+    versions_told = kept.told;
   } where
     all : RecordsEdit s change p.schema [] writer 0 (undo_of_new change.table change.key) old new
-    all =
-        subst (λ (w : Work). RecordsEdit s change p.schema [] (id_for w.id old.txns.next) 0 (undo_of_new change.table change.key) old new)
-        (one_work s f.session p.session f.work p.work old f.had p.has_work) f.records
+    all = rw (one_work s f.session p.session f.work p.work old f.had p.has_work) at f.records
 
     kept : Stays old.versions new.versions
     kept = all.work.versions
 
   pub logging_over : (former : Coded) (o : PutsOver s old new change p.schema former)
-      → IsLogging s old new change p.schema 2 o.bytes (version_code p.schema (version_by change.edit former.row writer o.session.next_pointer))
-      (version_by change.edit former.row writer o.session.next_pointer)
+      → IsLogging s old new change p.schema 2 o.bytes (version_by change.edit former.row writer o.session.next_pointer)
   logging_over former o = record {
-    table = p.table;
     rows = all;
     sound = record {
       kept = inr (refl, (kept_over p o).version, (kept_over p o).kept);
@@ -263,7 +248,7 @@ module _ (s : ℕ) (old new : WorldState) (change : RecordChange) (p : IsChangin
         (told.pairs (clustered_index change.table)) ∙ sym (before_kept (undo_at change 2 o.bytes) refl);
     leads = λ told. inr (
       refl,
-      subst (λ (pointer : ℕ). pointer ≢ 0) (sym pointer) o.leads,
+      rw pointer o.leads,
       record { table = change.table; key = change.key; version = (kept_over p o).version; bytes = o.bytes },
       kept_here new.versions.kept_at change.table change.key _ _ (ap new.versions.kept_at pointer ∙ (kept_over p o).here told.versions) refl refl,
       refl,
@@ -272,17 +257,10 @@ module _ (s : ℕ) (old new : WorldState) (change : RecordChange) (p : IsChangin
     more = λ told.
         kept_more old.schemas o.session.next_pointer (undo_of_former change.table change.key o.bytes) old.versions new.versions (kept_over p o) told.versions;
     fresh = λ told two. ap (λ (x : Session). old.versions.kept_at x.next_pointer) one ∙ (kept_over p o).fresh told.versions;
-    told = λ told. record {
-      pairs =
-          pairs_told (clustered_index change.table) change.key
-          (Some (version_code p.schema (version_by change.edit former.row writer o.session.next_pointer))) old new (all.here, all.elsewhere) told;
-      versions = (kept_over p o).told told.versions;
-    };
+    versions_told = (kept_over p o).told;
   } where
     all : RecordsEdit s change p.schema former.row writer o.session.next_pointer (undo_of_former change.table change.key o.bytes) old new
-    all =
-        subst (λ (w : Work). RecordsEdit s change p.schema former.row (id_for w.id old.txns.next) o.session.next_pointer
-        (undo_of_former change.table change.key o.bytes) old new) (one_work s o.session p.session o.work p.work old o.had p.has_work) o.records
+    all = rw (one_work s o.session p.session o.work p.work old o.had p.has_work) at o.records
 
     one : all.work.session ≡ o.session
     one = one_session old s all.work.session o.session all.work.had.session_is o.had.session_is
@@ -291,15 +269,12 @@ module _ (s : ℕ) (old new : WorldState) (change : RecordChange) (p : IsChangin
     pointer = written_pointer change.edit former.row writer o.session.next_pointer
 
   -- whichever it is, it is logged
-  pub logging : (P : Type 0) → ((kind : ℕ) (value bytes : List ℕ) (coded : Coded) → IsLogging s old new change p.schema kind value bytes coded → P)
-      → (before : Option (List Value)) → ChangesRecord s old new change (records.Recorded before) → P
-  logging P goal before h =
-      let one = one_found h.0 p.schema h.1.there p.table.there in
-      let puts : PutsVersion s old new change p.schema before = rw one at h.2 in
-      ⊎_elim (λ f. goal 1 [] (version_code p.schema (version_by change.edit [] writer 0)) (version_by change.edit [] writer 0) (logging_first f.0))
-      (λ o. goal 2 o.1.bytes (version_code p.schema (version_by change.edit o.0.row writer o.1.session.next_pointer))
-      (version_by change.edit o.0.row writer o.1.session.next_pointer) (logging_over o.0 o.1))
-      puts
+  pub logging : (before : Option (List Value)) → ChangesRecord s old new change (records.Recorded before)
+      → (kind : ℕ) × (value : List ℕ) × (coded : Coded) × IsLogging s old new change p.schema kind value coded
+  logging before h =
+      let puts : PutsVersion s old new change p.schema before = rw (one_found h.0 p.schema h.1.there p.table.there) at h.2 in
+      ⊎_elim (λ f. (1, [], version_by change.edit [] writer 0, logging_first f.0))
+      (λ o. (2, o.1.bytes, version_by change.edit o.0.row writer o.1.session.next_pointer, logging_over o.0 o.1)) puts
 
 -- ---- the laws
 
@@ -307,14 +282,10 @@ module _ (s : ℕ) (chains : Chains) (said : Said) (old new : WorldState) (chang
     (p : IsChangingRow s chains said old (Record change key after)) (h : ChangesRecord s old new change (records.Recorded before)) where
   pub change_logged : (session : Session) (work : Work) → HasWork s session work old → IsLogOf old work.log (own s old.past)
       → HasLogged s change work.log old new
-  change_logged session work has stands =
-      logging s old new change p.0 (HasLogged s change work.log old new) (λ kind value bytes coded is.
-      has_logged s chains said old new change p.0 p.1 kind value bytes coded is session work has stands) before h
+  change_logged = has_logged s chains said old new change p.0 p.1 (logging s old new change p.0 before h).3
 
   pub change_all : IsAloneAt (place_of p.0.schema change) s old → LogsAgree old → LogsAgree new
-  change_all alone agree =
-      logging s old new change p.0 (LogsAgree new)
-      (λ kind value bytes coded is. all_logged s chains said old new change p.0 p.1 kind value bytes coded is alone agree) before h
+  change_all = all_logged s chains said old new change p.0 p.1 (logging s old new change p.0 before h).3
 
 -- ---- Each step of a change keeps the logs: entries of keys alone change, or the version comes with its undo record.
 
@@ -322,7 +293,7 @@ module _ (s : ℕ) (chains : Chains) (said : Said) (old new : WorldState) (chang
 
 pub beside_leaves : (old new : WorldState) → StaysBesideKeys old new → LeavesRecords old new
 beside_leaves old new stays =
-    record { schemas = ap (λ (state : WorldState). state.schemas) stays.rest; told = stays.told; pairs = stays.records; versions = stays.versions }
+    record { schemas = cc; told = stays.told; pairs = stays.records; versions = stays.versions }
 
 beside_all : (old new : WorldState) → StaysBesideKeys old new → LogsAgree old → LogsAgree new
 beside_all old new stays agree = all_left old new (beside_leaves old new stays) (logs_beside old new stays.rest) agree

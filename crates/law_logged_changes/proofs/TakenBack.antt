@@ -1,10 +1,9 @@
 -- A change that is taken back leaves the log of the older changes.
-use Rattle.law_logged_changes.proofs.Leaving.{log_over, log_beside, same_schemas_grow, work_beside, work_again, own_beside, done_beside}
-use Rattle.law_logged_changes.proofs.Logs.{newest_stands, taken_here, taken_elsewhere, here_or_not, put_elsewhere, log_elsewhere}
+use Rattle.law_logged_changes.proofs.Leaving.{log_over, log_beside, work_beside, work_again, own_beside, done_beside}
+use Rattle.law_logged_changes.proofs.Logs.{newest_stands, taken_as, taken_elsewhere, put_elsewhere, log_elsewhere}
 use Rattle.std.specs.List.{AllByRecursion}
 use Rattle.law_logged_changes.proofs.{Lags.at_stage, Lags.clustered_while, Beginning.top, Beginning.tells_of_it, Beginning.way_settled}
-use Rattle.std.proofs.Common.{◌≡◌, ◌≢◌, ◌⊎◌, inl, inr, ⊎_elim, ℕ, List, ◌∷◌, Option, Some, sym, ap, subst, ◌∙◌, arith, slice_get}
-use Rattle.inno_types.specs.declared.value.Schema.{Schema}
+use Rattle.std.proofs.Common.{◌≡◌, ◌≢◌, ◌⊎◌, inl, inr, ⊎_elim, ℕ, List, ◌∷◌, Option, Some, sym, ap, subst, ◌∙◌, arith}
 use Rattle.inno_db.specs.{declared.change.Change.Change, Database.key_of}
 use Rattle.inno_model.specs.Past.{own}
 use Rattle.store_api.specs.declared.answers.Undo.{Undo}
@@ -22,7 +21,7 @@ use Rattle.undo_apply.specs.Standing.{TellsOf, LeadsBack, was_before, said_but, 
 use Rattle.undo_apply.specs.{declared.work_room.WorkRoom.WorkRoom, Told.rows_of, Stages.IsPuttingBack, Stages.IsDone}
 use Rattle.undo_apply.proofs.{Taken.stands, Taken.says_place, Taken.lags_there, Columns.before_kept}
 use Rattle.law_logged_changes.specs.Steps.{ChangesPairsAlone, LeavesOtherRows, IsToCut, IsRowAgain}
-use Rattle.law_logged_changes.specs.Logs.{records_of, taken_back, HasRecord, Stands, IsLogOf, LogsAgree, IsAloneAt, IsElsewhere}
+use Rattle.law_logged_changes.specs.Logs.{records_of, taken_back, kept_in, HasRecord, Stands, IsLogOf, LogsAgree, IsAloneAt, IsElsewhere}
 
 module _ (chains after : Chains) (said : Said) (old new : WorldState) (logged : Logged) (older : List Logged) (change : Change) (before : List Change)
     (place : Place) (room next : WorkRoom) (log_is : IsLogOf old (logged ∷ older) (change ∷ before)) (place_is : place_in old.schemas change ≡ Some place)
@@ -31,7 +30,7 @@ module _ (chains after : Chains) (said : Said) (old new : WorldState) (logged : 
   abbrev undo : Undo
   undo = logged.undo
 
-  abbrev newest : Stands (IsTold old) old.schemas (records_of old) old.versions.kept_at logged older change
+  abbrev newest : Stands old (records_of old) logged older change
   newest = top old logged older change before place log_is place_is
 
   tells : TellsOf undo newest.schema place old.schemas
@@ -69,59 +68,51 @@ module _ (chains after : Chains) (said : Said) (old new : WorldState) (logged : 
   puts_then told =
       ⊎_elim (λ stays. absurd (not_before (told_before told)
       (ap (λ (pairs : ℕ → List Pair). value_of undo.key (pairs (clustered_index undo.table))) (sym (same_pairs_of old new stays told)) ∙ (taken told).there)))
-      (λ puts. put_pairs (clustered_index undo.table) undo.key (was_before undo) old new puts told)
-      done.changes
+      (λ puts. put_pairs (clustered_index undo.table) undo.key (was_before undo) old new puts told) done.changes
 
   records_then : IsTold new → (table : ℕ) (key : List ℕ) → records_of new table key ≡ taken_back undo (records_of old) table key
-  records_then told table key =
-      ⊎_elim (λ here. ap (λ (t : ℕ). records_of new t key) here.0 ∙ ap (records_of new undo.table) here.1 ∙ (taken told).there ∙ sym
-      (taken_here undo (records_of old) table key here.0 here.1))
-      (λ apart. put_elsewhere undo (was_before undo) (pairs_of old) (pairs_of new) table key (puts_then told) apart ∙ sym
-      (taken_elsewhere undo (records_of old) table key apart)) (here_or_not undo table key)
+  records_then told =
+      taken_as undo (records_of old) (records_of new) (taken told).there
+      (put_elsewhere undo (was_before undo) (pairs_of old) (pairs_of new) (puts_then told))
 
   pub log_then : IsLogOf new older before
   log_then =
-      log_over old new (taken_back undo (records_of old)) (records_of new) older before told_before (same_schemas_grow old.schemas new.schemas same_schemas)
-      (λ told table schema key there. records_then told table key)
-      (λ told pointer found is. ap (λ (kept : ℕ → Option Kept). kept pointer) (same_kept told) ∙ is)
-      (newest_stands (IsTold old) old.schemas (records_of old) old.versions.kept_at logged older change before place place_is log_is).1
+      log_over (taken_back undo (records_of old)) (records_of new) older before told_before same_schemas records_then
+      (λ told pointer found is. rw (same_kept told) is) (newest_stands change before place_is log_is).1
 
   -- ---- what the undo record keeps, the row has again
 
   module _ (told : IsTold new) where
-    has : HasRecord newest.schema (records_of old) old.versions.kept_at logged
+    has : HasRecord old (records_of old) newest.schema logged
     has = newest.record_is (told_before told)
-
-    abbrev kept : ℕ → Option Kept
-    kept = kept_of old.versions.kept_at undo.table undo.key
 
     abbrev former_ones : List Version
     former_ones = behind (in_table undo.table chains (key_of newest.schema has.coded.row))
 
-    leads : LeadTo newest.schema undo.key kept has.coded.pointer former_ones
+    leads : LeadTo newest.schema undo.key (kept_in old undo) has.coded.pointer former_ones
     leads =
         (decoded old.schemas (pairs_of old) old.versions.kept_at chains undo.table newest.schema undo.key has.bytes has.coded
         (clustered_while chains place undo room old back (told_before told)) tells.there has.there has.code_is).1
 
-    again_from : undo.kind ≡ 2 → LeadsBack undo kept has.coded.pointer → IsRowAgain logged new
+    again_from : undo.kind ≡ 2 → LeadsBack undo (kept_in old undo) has.coded.pointer → IsRowAgain logged new
     again_from kind (inl new_row) = absurd (omega (arith, kind, new_row.0))
     again_from kind (inr (k, some, former, there, bytes)) =
-        let read = pointer_followed newest.schema undo.key kept has.coded.pointer former_ones former leads some there in
+        let read = pointer_followed newest.schema undo.key (kept_in old undo) has.coded.pointer former_ones former leads some there in
         let found : records_of new undo.table undo.key ≡ Some former.bytes = (taken told).there ∙ before_kept undo kind ∙ ap Some (sym bytes) in
         let all = shown former.version ∷ behind former_ones in
-        let again = record_back newest.schema undo.key kept has.coded.pointer former former_ones leads some there in
+        let again = record_back newest.schema undo.key (kept_in old undo) has.coded.pointer former former_ones leads some there in
         record {
           schema = newest.schema;
-          there = ap (λ (schemas : List Schema). slice_get schemas undo.table) same_schemas ∙ tells.there;
+          there = rw same_schemas tells.there;
           version = shown former.version;
           older = behind former_ones;
-          leads = subst (λ (p : ℕ). LeadTo newest.schema undo.key (kept_of new.versions.kept_at undo.table undo.key) p all) (has.pointer_is kind)
+          leads = subst (λ (p : ℕ). LeadTo newest.schema undo.key (kept_in new undo) p all) (has.pointer_is kind)
               (subst (λ (k : ℕ → Option Kept). LeadTo newest.schema undo.key (kept_of k undo.table undo.key) has.coded.pointer all) (sym (same_kept told))
-              (subst (LeadTo newest.schema undo.key kept has.coded.pointer) read.1 leads));
+              (subst (LeadTo newest.schema undo.key (kept_in old undo) has.coded.pointer) read.1 leads));
           record_is =
               subst (λ (k : ℕ → Option Kept). IsRecordWith newest.schema undo.key (kept_of k undo.table undo.key) (records_of new undo.table undo.key) all)
-              (sym (same_kept told)) (subst (λ (o : Option (List ℕ)). IsRecordWith newest.schema undo.key kept o all) (sym found)
-              (subst (IsRecordWith newest.schema undo.key kept (Some former.bytes)) read.1 again));
+              (sym (same_kept told)) (subst (λ (o : Option (List ℕ)). IsRecordWith newest.schema undo.key (kept_in old undo) o all) (sym found)
+              (subst (IsRecordWith newest.schema undo.key (kept_in old undo) (Some former.bytes)) read.1 again));
         }
 
   kinds : (undo.kind ≡ 1) ⊎ (undo.kind ≡ 2)
@@ -132,7 +123,7 @@ module _ (chains after : Chains) (said : Said) (old new : WorldState) (logged : 
     schemas = same_schemas;
     told = told_before;
     records = λ told other also apart. records_then told other also ∙ taken_elsewhere undo (records_of old) other also apart;
-    kept = λ told other also apart pointer found is. ap (λ (kept : ℕ → Option Kept). kept_of kept other also pointer) (same_kept told) ∙ is;
+    kept = λ told other also apart pointer found is. rw (same_kept told) is;
   }
 
   pub to_cut_then : (s : ℕ) (session : Session) (work : Work) → LogsAgree old → IsAloneAt place s old → HasWork s session work old
@@ -151,8 +142,7 @@ module _ (chains after : Chains) (said : Said) (old new : WorldState) (logged : 
     logs = record {
       mine = log_then;
       others = λ u x w differs h. let had = work_beside u x w old new rest h in
-          subst (λ (changes : List Change). IsLogOf new w.log changes) (sym (own_beside u old new rest))
-          (log_beside others_left w.log (own u old.past) (apart u x w differs had) (agree.each u x w had));
+          rw (own_beside u old new rest) (log_beside others_left w.log (own u old.past) (apart u x w differs had) (agree.each u x w had));
     };
   } where
     rest : ChangesPairsAlone old new
@@ -160,8 +150,7 @@ module _ (chains after : Chains) (said : Said) (old new : WorldState) (logged : 
 
     apart : (u : ℕ) (x : Session) (w : Work) → u ≢ s → HasWork u x w old → AllByRecursion (IsElsewhere undo.table undo.key) w.log
     apart u x w differs had =
-        log_elsewhere (IsTold old) old.schemas undo newest.schema place old.versions.kept_at (records_of old) w.log (own u old.past) tells (alone u differs)
-        (agree.each u x w had)
+        log_elsewhere old tells (records_of old) w.log (own u old.past) (alone u differs) (agree.each u x w had)
 
 -- the session's own changes, as the history has them
 pub to_cut_by_history : (s : ℕ) (chains after : Chains) (said : Said) (old new : WorldState) (session : Session) (work : Work) (logged : Logged)
@@ -170,7 +159,5 @@ pub to_cut_by_history : (s : ℕ) (chains after : Chains) (said : Said) (old new
     → IsPuttingBack chains said place logged.undo room old → IsDone chains said place logged.undo room next old new → Pops chains after place
     → IsToCut s logged older before new
 to_cut_by_history s chains after said old new session work logged older change before place room next agree alone has_work is own_is place_is back done pops =
-    let log =
-    subst (λ (l : List Logged). IsLogOf old l (change ∷ before)) is
-    (subst (λ (changes : List Change). IsLogOf old work.log changes) own_is (agree.each s session work has_work)) in
+    let log = rw (is, own_is) at (agree.each s session work has_work) in
     to_cut_then chains after said old new logged older change before place room next log place_is back done pops s session work agree alone has_work is

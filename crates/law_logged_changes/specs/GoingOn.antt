@@ -6,12 +6,11 @@ use Rattle.row_versions.specs.Chains.{Chains}
 use Rattle.law_stored_rows.specs.{Records.KeepsMore, Tables.Said}
 use Rattle.world.specs.State.{WorldState, Session, Work, HasWork}
 use Rattle.law_world_agreement.specs.Agreement.{Agrees}
-use Rattle.row_changes.specs.{declared.record_change.RecordChange.RecordChange, declared.keys_change.KeysChange.KeysChange, Reached.Reached}
-use Rattle.row_changes.specs.{declared.row_change.RowChange.RowChange, Edits.change_of, Edits.rows_put, Told.HasRowsAt, Rows.PushesEdit, Rows.IsChangingRow}
-use Rattle.row_changes.specs.Rows.{place_of, table_of}
+use Rattle.row_changes.specs.{declared.record_change.RecordChange.RecordChange, declared.keys_change.KeysChange.KeysChange, Reached.Reached, Reached.Went}
+use Rattle.row_changes.specs.{Reached.Done, Reached.Hindered, declared.row_change.RowChange.RowChange, Edits.change_of, Edits.rows_put, Told.HasRowsAt}
+use Rattle.row_changes.specs.{Rows.PushesEdit, Rows.IsChangingRow, Rows.place_of, Rows.table_of, declared.row_change.RowChange.TheVariants.Record}
+use Rattle.row_changes.specs.{declared.row_change.RowChange.TheVariants.Keys}
 use Rattle.law_logged_changes.specs.Logs.{IsAloneAt}
-use Rattle.row_changes.specs.declared.row_change.RowChange.TheVariants.{Record, Keys}
-use Rattle.row_changes.specs.Reached.{Went, Done, Hindered}
 
 -- ---- what is kept beside
 

@@ -24,13 +24,17 @@ records_of state table key = value_of key (pairs_of state (clustered_index table
 abbrev pub taken_back : Undo → RecordsAt → RecordsAt
 taken_back undo records table key = if table == undo.table && is_key_at (key_cmp undo.key) key then was_before undo else records table key
 
+-- what is kept for the undo record's row
+abbrev pub kept_in : WorldState → Undo → ℕ → Option Kept
+kept_in state undo = kept_of state.versions.kept_at undo.table undo.key
+
 -- The change stands: its record is there, and its pointer leads to what was before, which is kept as a version of its row.
-pub record HasRecord (schema : Schema) (records : RecordsAt) (kept : ℕ → Option Kept) (logged : Logged) : Type 0 where
+pub record HasRecord (state : WorldState) (records : RecordsAt) (schema : Schema) (logged : Logged) : Type 0 where
   pub bytes : List ℕ
   pub coded : Coded
   pub there : records logged.undo.table logged.undo.key ≡ Some bytes
   pub code_is : IsCodeOf schema logged.undo.key bytes coded
-  pub before : LeadsBack logged.undo (kept_of kept logged.undo.table logged.undo.key) coded.pointer
+  pub before : LeadsBack logged.undo (kept_in state logged.undo) coded.pointer
   pub pointer_is : logged.undo.kind ≡ 2 → coded.pointer ≡ logged.pointer
 
 -- older undo records that keep a version keep it behind other pointers
@@ -38,26 +42,25 @@ abbrev pub KeepElsewhere : Logged → List Logged → Type 0
 KeepElsewhere logged log = logged.undo.kind ≡ 2 → AllByRecursion (λ older. older.undo.kind ≡ 2 → older.pointer ≢ logged.pointer) log
 
 -- The undo record is that of the change, which is one of a row. Of the record that stands something is known where it is told.
-pub record Stands (told : Type 0) (schemas : List Schema) (records : RecordsAt) (kept : ℕ → Option Kept) (logged : Logged) (log : List Logged)
-    (change : Change) : Type 0 where
+pub record Stands (state : WorldState) (records : RecordsAt) (logged : Logged) (log : List Logged) (change : Change) : Type 0 where
   pub place : Place
-  pub place_is : place_in schemas change ≡ Some place
+  pub place_is : place_in state.schemas change ≡ Some place
   pub schema : Schema
-  pub tells : TellsOf logged.undo schema place schemas
-  pub record_is : told → HasRecord schema records kept logged
-  pub elsewhere : told → KeepElsewhere logged log
+  pub tells : TellsOf logged.undo schema place state.schemas
+  pub record_is : IsTold state → HasRecord state records schema logged
+  pub elsewhere : IsTold state → KeepElsewhere logged log
 
--- The log has an undo record for each of these changes of rows, both the newest first. A table that is made takes none.
-abbrev pub LogStands : Type 0 → List Schema → RecordsAt → (ℕ → Option Kept) → List Logged → List Change → Type 0
-LogStands told schemas records kept log [] = log ≡ []
-LogStands told schemas records kept log (Create schema ∷ own) = LogStands told schemas records kept log own
-LogStands told schemas records kept [] (change ∷ own) = ⊥
-LogStands told schemas records kept (logged ∷ log) (change ∷ own) =
-    Stands told schemas records kept logged log change × LogStands told schemas (taken_back logged.undo records) kept log own
+-- The log has an undo record for each of these changes of rows, both the newest first, where these are the records. A table that is made takes none.
+abbrev pub LogStands : WorldState → RecordsAt → List Logged → List Change → Type 0
+LogStands state records log [] = log ≡ []
+LogStands state records log (Create schema ∷ own) = LogStands state records log own
+LogStands state records [] (change ∷ own) = ⊥
+LogStands state records (logged ∷ log) (change ∷ own) =
+    Stands state records logged log change × LogStands state (taken_back logged.undo records) log own
 
 -- in this world the log is that of these changes
 abbrev pub IsLogOf : WorldState → List Logged → List Change → Type 0
-IsLogOf state log own = LogStands (IsTold state) state.schemas (records_of state) state.versions.kept_at log own
+IsLogOf state log own = LogStands state (records_of state) log own
 
 -- The log of each session is that of the changes that the history has of it.
 pub record LogsAgree (state : WorldState) : Type 0 where

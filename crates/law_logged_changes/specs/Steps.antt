@@ -1,5 +1,5 @@
 -- What the steps of changes and of their taking back make of logs.
-use Rattle.std.specs.Prelude.{◌≡◌, ◌≢◌, ◌⊎◌, ℕ, ◌<◌, List, [], ◌∷◌, ◌++◌, length, slice_get, Some}
+use Rattle.std.specs.Prelude.{◌≡◌, ◌≢◌, ◌⊎◌, ℕ, List, [], ◌∷◌, slice_get, Some}
 use Rattle.inno_types.specs.declared.value.Schema.{Schema}
 use Rattle.inno_db.specs.declared.change.Change.{Change}
 use Rattle.inno_model.specs.Past.{own}
@@ -8,7 +8,7 @@ use Rattle.row_versions.specs.{Versions.Stays, declared.version.Version.Version}
 use Rattle.law_stored_rows.specs.{Edits.clustered_index, Records.KeepsMore, Records.kept_of, Records.LeadTo, Records.IsRecordWith}
 use Rattle.world.specs.{State.WorldState, State.Session, State.Work, State.Logged, State.HasWork, Told.IsTold}
 use Rattle.row_changes.specs.{declared.record_change.RecordChange.RecordChange, Edits.change_of}
-use Rattle.law_logged_changes.specs.Logs.{KeepElsewhere, IsLogOf, LogsAgreeBut, IsAloneOf, records_of}
+use Rattle.law_logged_changes.specs.Logs.{KeepElsewhere, IsLogOf, LogsAgreeBut, IsAloneOf, records_of, kept_in}
 
 -- ---- a change is made
 
@@ -73,9 +73,8 @@ pub record IsRowAgain (logged : Logged) (state : WorldState) : Type 0 where
   pub there : slice_get state.schemas logged.undo.table ≡ Some schema
   pub version : Version
   pub older : List Version
-  pub leads : LeadTo schema logged.undo.key (kept_of state.versions.kept_at logged.undo.table logged.undo.key) logged.pointer (version ∷ older)
-  pub record_is : IsRecordWith schema logged.undo.key (kept_of state.versions.kept_at logged.undo.table logged.undo.key)
-      (records_of state logged.undo.table logged.undo.key) (version ∷ older)
+  pub leads : LeadTo schema logged.undo.key (kept_in state logged.undo) logged.pointer (version ∷ older)
+  pub record_is : IsRecordWith schema logged.undo.key (kept_in state logged.undo) (records_of state logged.undo.table logged.undo.key) (version ∷ older)
 
 -- The row doesn't need what the undo record keeps, and no older record keeps its version there.
 pub record MayBeCut (logged : Logged) (log : List Logged) (state : WorldState) : Type 0 where
@@ -101,12 +100,3 @@ pub record HasCut (s : ℕ) (log : List Logged) (before : List Change) (state : 
   pub has_work : HasWork s session work state
   pub log_is : work.log ≡ log
   pub logs : LogsAgreeBut s log before state
-
--- ---- a table is made
-
--- There is a table more; the records of all others are what they were.
-pub record MakesTable (schema : Schema) (old new : WorldState) : Type 0 where
-  pub schemas : new.schemas ≡ old.schemas ++ schema ∷ []
-  pub told : IsTold new → IsTold old
-  pub pairs : (table : ℕ) → table < length old.schemas → AreKept (old.indexes (clustered_index table)).pairs (new.indexes (clustered_index table)).pairs
-  pub versions : Stays old.versions new.versions

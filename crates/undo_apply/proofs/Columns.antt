@@ -1,7 +1,7 @@
 -- The place that an undo record tells of, its versions, and the keys of its table: their columns, entries, and what they say.
 use Rattle.std.proofs.Common.{◌≡◌, ◌≢◌, ◌⊎◌, inl, inr, ℕ, Bool, true, false, List, [], ◌∷◌, Option, Some, None, refl, sym, ap, subst, ◌∙◌, arith, zero}
 use Rattle.std.proofs.Common.{suc, ◌+◌, ◌-◌, ◌<◌, ◌≤◌, slice_get, length}
-use Rattle.std.specs.Prelude.{◌==◌, not, All, cond}
+use Rattle.std.specs.Prelude.{◌==◌, not, All}
 use Rattle.std.proofs.Math.Bool.{or-true}
 use Rattle.std.proofs.lemmas.{Option.slice_get_within, Bool.cond-false, Bool.ne_eqb}
 use Rattle.std.proofs.lemmas.List.Elements.{All-head, All-tail}
@@ -11,7 +11,7 @@ use Rattle.store_api.specs.{declared.answers.Undo.Undo}
 use Rattle.store_api.specs.declared.answers.Version.{Version as Coded}
 use Rattle.row_codec.specs.Rows.{mark_code, others_code}
 use Rattle.row_codec.proofs.Parts.{head_parts}
-use Rattle.entries.specs.Pairs.{Pair, value_of, key_cmp, without_key}
+use Rattle.entries.specs.Pairs.{Pair, value_of, without_key}
 use Rattle.row_versions.specs.{declared.kept.Kept.Kept, declared.place.Place.Place, declared.version.Version.Version}
 use Rattle.row_versions.specs.Chains.{Chains, versions_at, newest, older}
 use Rattle.law_stored_rows.specs.{Edits.key_index, Records.row_shown, Records.shown, Records.IsCodeOf, Records.IsRecordWith}
@@ -27,7 +27,6 @@ use Rattle.key_codec.proofs.Lengths.{length-key_code, length-entry_code}
 use Rattle.secondary.specs.Entries.{place_if, entry_of}
 use Rattle.world.specs.State.{WorldState}
 use Rattle.std.specs.List.{list_any}
-use Rattle.std.specs.BTreeMap.{is_at}
 
 module _ (undo : Undo) (schema : Schema) (place : Place) (schemas : List Schema) (tells : TellsOf undo schema place schemas) where
   -- a record at the key is of the place
@@ -162,11 +161,7 @@ entry_short {schemas} {undo} {schema} {place} which {version} {bytes} tells with
 -- a key that isn't there is removed in vain
 pub absent_stays : (key : List ℕ) (pairs : List Pair) → value_of key pairs ≡ None → without_key key pairs ≡ pairs
 absent_stays key [] none = refl
-absent_stays key (pair ∷ pairs) none = go (is_at (key_cmp key) pair.0) (absent_stays key pairs) none where
-  go : (t : Bool) → (value_of key pairs ≡ None → without_key key pairs ≡ pairs) → cond t (Some pair.1) (value_of key pairs) ≡ None
-      → cond t pairs (pair ∷ without_key key pairs) ≡ pair ∷ pairs
-  go true rest none = absurd (cc)
-  go false rest none = ap (λ (l : List Pair). pair ∷ l) (rest none)
+absent_stays key (pair ∷ pairs) none = grind (arith, none, absent_stays key pairs)
 
 module _ (chains : Chains) (beside : Said) (place : Place) (undo : Undo) (schema : Schema) (rows : Rows) (tells : TellsOf undo schema place rows.schemas) where
   says_here : (said : ℕ → List Version) (which : ℕ) → said_but beside place said undo.table which place.key ≡ said which

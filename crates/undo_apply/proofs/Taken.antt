@@ -2,7 +2,7 @@
 use Rattle.std.proofs.Common.{◌≡◌, ◌≢◌, ⊎_elim, ℕ, ◌+◌, Bool, true, false, cond, List, Option, Some, refl, sym, ap, subst, ◌∙◌, arith, slice_get, inl, inr}
 use Rattle.std.proofs.Common.{◌<◌, [], ◌∷◌, None, length}
 use Rattle.std.proofs.lemmas.Bool.Decides.{nat_tests}
-use Rattle.std.specs.Prelude.{◌==◌, ◌&&◌}
+use Rattle.std.specs.Prelude.{◌==◌}
 use Rattle.std.proofs.lemmas.{Bool.cases_eq, Bool.cond-true, Bool.cond-false, Bool.eq-eqb, Bool.ne_eqb, Option.slice_get_within}
 use Rattle.inno_types.specs.{declared.value.Value.Value, declared.value.Key.Key, declared.value.Schema.Schema}
 use Rattle.key_codec.specs.Keys.{entry_code}
@@ -15,7 +15,7 @@ use Rattle.law_stored_rows.specs.{Records.shown, Records.IsCodeOf, Records.LeadT
 use Rattle.law_stored_rows.specs.Entries.{TellAlike, value_in, has_value, entry_of as entry_said, TellAlikeBut}
 use Rattle.secondary.specs.Entries.{entry_of}
 use Rattle.law_stored_rows.proofs.{Tables.at, Tables.popped_here, Pairs.no_key, Pairs.value_now, Values.place_itself, Values.value_itself}
-use Rattle.law_stored_rows.proofs.{Tables.popped_elsewhere, Steps.record_taken_back, Steps.record_removed, RowRecords.pointer_followed, RowRecords.one_lead}
+use Rattle.law_stored_rows.proofs.{Steps.record_taken_back, Steps.record_removed, RowRecords.pointer_followed, RowRecords.one_lead}
 use Rattle.law_stored_rows.proofs.Keys.{entry_changed, change_over}
 use Rattle.law_stored_rows.proofs.Entries.{marked, taken, is_taken, unmarked, is_unmarked, without_row, value_again}
 use Rattle.undo_apply.specs.{Told.Rows}
@@ -66,11 +66,7 @@ lags_there beside place said table which value apart = cond-false (is_same_place
 
 pub sets_there : (beside : Said) (place : Place) (said : ℕ → List Version) (which : ℕ) (versions : List Version)
     → SaysNow (said_but beside place said) (said_but beside place (set_said said which versions)) place which versions
-sets_there beside place said which versions table key value = go (key == which) (is_same_place place (at table value)) where
-  go : (b t : Bool)
-      → cond t (cond b versions (said key)) (beside table key value) ≡ cond (b && t) versions (cond t (said key) (beside table key value))
-  go true t = grind (arith, nat_tests)
-  go false t = refl
+sets_there beside place said which versions table key value = grind (arith, nat_tests)
 
 -- ---- what the change of one entry makes of a change that is being taken back
 
@@ -149,7 +145,7 @@ module _ (chains : Chains) (beside : Said) {place : Place} {undo : Undo} {schema
       let was = said_but beside place said in
       let now = said_but beside place (set_said said which versions) in
       let Alike : List Version → Type 0 = λ v. TellAlikeBut (value_in it.key.column version.row) it.key.column v versions in
-      let alike_there = subst (λ (p : Place). Alike (was p.table which p.key)) (sym here) (subst Alike (sym (says_place beside place said which)) alike) in
+      let alike_there = subst (λ (p : Place). Alike (was p.table which p.key)) (sym here) (rw (says_place beside place said which) alike) in
       entry_changed rows.schemas rows.pairs (with_entry which version value).pairs rows.kept chains undo.table schema which it.key it.on.column undo.key bytes
       version was now versions are tells.there it.key_is it.on.there code alike_there puts
       (subst (λ (p : Place). SaysNow was now p which versions) (sym here) (sets_there beside place said which versions))
@@ -338,12 +334,6 @@ module _ (schemas : List Schema) (pairs : ℕ → List Pair) (kept : ℕ → Opt
       (λ which schema key is_there key_is value. ap (entry_said key.column value) (says_place beside place there which))
 
 -- Where nothing else is under way, all keys say what is there once a change is taken back.
-pub taken_whole : (chains after : Chains) (place : Place) (undo : Undo) (rows : Rows) → Pops chains after place
-    → IsTakenBack after (what_is_there chains) place undo rows → AreCoded rows.schemas rows.pairs rows.kept after
-taken_whole chains after place undo rows pops back =
-    as_all rows.schemas rows.pairs rows.kept after (what_is_there chains) place back.all
-    (λ table which value apart. popped_elsewhere chains after place pops (at table value) apart)
-
 pub whole_yet : (chains : Chains) (place : Place) (undo : Undo) (rows : Rows) → IsTakenBack chains (what_is_there chains) place undo rows
     → AreCoded rows.schemas rows.pairs rows.kept chains
 whole_yet chains place undo rows back =
