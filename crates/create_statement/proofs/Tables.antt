@@ -1,7 +1,6 @@
 -- Which tables a CREATE TABLE meets, and what it makes of them.
 use Rattle.std.proofs.Common.{◌≡◌, ℕ, ◌<◌, Bool, true, false, cond, Option, Some, None, List, [], ◌∷◌, ◌++◌, length, refl, sym, ap, subst, ◌∙◌, arith}
 use Rattle.std.proofs.lemmas.Bool.Decides.{nat_tests}
-use Rattle.std.proofs.lemmas.List.{append-nil, append_assoc}
 use Rattle.std.specs.Prelude.{is_some, is_none, nat_le, IfSome}
 use Rattle.std.specs.List.{AllByRecursion}
 use Rattle.inno_types.specs.declared.value.Schema.{Schema}
@@ -23,37 +22,18 @@ use Rattle.inno_db.specs.declared.limits.TheConstants.{MOST_TABLES}
 use Rattle.inno_types.specs.declared.lock.Level.{Level}
 use Rattle.inno_model.specs.declared.event.Event.{Event}
 use Rattle.inno_model.specs.declared.event.Event.TheVariants as events
-use Rattle.inno_model.specs.Past.{own, commits, committed, opening, changed}
+use Rattle.inno_model.specs.Past.{own, commits, committed, opening}
 use Rattle.law_stored_rows.proofs.Declared.{declared-IsStorable}
 use Rattle.sql_history.specs.Items.{own_before, base}
-use Rattle.sql_history.specs.Statements.{schemas_now}
 use Rattle.sql_history.specs.Legal.{IsCreation}
 use Rattle.law_past_agreement.specs.Order.{created, IsOfRow}
-use Rattle.sql_lists.specs.Kept.{AreStanding}
+use Rattle.sql_lists.specs.Kept.{AreStanding, made}
 use Rattle.sql_lists.specs.Steps.{HasRowsAlone}
+use Rattle.sql_lists.proofs.Standing.{schemas_after, made_append, now_is}
 use Rattle.create_statement.specs.Making.{is_there, Makes}
 use Rattle.create_statement.proofs.Creations.{as_creation}
 
 -- ---- the tables that stand
-
--- the tables that changes make, the first made first
-abbrev made : List Change → List Schema
-made [] = []
-made (Create schema ∷ changes) = made changes ++ schema ∷ []
-made (other ∷ changes) = made changes
-
-schemas_after : (db : Database) (changes : List Change) → (changed db changes).schemas ≡ db.schemas ++ made changes
-schemas_after db [] = sym (append-nil db.schemas)
-schemas_after db (Create schema ∷ changes) =
-    ap (λ schemas. schemas ++ schema ∷ []) (schemas_after db changes) ∙ append_assoc db.schemas (made changes) (schema ∷ [])
-schemas_after db (Put table row ∷ changes) = schemas_after db changes
-schemas_after db (Remove table key ∷ changes) = schemas_after db changes
-
-made_append : (xs ys : List Change) → made (xs ++ ys) ≡ made ys ++ made xs
-made_append [] ys = sym (append-nil (made ys))
-made_append (Create schema ∷ xs) ys = ap (λ schemas. schemas ++ schema ∷ []) (made_append xs ys) ∙ append_assoc (made ys) (made xs) (schema ∷ [])
-made_append (Put table row ∷ xs) ys = made_append xs ys
-made_append (Remove table key ∷ xs) ys = made_append xs ys
 
 made_rows : (changes : List Change) → AllByRecursion IsOfRow changes → made changes ≡ []
 made_rows [] rows = refl
@@ -67,12 +47,10 @@ pub tables_met : (s : ℕ) (h : List Event) → AreStanding h → HasRowsAlone s
 tables_met s h stands rows rows_before =
     let first = (opening h).schemas in
     let those = made (committed (commits h) h) in
-    let now : schemas_now s h ≡ first ++ (those ++ made (own s h)) =
-    schemas_after (opening h) (own s h ++ committed (commits h) h) ∙ ap (λ schemas. first ++ schemas) (made_append (own s h) (committed (commits h) h)) in
     schemas_after (opening h) (own_before s h ++ committed (commits h) h)
     ∙ (ap (λ schemas. first ++ schemas) (made_append (own_before s h) (committed (commits h) h) ∙ ap (λ schemas. those ++ schemas)
     (made_rows (own_before s h) rows_before ∙ sym (made_rows (own s h) rows)))
-    ∙ (sym now ∙ sym (stands.tables s)))
+    ∙ (sym (now_is s h) ∙ sym (stands.tables s)))
 
 -- its transaction begins: it meets the same tables
 pub tables_begun : (s n : ℕ) (l : Level) (h : List Event) → AllByRecursion IsOfRow (own_before s h)

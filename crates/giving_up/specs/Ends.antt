@@ -15,6 +15,10 @@ use Rattle.sql_history.specs.Legal.{Takes, is_alone, AnswersRows, EndsRows, Made
 use Rattle.sql_history.specs.Waiting.{is_victim}
 use Rattle.sql_lists.specs.Steps.{HasRowsAlone}
 
+-- the item has changed nothing up to its point
+abbrev pub HasMadeNone : ℕ → List Event → Type 0
+HasMadeNone s past = own s (point s past) ≡ own_before s (point s past)
+
 abbrev pub is_rows : Reply → Bool
 is_rows (replies.Rows rows) = true
 is_rows other = false
@@ -50,7 +54,7 @@ pub record MayEndWith (s : ℕ) (kept given : Reply) (past : List Event) : Type 
 -- It may later too, whatever others do meanwhile. Where rows are too many for the history by then the limit is its reply.
 pub record IsClosing (s : ℕ) (kept given : Reply) (past : List Event) : Type 0 where
   pub may : MayEndWith s kept given past
-  pub rests : (is_over s past ≡ true) ⊎ ((kept ≡ replies.NoMemory) × (own s (point s past) ≡ own_before s (point s past)))
+  pub rests : (is_over s past ≡ true) ⊎ ((kept ≡ replies.NoMemory) × HasMadeNone s past)
   pub limited : is_rows kept ≡ true → WasCommitted Spells s past
 
 -- how it gives up: its own transaction is to be rolled back, or the one that it works in is left as it was
@@ -64,15 +68,11 @@ pub record IsFailed (s : ℕ) (alone : Bool) (past : List Event) : Type 0 where
   pub takes : Takes Spells s statement past
   pub on_rows : is_on_rows statement ≡ true
   pub not_committed : did commits_txn s past ≡ false
-  pub made : own s (point s past) ≡ own_before s (point s past)
+  pub made : HasMadeNone s past
   pub rows_alone : HasRowsAlone s past
   pub gives : GivesUp alone takes.setting s past
 
 -- ---- whatever the statement is
-
--- the item has changed nothing up to its point
-abbrev pub HasMadeNone : ℕ → List Event → Type 0
-HasMadeNone s past = own s (point s past) ≡ own_before s (point s past)
 
 -- what was open is committed, and nothing else has been done
 pub record IsEmptied (s : ℕ) (past : List Event) : Type 0 where

@@ -124,11 +124,6 @@ module _ (basis : Basis) (Holds : Database → Type 0) where
   stands_then db others stands leaves = λ more beside.
       subst Holds (changed_append db more others) (stands (more ++ others) (basis_append basis db more others leaves beside))
 
--- what stands on less basis stands on more
-pub stands_on_more : (some more : Basis) (Holds : Database → Type 0) (db : Database)
-    → ((claim : Claim) → RestsOn db.schemas some claim → RestsOn db.schemas more claim) → Stands some Holds db → Stands more Holds db
-stands_on_more some more Holds db wider stands = λ others leaves. stands others (λ claim rests. leaves claim (wider claim rests))
-
 -- what follows from what stands
 pub stands_as : (basis : Basis) (This That : Database → Type 0) (db : Database) → ((d : Database) → This d → That d) → Stands basis This db
     → Stands basis That db

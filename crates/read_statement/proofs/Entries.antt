@@ -5,7 +5,7 @@ use Rattle.std.proofs.lemmas.Bool.{false≢true}
 use Rattle.std.specs.Prelude.{is_some}
 use Rattle.std.specs.List.{AllByRecursion}
 use Rattle.inno_types.specs.declared.lock.Level.{Level}
-use Rattle.inno_types.specs.declared.lock.Level.TheVariants.{ReadCommitted, RepeatableRead}
+use Rattle.inno_types.specs.declared.lock.Level.TheVariants.{RepeatableRead}
 use Rattle.inno_types.specs.declared.stmt.Stmt.{Stmt}
 use Rattle.inno_model.specs.declared.event.Event.{Event}
 use Rattle.inno_model.specs.declared.event.Event.TheVariants as events
@@ -23,7 +23,6 @@ use Rattle.sql_lists.specs.Steps.{Moves, IsTaken, GoesOnAcked}
 use Rattle.sql_lists.proofs.Moving.{moves_none, moves_adds}
 use Rattle.giving_up.proofs.Closing as of_leaving
 use Rattle.giving_up.proofs.Nothing.{own_nothing, level_nothing, turn_nothing}
-use Rattle.giving_up.proofs.Writing.{none_of}
 use Rattle.read_statement.specs.declared.machine.Asked.{Asked}
 use Rattle.read_statement.specs.declared.machine.ReadStatement.{ReadStatement}
 use Rattle.read_statement.specs.declared.machine.ReadStatement.TheVariants as machine
@@ -214,12 +213,6 @@ has_view s h is some =
       view_is =
           number.1;
     }
-
-pub takes_committed : (s : ℕ) (h : List Event) → level s h ≡ Some ReadCommitted → did takes_view s h ≡ false → MayTakeView s h
-takes_committed s h is unseen = (ReadCommitted, is, λ alone. refl, λ same. (let x = same in cc), unseen)
-
-pub takes_repeatable : (s : ℕ) (h : List Event) → level s h ≡ Some RepeatableRead → is_some (view_of s h) ≡ false → MayTakeView s h
-takes_repeatable s h is none = (RepeatableRead, is, λ alone. refl, λ same. (let x = same in cc), none_of (view_of s h) none)
 
 -- ---- the acknowledgement of a commit
 

@@ -1,10 +1,7 @@
 -- The plan of a SELECT: its index is there, and the rows in its range are enough to answer by.
-use Rattle.std.proofs.Common.{◌≡◌, ℕ, ◌+◌, ◌≤◌, Bool, true, false, Option, Some, None, List, [], length, refl, sym, ap, ◌∙◌, arith}
-use Rattle.std.specs.Prelude.{All, if◌then◌else◌, ◌==◌, ◌&&◌, not, slice_get}
-use Rattle.std.proofs.lemmas.List.Quantifiers.{position-Some}
+use Rattle.std.proofs.Common.{◌≡◌, ℕ, Bool, true, false, Option, Some, None, List, refl, sym, ap, ◌∙◌}
+use Rattle.std.specs.Prelude.{All, ◌&&◌, not, slice_get}
 use Rattle.inno_types.specs.declared.value.Value.{Value}
-use Rattle.inno_types.specs.declared.value.Column.{Column}
-use Rattle.inno_types.specs.declared.value.Key.{Key}
 use Rattle.inno_types.specs.declared.value.Schema.{Schema}
 use Rattle.inno_types.specs.declared.reply.SqlError.{SqlError}
 use Rattle.inno_types.specs.declared.stmt.Filter.{Filter}
@@ -19,9 +16,7 @@ use Rattle.inno_db.specs.Refusals.{refused_if, on_table, schema_at, selected_kno
 use Rattle.inno_db.specs.Outcome.{outcome, answer_to, unless_refused}
 use Rattle.inno_db.proofs.Outcomes.{table_read}
 use Rattle.sql_plan.specs.declared.choice.Plan.{Plan}
-use Rattle.sql_plan.specs.declared.part.Bounding.{Bounding}
-use Rattle.sql_plan.specs.Parts.{ranges_of}
-use Rattle.sql_plan.specs.Plans.{places_of, key_on, after_clustered, index_on, chosen_column, allowed, plan_if, plan_by, plan_of, whole_index}
+use Rattle.sql_plan.specs.Plans.{whole_index}
 use Rattle.inno_types.specs.Ranges.{is_within}
 use Rattle.sql_plan.specs.Visits.{index_key, are_indexable, IsRowOf}
 use Rattle.sql_plan.specs.Covers.{CoversMatches}
@@ -33,40 +28,8 @@ use Rattle.law_found_rows.proofs.Covered.{reads_enough, open_range}
 use Rattle.read_statement.specs.Planning.{IsChosen}
 use Rattle.read_statement.proofs.Selects.{of_plain}
 
--- ---- its index
-
 some_same : {X : Type 0} {x y : X} → Some x ≡ Some y → x ≡ y
 some_same is = cc
-
-no_key : Key
-no_key = record { name = []; column = 0 }
-
-module _ (schema : Schema) where
-  key_there : (place which : ℕ) (found : Option ℕ) → key_on schema.keys place ≡ found → after_clustered found ≡ Some which → which ≤ length schema.keys
-  key_there place which None found is = (let x = is in cc)
-  key_there place which (Some k) found is =
-      let at = position-Some (λ (key : Key). key.column == place) schema.keys k no_key found in
-      let same : k + 1 ≡ which = some_same is in
-      omega (arith, at.0, same)
-
-  index_there : (place which : ℕ) → index_on schema place ≡ Some which → which ≤ length schema.keys
-  index_there place which is = go (place == schema.primary) is where
-    go : (b : Bool) → (if b then Some 0 else after_clustered (key_on schema.keys place)) ≡ Some which → which ≤ length schema.keys
-    go true at = (let same : 0 ≡ which = some_same at in omega (arith, same))
-    go false at = key_there place which (key_on schema.keys place) refl at
-
-  which_in : (place : ℕ) (column : Option Column) (which : Option ℕ) (values : _) → index_on schema place ≡ which
-      → (plan_if column which values).which ≤ length schema.keys
-  which_in place None which values is = omega arith
-  which_in place (Some column) None values is = omega arith
-  which_in place (Some column) (Some n) values is = index_there place n is
-
-  which_by : (parts : List (Bounding Value)) (place : Option ℕ) → (plan_by schema parts place).which ≤ length schema.keys
-  which_by parts None = omega arith
-  which_by parts (Some place) = which_in place (slice_get schema.columns place) (index_on schema place) (allowed parts place) refl
-
-  pub which_there : (condition : Filter) → (plan_of schema condition).which ≤ length schema.keys
-  which_there condition = which_by (ranges_of schema.columns condition) (chosen_column schema (places_of (ranges_of schema.columns condition)))
 
 -- ---- the rows in its range
 

@@ -9,8 +9,6 @@ use Rattle.inno_types.specs.declared.value.Schema.{Schema}
 use Rattle.inno_types.specs.declared.stmt.Stmt.{Stmt}
 use Rattle.inno_db.specs.declared.change.Change.{Change}
 use Rattle.inno_db.specs.declared.change.Change.TheVariants as changes
-use Rattle.inno_db.specs.declared.limits.TheConstants.{MOST_TABLES}
-use Rattle.inno_db.specs.Names.{table_place}
 use Rattle.inno_db.proofs.Outcomes.{table_read}
 use Rattle.inno_model.specs.declared.event.Event.{Event}
 use Rattle.inno_model.specs.declared.event.Event.TheVariants as events
@@ -49,18 +47,6 @@ position_stays p xs ys n is = go (nat_lt (position_or_len p xs) (length xs)) ref
       let same : position_or_len p (xs ++ ys) ≡ position_or_len p xs = or_len_stays p xs ys lt in
       let within : nat_lt (position_or_len p (xs ++ ys)) (length (xs ++ ys)) ≡ true = grind (arith, nat_tests, same, lt, length-append xs ys) in
       rw within (ap Some same ∙ found)
-
-position_lt : {X : Type 0} (p : X → Bool) (xs : List X) (n : ℕ) → position p xs ≡ Some n → n < length xs
-position_lt p xs n is = go (nat_lt (position_or_len p xs) (length xs)) refl is where
-  go : (b : Bool) → nat_lt (position_or_len p xs) (length xs) ≡ b → cond b (Some (position_or_len p xs)) None ≡ Some n → n < length xs
-  go false at found = (let x = found in cc)
-  go true at found =
-      let lt : position_or_len p xs < length xs = grind (arith, nat_tests, at) in
-      let same : position_or_len p xs ≡ n = cc in
-      subst (λ m. m < length xs) same lt
-
-pub table_small : (schemas : List Schema) (table : List ℕ) (n : ℕ) → length schemas ≤ MOST_TABLES → table_place schemas table ≡ Some n → n < 256
-table_small schemas table n few is = omega (arith, few, position_lt (λ (schema : Schema). bytes_eq schema.name table) schemas n is)
 
 pub table_stays : (schemas more : List Schema) (n : ℕ) (statement : Stmt) → is_plain_select statement ≡ true → table_read schemas statement ≡ Some n
     → table_read (schemas ++ more) statement ≡ Some n

@@ -1,19 +1,17 @@
 -- What the steps of a session's ending do.
-use Rattle.std.proofs.Common.{◌≡◌, ◌≢◌, ◌<◌, ◌-◌, ℕ, [], ◌∷◌, length, refl, sym, ap, subst, ◌∙◌, true, false, inl, inr, arith, absurd}
+use Rattle.std.proofs.Common.{◌≡◌, ◌<◌, ◌-◌, ℕ, [], ◌∷◌, length, refl, sym, ap, subst, ◌∙◌, true, false, inl, inr, arith}
 use Rattle.std.proofs.lemmas.Bool.Decides.{nat_tests, eqb_tells}
 use Rattle.std.specs.Prelude.{count_by}
-use Rattle.std.specs.List.{AllByRecursion}
 use Rattle.inno_model.specs.declared.event.Event.{Event}
 use Rattle.inno_model.specs.declared.event.Event.TheVariants as events
 use Rattle.inno_model.specs.Past.{is_of, own}
 use Rattle.store_api.specs.declared.answers.Progress.TheVariants as progress
-use Rattle.law_past_agreement.specs.Order.{IsOfRow}
 use Rattle.shared_lists.specs.Answers.{Undone}
 use Rattle.store_api.specs.declared.stepped.Stepped.TheVariants as stepped
-use Rattle.shared_lists.specs.State.{State as Lists, Closes, Stays, task_of}
+use Rattle.shared_lists.specs.State.{State as Lists, Closes, task_of}
 use Rattle.shared_lists.specs.Steps.{TakesBack}
 use Rattle.sql_lists.specs.Steps.{HasRowsAlone, is_apart, changes_rows}
-use Rattle.sql_lists.proofs.Moving.{moves_closes, moves_stays, moves_takes_back}
+use Rattle.sql_lists.proofs.Moving.{moves_closes, moves_takes_back}
 use Rattle.transaction_statements.specs.Running.{TakesBackTo}
 use Rattle.transaction_statements.proofs.Stepping.{rows_of_none, rows_left}
 use Rattle.session_engine.specs.declared.seats.Seat.TheVariants.{Leaving}

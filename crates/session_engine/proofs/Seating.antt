@@ -15,13 +15,13 @@ use Rattle.inno_types.specs.declared.reply.SqlError.TheVariants as errors
 use Rattle.inno_db.specs.Database.{Database}
 use Rattle.inno_model.specs.declared.event.Event.{Event}
 use Rattle.inno_model.specs.declared.event.Event.TheVariants as events
-use Rattle.inno_model.specs.Past.{is_of, started, under_way, own, IsClosed}
+use Rattle.inno_model.specs.Past.{is_of, started, under_way, IsClosed}
 use Rattle.inno_types.specs.Order.{IsBelow}
 use Rattle.store_api.specs.declared.answers.Progress.{Progress}
 use Rattle.store_api.specs.declared.answers.Progress.TheVariants as progress
 use Rattle.sql_history.specs.Legal.{is_leaving}
 use Rattle.shared_lists.specs.Tasks as tasks
-use Rattle.law_past_agreement.specs.Order.{IsOfRow, IsNoOthers}
+use Rattle.law_past_agreement.specs.Order.{IsNoOthers}
 use Rattle.shared_lists.specs.State.{State as Lists, Lists as AllLists, IsFirst, Adds, Stays, task_of}
 use Rattle.sql_lists.specs.declared.advance.Advance.{Advance}
 use Rattle.sql_lists.specs.declared.advance.Advance.TheVariants as advance
@@ -41,7 +41,7 @@ use Rattle.session_engine.specs.Calls.{AreFirst, SameLists, Joins, SameState, Ot
 use Rattle.session_engine.specs.Calls.{GoesOut, HasGiven, EndsSignal, Signals, StepsBy, Acknowledges, WaitsInVain, GivesUpInVain, WaitsOn, StepsTo, TellsNone}
 use Rattle.statement.specs.Going.{statement_to_go}
 use Rattle.inno_model.specs.declared.board.Phase.TheVariants as phases
-use Rattle.session_engine.specs.Going.{Nears, NearsEnding, NearsLacking}
+use Rattle.session_engine.specs.Going.{Nears, NearsLacking}
 use Rattle.session_engine.specs.Places.{IsExact, HasExactPlaces}
 use Rattle.session_engine.specs.Signals.{AreSpent, HasOnlyAsked}
 use Rattle.session_engine.proofs.Places.{entries_exact, item_before, spelled_still, spelled_exact, refused_exact, signals_exact}
@@ -63,15 +63,6 @@ set_again (z ∷ seats) (suc n) x y = ap (λ ys. z ∷ ys) (set_again seats n x 
 
 others_set : (seats : List Seat) (s : ℕ) (seat : Seat) → OthersStay s seats (set seats s seat)
 others_set seats s seat u apart = get_or-set_other seats s u seat Idle apart
-
--- a seat that owes an acknowledgement is that of a statement
-pub owing_is : (seat : Seat) → owes seat ≡ true → ((statement : Statement) → seat ≡ Busy statement → ⊥) → ⊥
-owing_is Idle owed other = false≢true owed
-owing_is (Busy statement) owed other = other statement refl
-owing_is (Refused at) owed other = false≢true owed
-owing_is (Signalling item) owed other = false≢true owed
-owing_is Leaving owed other = false≢true owed
-owing_is Left owed other = false≢true owed
 
 pub leaving_is : (seat : Seat) → is_working seat ≡ true → ((statement : Statement) → seat ≡ Busy statement → ⊥)
     → ((at : ℕ) → seat ≡ Refused at → ⊥) → ((item : SignalItem) → seat ≡ Signalling item → ⊥) → seat ≡ Leaving
@@ -184,18 +175,6 @@ seats_kept old new seats s seat are joined moves agrees exact =
     }
 
 -- ---- an engine that is opened
-
-pub first_seats : (db : Database) (lists : Lists) → AreFirst db lists → ((s : ℕ) → task_of s lists ≡ tasks.Idle) → AreSeats lists []
-first_seats db lists first idle =
-    record {
-      enough = rw first.names (omega arith);
-      each = λ u.
-          let rests : under_way u lists.past ≡ None = ap (under_way u) first.past in
-          let nothing : own u lists.past ≡ [] = ap (own u) first.past in
-          (record { rests = rests; rows_alone = subst (AllByRecursion IsOfRow) (sym nothing) tt }, ap (is_leaving u) first.past, idle u);
-      spent = subst AreSpent (sym first.past) (λ name. omega arith);
-      exact = subst HasExactPlaces (sym first.past) tt;
-    }
 
 pub are_first : (db : Database) (all : AllLists) (lists : Lists) → IsFirst all → all.state.past ≡ events.Opened db ∷ [] → lists ≡ all.state → AreFirst db lists
 are_first db all lists first past is =

@@ -15,13 +15,10 @@ use Rattle.sql_history.specs.Items.{Asks, of_turn, is_over, point, before_turn, 
 use Rattle.sql_history.specs.Legal.{IsLegal, ChangesBy, MayChange}
 use Rattle.sql_lists.specs.Steps.{changes_rows}
 use Rattle.sql_lists.proofs.Staying.{at_work, is_within, item_within, within_of_other, point_now, point_stays, point_before}
+use Rattle.giving_up.specs.Ends.{HasMadeNone}
 use Rattle.giving_up.proofs.Nothing.{own_nothing, turn_nothing}
 use Rattle.read_statement.proofs.Items.{turn_goes_on}
 use Rattle.statement.proofs.Same.{changes_same}
-
--- the item has changed nothing up to its point
-abbrev pub HasMadeNone : ℕ → List Event → Type 0
-HasMadeNone s past = own s (point s past) ≡ own_before s (point s past)
 
 -- until it is over that is now
 pub none_there : (s : ℕ) (h : List Event) → is_over s h ≡ false → own s h ≡ own_before s h → HasMadeNone s h

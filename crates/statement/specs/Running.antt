@@ -1,7 +1,6 @@
 -- What the engine knows of a statement between its steps. One that hasn't begun has nothing under way with rows.
 use Rattle.std.specs.Prelude.{◌≡◌, ℕ, Bool, true, false, Some, None, List, []}
 use Rattle.inno_types.specs.declared.stmt.Stmt.{Stmt}
-use Rattle.inno_types.specs.declared.reply.Item.{Item}
 use Rattle.inno_types.specs.declared.reply.Item.TheVariants.{Sql}
 use Rattle.inno_model.specs.declared.event.Event.{Event}
 use Rattle.inno_model.specs.Past.{under_way, of_item}
@@ -41,9 +40,6 @@ abbrev pub IsReadFrom : List ℕ → Statement → Type 0
 IsReadFrom text (statements.Unread at) = IsNone text
 IsReadFrom text (statements.Asked stmt) = Spells text stmt
 IsReadFrom text other = ⊥
-
-abbrev pub ReadsItem : Item → Statement → Type 0
-ReadsItem item statement = (text : List ℕ) × (item ≡ Sql text) × IsReadFrom text statement
 
 abbrev pub IsRunning : State → ℕ → Statement → Type 0
 IsRunning state s (statements.Unread at) = (text : List ℕ) × HasOnlyStarted s text state.past × IsNone text × (task_of s state ≡ Idle)
@@ -104,10 +100,6 @@ IsBegun (statements.Create statement) = Unit {0}
 IsBegun (statements.Read statement) = Unit {0}
 IsBegun (statements.Write statement) = Unit {0}
 IsBegun other = ⊥
-
-abbrev pub is_went : Advance → Bool
-is_went advances.Went = true
-is_went other = false
 
 abbrev pub is_done : Advance → Bool
 is_done (advances.Done reply) = true

@@ -1,6 +1,5 @@
 -- Each step as a whole, by what it does to the lists.
 use Rattle.std.proofs.Common.{◌≡◌, ℕ, ◌+◌, ◌<◌, ◌≤◌, Bool, true, false, Some, None, List, [], ◌∷◌, refl, sym, ap, subst, ◌∙◌, inl, inr, arith, length}
-use Rattle.std.proofs.Common.{absurd}
 use Rattle.std.proofs.lemmas.Bool.Decides.{nat_tests}
 use Rattle.std.proofs.lemmas.Bool.{false≢true}
 use Rattle.std.specs.Prelude.{◌-◌}
@@ -258,9 +257,7 @@ module _ (s : ℕ) (old new : State) (answer : Undone) (takes : TakesBack s (len
 -- it does work
 pub nears_rollback : (s : ℕ) (old new : State) (answer : Undone) → 0 < length (own s old.past) → TakesBack s (length (own s old.past) - 1) old new answer
     → Nears to_go s old statements.Rollback new statements.Rollback advance.Went
-nears_rollback s old new stepped.Went some takes = takes_back_nears s old new stepped.Went some takes
-nears_rollback s old new (stepped.Hindered never) some takes = absurd takes
-nears_rollback s old new (stepped.Done over) some takes = takes_back_nears s old new (stepped.Done over) some takes
+nears_rollback s old new answer some takes = takes_back_nears s old new answer some takes
 
 pub nears_to : (s : ℕ) (old new : State) (name : List ℕ) (made : ℕ) (answer : Undone) → 0 < length (own s old.past)
     → TakesBack s (length (own s old.past) - 1) old new answer

@@ -10,13 +10,15 @@ use Rattle.inno_model.specs.Past.{own, started}
 use Rattle.sql_grammar.specs.Grammar.{Spells}
 use Rattle.sql_history.specs.Counts.{rows_kept, most_rows}
 use Rattle.sql_history.specs.Legal.{MayChange}
-use Rattle.law_past_agreement.specs.Order.{created, IsTabled, IsOfRow}
+use Rattle.law_past_agreement.specs.Order.{created, IsTabled, IsOfRow, IsOrdered}
+use Rattle.shared_lists.specs.Fitting.{FitsThen, RemovesOne}
 use Rattle.shared_lists.specs.Answers.{Changed}
 use Rattle.store_api.specs.declared.stepped.Stepped.TheVariants as stepped
 use Rattle.shared_lists.specs.declared.answers.ChangePart.TheVariants as parts
 use Rattle.shared_lists.specs.Tasks.{Task, Idle, MayTakeBack, asked, left_by, is_changing}
 use Rattle.shared_lists.specs.State.{State, Turns, task_of}
 use Rattle.shared_lists.specs.Steps.{GoesOn, Enters, Changes}
+use Rattle.sql_lists.specs.Kept.{AreStanding, IsInOrder}
 use Rattle.sql_lists.specs.Steps.{Moves, Steps}
 use Rattle.sql_lists.specs.declared.advance.Advance.{Advance}
 use Rattle.sql_lists.specs.declared.advance.Advance.TheVariants as advance
@@ -31,6 +33,7 @@ use Rattle.write_statement.specs.Running.{IsChanging, IsMaking, IsFinishing, IsR
 use Rattle.law_claims.specs.Claims.{Tables}
 use Rattle.law_claims.proofs.Keeping.{keeper_writes, keeper_alone}
 use Rattle.write_statement.proofs.Changes.{with_entry, tabled, may_change, changing_then, stands_now}
+use Rattle.write_statement.proofs.There.{removes_one}
 use Rattle.write_statement.proofs.Turning.{changing_given_up}
 
 -- the change that is asked for may come
@@ -157,6 +160,15 @@ module _ (s : ℕ) (old new : State) where
       may_make old.past old.writer (task_of s old) s part todo.items rows r within change asks
   may_be_made (machine.Finishing part todo) is r within change asks = absurd (let x : None ≡ Some change = sym r.told ∙ asks in cc)
   may_be_made other is r within change asks = absurd (false≢true is)
+
+  -- and a row that it removes is there
+  pub removes : (m : WriteStatement) → is_at_change m ≡ true → IsRunning old s m → FitsThen old.past → IsOrdered old.past → IsInOrder old.past
+      → AreStanding old.past → (change : Change) → asked (task_of s old) ≡ Some change → RemovesOne s old.past change
+  removes (machine.Making part todo rows) is r fits ordered in-order stands change asks =
+      subst (λ (c : Change). RemovesOne s old.past c) (same_Some r.change change (sym r.asked_is ∙ asks))
+      (removes_one old.past old.writer s part (of_rest part) todo.items r.change r.changing fits ordered in-order stands)
+  removes (machine.Finishing part todo) is r fits ordered in-order stands change asks = absurd (let x : None ≡ Some change = sym r.told ∙ asks in cc)
+  removes other is r fits ordered in-order stands change asks = absurd (false≢true is)
 
   pub change_went : (m : WriteStatement) (answer : Changed) → is_at_change m ≡ true → IsRunning old s m → answer ≡ stepped.Went → Changes s old new answer
       → Steps IsRunning s old new m advance.Went

@@ -51,6 +51,7 @@ use Rattle.sql_plan.specs.Plans.{whole_index}
 use Rattle.inno_types.specs.Ranges.{is_within}
 use Rattle.sql_plan.specs.Visits.{index_key, IsRowOf}
 use Rattle.sql_lists.specs.Kept.{AreStanding, AreInOrder, IsInOrder, made}
+use Rattle.sql_lists.proofs.Standing.{schemas_after}
 use Rattle.write_statement.specs.declared.machine.Part.{Part}
 use Rattle.sql_plan.specs.Planning.{Covers, HoldsKeys, HoldsMatches}
 use Rattle.sql_plan.proofs.Inserting.{other_keys}
@@ -58,13 +59,6 @@ use Rattle.write_statement.specs.Running.{IsFound, AreEnough, IsChanging}
 use Rattle.write_statement.proofs.Changed.{current_changed}
 
 -- ---- the same rows, whether later tables are there or not
-
-schemas_after : (db : Database) (changes : List Change) → (changed db changes).schemas ≡ db.schemas ++ made changes
-schemas_after db [] = sym (append-nil db.schemas)
-schemas_after db (Create schema ∷ changes) =
-    ap (λ (schemas : List Schema). schemas ++ schema ∷ []) (schemas_after db changes) ∙ append_assoc db.schemas (made changes) (schema ∷ [])
-schemas_after db (Put table row ∷ changes) = schemas_after db changes
-schemas_after db (Remove table key ∷ changes) = schemas_after db changes
 
 module _ (db : Database) (tables : List Schema) where
   key_same : (more : List Schema) (earlier : List Change) (table : ℕ) (row : List Value) → tables ≡ (db.schemas ++ made earlier) ++ more
@@ -98,13 +92,15 @@ module _ (past : List Event) (s : ℕ) (stands : AreStanding past) where
   pub tables_now : created past ≡ (current s past).schemas
   tables_now = stands.tables s
 
-  rows_are : IsInOrder past → (table : ℕ) → rows_of table (changed (with_all_tables past) (seen past s (commits past))) ≡ rows_of table (current s past)
-  rows_are in-order table =
+  pub same_map : IsInOrder past → (changed (with_all_tables past) (seen past s (commits past))).rows ≡ (current s past).rows
+  same_map in-order =
       let is : created past ≡ ((opening past).schemas ++ made (seen past s (commits past))) ++ [] =
       tables_now ∙ (schemas_after (opening past) (seen past s (commits past)) ∙ sym
       (append-nil ((opening past).schemas ++ made (seen past s (commits past))))) in
-      ap (λ (rows : RowMap). rows_of table (record { schemas = []; rows = rows }))
-      (rows_same (opening past) (created past) [] (seen past s (commits past)) is (in-order s))
+      rows_same (opening past) (created past) [] (seen past s (commits past)) is (in-order s)
+
+  rows_are : IsInOrder past → (table : ℕ) → rows_of table (changed (with_all_tables past) (seen past s (commits past))) ≡ rows_of table (current s past)
+  rows_are in-order table = ap (λ (rows : RowMap). rows_of table (record { schemas = []; rows = rows })) (same_map in-order)
 
 -- ---- they can be coded
 

@@ -10,6 +10,7 @@ pub mod Bases
 pub mod PartByPart
 pub mod Changes
 pub mod Removing
+pub mod There
 pub mod GivingUp
 pub mod Answered
 pub mod Turning

@@ -70,6 +70,8 @@ pub fn step_change<L: SharedLists>(
     ensures steps { Steps IsRunning session lists.old lists.new statement.new result }
     ensures nears { Nears to_go session lists.old statement.old lists.new statement.new result }
 {
+    // that the row of a removal is there follows from what the lists say of their history
+    let _ = lists.lists();
     match lists.change(session) {
         Stepped::Went => Advance::Went,
         Stepped::Done(ChangePart::Record) => {

@@ -23,16 +23,16 @@ pub returns-in-Went-clause-nears : goal.returns-in-Went-clause-nears
 returns-in-Went-clause-nears g c =
     rw (c.requires.searching.1) (search_nears 6 c.args.session c.args.lists.now c.search.new.self (c.in-Went.ensures.nears refl))
 
-pub returns-in-Found-clause-steps : goal.returns-in-Found-clause-steps
-returns-in-Found-clause-steps g c =
+pub returns-in-Done-clause-steps : goal.returns-in-Done-clause-steps
+returns-in-Done-clause-steps g c =
     let read = c.read-stmt.result in
     let is = subst (λ (m : ReadStatement). IsRunning c.args.lists.now c.args.session m) c.read-stmt.ensures c.requires.running in
-    let found = c.in-Found.ensures.searches read.table is.plan View is.task_is in
+    let found = c.in-Done.ensures.searches read.table is.plan View is.task_is in
     search_finds c.args.session c.args.lists.now c.search.new.self read _ refl refl refl c.history.ensures.sound is found.0 found.1
 
-pub returns-in-NoMemory-clause-steps : goal.returns-in-NoMemory-clause-steps
-returns-in-NoMemory-clause-steps g c =
+pub returns-in-Hindered-clause-steps : goal.returns-in-Hindered-clause-steps
+returns-in-Hindered-clause-steps g c =
     let read = c.read-read.result in
     let is = subst (λ (m : ReadStatement). IsRunning c.args.lists.now c.args.session m) c.read-read.ensures c.requires.running in
     fails c.args.session c.args.lists.now c.search.new.self read.stmt read.alone
-    (c.in-NoMemory.ensures.searches read.table is.plan View is.task_is) is.early is.is_open
+    (c.in-Hindered.ensures.searches read.table is.plan View is.task_is) is.early is.is_open

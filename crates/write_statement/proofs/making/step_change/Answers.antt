@@ -1,4 +1,6 @@
-use Rattle.write_statement.proofs.Entering.{at_change, may_be_made, change_went, change_entered, change_done, change_fails}
+use Rattle.std.proofs.Common.{ap, ◌∙◌}
+use Rattle.store_api.specs.declared.stepped.Stepped.TheVariants.{Done}
+use Rattle.write_statement.proofs.Entering.{at_change, may_be_made, removes, change_went, change_entered, change_done, change_fails}
 use Rattle.write_statement.proofs.making.step_change.Goals as goal
 
 pub change-requires : goal.change-requires
@@ -13,6 +15,8 @@ change-requires g c =
       changing = now.2;
       alone = now.1;
       may = may_be_made s old old m c.requires.changing c.requires.running c.requires.within;
+      removes = removes s old old m c.requires.changing c.requires.running c.lists.ensures.fits c.lists.ensures.sound c.lists.ensures.ordered
+          c.lists.ensures.tables;
     }
 
 pub returns-in-Went-clause-steps : goal.returns-in-Went-clause-steps
@@ -20,18 +24,19 @@ returns-in-Went-clause-steps g c =
     change_went c.args.session c.args.lists.now c.change.new.self c.args.statement.now c.change.result c.requires.changing c.requires.running
     c.in-Went.is c.change.ensures.changes
 
-pub returns-in-Entered-clause-steps : goal.returns-in-Entered-clause-steps
-returns-in-Entered-clause-steps g c =
+pub returns-in-Done-Record-clause-steps : goal.returns-in-Done-Record-clause-steps
+returns-in-Done-Record-clause-steps g c =
     change_entered c.args.session c.args.lists.now c.change.new.self c.args.statement.now c.change.result c.parts-part.result.0 c.parts-part.result.1
-    c.parts-part.ensures c.requires.running c.in-Entered.is c.change.ensures.changes
+    c.parts-part.ensures c.requires.running (c.in-Done-Record.is ∙ ap Done c.in-Done-Record.field-0-is) c.change.ensures.changes
 
-pub returns-in-Done-clause-steps : goal.returns-in-Done-clause-steps
-returns-in-Done-clause-steps g c =
+pub returns-in-Done-Keys-clause-steps : goal.returns-in-Done-Keys-clause-steps
+returns-in-Done-Keys-clause-steps g c =
     change_done c.args.session c.args.lists.now c.change.new.self c.args.statement.now c.change.result
-    c.parts-part-in-Done.result.0 c.parts-part-in-Done.result.1 c.parts-part-in-Done.ensures c.requires.running c.in-Done.is c.change.ensures.changes
+    c.parts-part-in-Done-Keys.result.0 c.parts-part-in-Done-Keys.result.1 c.parts-part-in-Done-Keys.ensures c.requires.running
+    (c.in-Done-Keys.is ∙ ap Done c.in-Done-Keys.field-0-is) c.change.ensures.changes
 
-pub returns-in-NoMemory-clause-steps : goal.returns-in-NoMemory-clause-steps
-returns-in-NoMemory-clause-steps g c =
+pub returns-in-Hindered-clause-steps : goal.returns-in-Hindered-clause-steps
+returns-in-Hindered-clause-steps g c =
     change_fails c.args.session c.args.lists.now c.change.new.self c.args.statement.now c.change.result
-    c.parts-part-in-NoMemory.result.0 c.parts-part-in-NoMemory.result.1 c.give_up-next.result.0 c.give_up-next.result.1
-    c.parts-part-in-NoMemory.ensures c.requires.running c.in-NoMemory.is c.change.ensures.changes c.give_up-next.ensures.state c.give_up-next.ensures.answer
+    c.parts-part-in-Hindered.result.0 c.parts-part-in-Hindered.result.1 c.give_up-next.result.0 c.give_up-next.result.1
+    c.parts-part-in-Hindered.ensures c.requires.running c.in-Hindered.is c.change.ensures.changes c.give_up-next.ensures.state c.give_up-next.ensures.answer
