@@ -12,7 +12,8 @@ use Rattle.entries.specs.{Pairs.value_of}
 use Rattle.row_versions.specs.{declared.place.Place.Place, declared.version.Version.Version}
 use Rattle.row_versions.specs.Chains.{Chains, versions_at, is_same_place, newest}
 use Rattle.row_codec.specs.Rows.{version_code}
-use Rattle.law_stored_rows.specs.{Edits.key_index, Edits.clustered_index, Entries.value_in, Entries.has_value, Entries.entry_of, Entries.TellAlike, Records.shown}
+use Rattle.law_stored_rows.specs.{Edits.key_index, Edits.clustered_index, Entries.value_in, Entries.has_value, Entries.entry_of, Entries.TellAlike}
+use Rattle.law_stored_rows.specs.{Records.shown}
 use Rattle.law_stored_rows.specs.{Tables.Said, Tables.AreCodedAs, Tables.SaysNow, Tables.SayTheSameBut, Storable.IsStorable}
 use Rattle.law_stored_rows.specs.Steps.{PutsEntry as PutsStored}
 use Rattle.row_changes.specs.{Told.HasRowsAt, Told.AreRowsAs, Edits.IsRowFor, declared.entry_put.PutPhase.PutPhase}
@@ -22,7 +23,8 @@ use Rattle.row_changes.specs.{Reached.Hindered, Pairs.Hinders, Pairs.RowsStay, P
 use Rattle.row_changes.specs.Keys.{StaysBesideKeys, gone, SaySoFar, said_next, keys_next, without_row, keys_steps, HasRowsSoFar, ChangesKeys, IsEntering}
 use Rattle.row_changes.specs.Keys.{IsChangingKeys, GoesOnWithKeys, value_stays, AreEntries, StayBetween, IsEntryIn, IsEntryFor}
 use Rattle.row_changes.specs.Entries.{marked, unmarked, PutsEntry, GoesOnPutting, HindersEntry, put_steps}
-use Rattle.law_stored_rows.proofs.{Pairs.no_key, Values.same_place, Values.place_itself, Values.same_value, Values.value_itself, Values.entry_there, Coding.short_entries}
+use Rattle.law_stored_rows.proofs.{Pairs.no_key, Values.same_place, Values.place_itself, Values.same_value, Values.value_itself, Values.entry_there}
+use Rattle.law_stored_rows.proofs.{Coding.short_entries}
 use Rattle.law_stored_rows.proofs.Steps.{old_marked, new_put, first_put}
 use Rattle.law_stored_rows.proofs.{Coding.value_in-kind, Keys.now_says, Keys.others_say, Keys.lag_says, Keys.said_alike, Keys.change_over}
 use Rattle.law_stored_rows.proofs.Entries.{is_unmarked, value_again, without_row as tells_no_row}
