@@ -3,6 +3,7 @@
 ghost use Rattle.std.specs.Prelude.{◌≡◌};
 ghost use Rattle.row_changes.specs.Entries.{IsPutting, PutsEntry};
 ghost use Rattle.row_changes.specs.Awaited.{AwaitsAt};
+ghost use Rattle.store_api.specs.declared.stepped.Stepped.TheVariants.{Went};
 ghost use Rattle.row_changes.specs.InPlace.{reached_at};
 
 use inno_types::Bytes;
@@ -73,7 +74,7 @@ impl EntryPut {
     }
 
     fn then(&mut self, phase: PutPhase) -> Stepped<(), Move>
-        ensures went { result ≡ Came.Went }
+        ensures went { result ≡ Went }
         ensures then { self.new ≡ record self.old { phase = phase } }
     {
         self.phase = phase;

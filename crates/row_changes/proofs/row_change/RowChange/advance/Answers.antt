@@ -5,14 +5,14 @@ abbrev pub returns-in-Went-clause-changes : goal.returns-in-Went-clause-changes
 returns-in-Went-clause-changes g c =
     λ chains beside p. record_went c.args.s chains beside _ c.in-Record.is p c.step.new.self c.in-Went.ensures.changes
 
-abbrev pub returns-in-Recorded-clause-changes : goal.returns-in-Recorded-clause-changes
-returns-in-Recorded-clause-changes g c = λ chains beside p.
+abbrev pub returns-in-Done-clause-changes : goal.returns-in-Done-clause-changes
+returns-in-Done-clause-changes g c = λ chains beside p.
     rw c.replace.ensures.after
-    (record_recorded c.args.s chains beside _ c.in-Record.is p c.in-Recorded.before c.keys_of-next.result c.keys_of-next.ensures c.in-Recorded.ensures.changes)
+    (record_recorded c.args.s chains beside _ c.in-Record.is p c.in-Done.before c.keys_of-next.result c.keys_of-next.ensures c.in-Done.ensures.changes)
 
-pub returns-in-Recorded-clause-awaits : goal.returns-in-Recorded-clause-awaits
-returns-in-Recorded-clause-awaits g c =
-    record_awaits_at _ _ _ _ _ _ _ _ _ c.in-Record.is c.requires.2 c.in-Recorded.ensures.awaits
+pub returns-in-Done-clause-awaits : goal.returns-in-Done-clause-awaits
+returns-in-Done-clause-awaits g c =
+    record_awaits_at _ _ _ _ _ _ _ _ _ c.in-Record.is c.requires.2 c.in-Done.ensures.awaits
 
 abbrev pub returns-in-Hindered-clause-changes : goal.returns-in-Hindered-clause-changes
 returns-in-Hindered-clause-changes g c =
