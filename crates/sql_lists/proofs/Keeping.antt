@@ -1,6 +1,6 @@
 -- Each entry keeps the history legal, and what is kept beside it in agreement.
 use Rattle.std.proofs.Common.{◌≡◌, ◌≢◌, ℕ, ◌+◌, ◌-◌, ◌<◌, ◌≤◌, true, false, cond, eqb, Option, Some, None, List, [], ◌∷◌, ◌++◌, length, get_or, set, refl}
-use Rattle.std.proofs.Common.{absurd, sym, ap, subst, ◌∙◌, inl, inr, arith}
+use Rattle.std.proofs.Common.{sym, ap, subst, ◌∙◌, inl, inr, arith}
 use Rattle.std.proofs.lemmas.Bool.Decides.{nat_tests, eqb_tells}
 use Rattle.std.proofs.lemmas.List.{length-set, length-append}
 use Rattle.std.proofs.lemmas.List.Sums.{sum_by-cons}
@@ -18,14 +18,13 @@ use Rattle.sql_history.specs.Legal.{MayFollow, PaysCommit, MayBegin, MayView, Ma
 use Rattle.sql_history.specs.Legal.{EndsBy, owed_by, owes_commit}
 use Rattle.law_past_agreement.specs.Order.{created, IsOfRow, IsTabled, IsUndoable, MayCome}
 use Rattle.law_past_agreement.proofs.Ids.{ids_of}
-use Rattle.sql_plan.specs.declared.choice.Plan.{Plan}
 use Rattle.shared_lists.specs.Answers.{Changed}
 use Rattle.shared_lists.specs.declared.answers.ChangePart.TheVariants as part
 use Rattle.shared_lists.specs.Answers.{Undone}
 use Rattle.store_api.specs.declared.stepped.Stepped.TheVariants as stepped
 use Rattle.shared_lists.specs.Tasks.{Task, Idle, asked}
-use Rattle.shared_lists.specs.State.{State, Lists, IsFirst, IsNow, Adds, Closes, Turns, Stays, task_of, writer_without}
-use Rattle.shared_lists.specs.Steps.{Searches, Changes, TakesBack, rows_of_change, rows_entered}
+use Rattle.shared_lists.specs.State.{State, Lists, IsFirst, IsNow, Adds, Closes, Stays, task_of, writer_without}
+use Rattle.shared_lists.specs.Steps.{Changes, TakesBack, rows_of_change, rows_entered}
 use Rattle.sql_lists.specs.Tables.{MayMake, begun, created_by, table_made, none_made}
 use Rattle.sql_lists.specs.Kept.{IsKept, MayReply, is_of_signal, OwesAck, SetsQuietly, AreStanding, IsInOrder, made as tables_made}
 use Rattle.sql_lists.proofs.Settings.{AllSet, set_other, sets_one, sets_none, sets_joined, set_at_begin, set_at_commit, set_at_rollback, set_at_end}
@@ -39,7 +38,6 @@ use Rattle.inno_types.specs.{declared.value.Schema.Schema, declared.stmt.Stmt.St
 use Rattle.inno_types.specs.{declared.stmt.LevelScope.TheVariants.NextTransaction, declared.reply.Item.Item, declared.reply.Reply.Reply}
 use Rattle.inno_db.specs.{declared.change.Change.Change, declared.change.Change.TheVariants.Create, declared.change.Change.TheVariants.Put}
 use Rattle.inno_db.specs.{declared.change.Change.TheVariants.Remove, declared.limits.TheConstants.MOST_TABLES}
-use Rattle.shared_lists.specs.{declared.answers.Reading.Reading, Answers.Searched}
 use Rattle.sql_lists.proofs.{Moving.then_now, Staying.own_of}
 
 cons_is_some : (e : Event) (h : List Event) → e ∷ h ≡ [] → ⊥
@@ -358,13 +356,6 @@ pub by_begin : {X Y : Type 0} (result : Result X Y) (e : Event) (s : ℕ) (old n
 by_begin (Ok x) e s old new settings ok err sets unset counts before after = by_now old new ok sets counts after
 by_begin (Err x) e s old new settings ok err sets unset counts before after = by_now old new err unset counts before
 
--- a search, or a change, that is begun or not
-pub by_turn : {X Y : Type 0} (result : Result X Y) (s : ℕ) (task : Task) (old new : Lists)
-    → OnOk result (Turns s task old.state new.state) → OnErr result (Stays s old.state new.state) → new.settings ≡ old.settings → new.rows ≡ old.rows →
-    AreKept old → AreKept new
-by_turn (Ok x) s task old new ok err sets counts before = by_now old new ok sets counts before
-by_turn (Err x) s task old new ok err sets counts before = by_now old new err sets counts before
-
 pub by_join : {X Y : Type 0} (result : Result X Y) (name : List ℕ) (old new : Lists)
     → OnOk result (new.state.names ≡ old.state.names ++ name ∷ []) → new.state.past ≡ old.state.past → OnOk result
     (new.settings ≡ old.settings ++ at_first ∷ []) → new.rows ≡ old.rows
@@ -407,13 +398,6 @@ pub by_undo : (s : ℕ) (old new : Lists) (answer : Undone) → MayUndo Spells s
 by_undo s old new stepped.Went may undoable takes sets counts kept = by_now old new takes.0 sets counts kept
 by_undo s old new (stepped.Hindered never) may undoable takes sets counts kept = absurd takes
 by_undo s old new (stepped.Done over) may undoable takes sets counts kept = by_now old new takes sets counts (kept_undo kept s may undoable)
-
--- the session's search makes a step
-pub by_search : (s table : ℕ) (plan : Plan) (reading : Reading) (old new : Lists) (answer : Searched)
-    → Searches table plan reading s old.state new.state answer → new.settings ≡ old.settings → new.rows ≡ old.rows → AreKept old → AreKept new
-by_search s table plan reading old new stepped.Went searches sets counts kept = by_now old new searches sets counts kept
-by_search s table plan reading old new (stepped.Done rows) searches sets counts kept = by_now old new searches.0 sets counts kept
-by_search s table plan reading old new (stepped.Hindered why) searches sets counts kept = by_now old new searches sets counts kept
 
 -- an item ends, after what it set was set
 pub by_setting : (s : ℕ) (stmt : Stmt) (x : Setting) (old mid new : Lists) → s < length old.state.names → MayReply s replies.Done old.state.past

@@ -1,6 +1,6 @@
 -- What the calls of the lists do to what all sessions share, as steps of statements say it.
 use Rattle.std.proofs.Common.{◌≡◌, ◌≢◌, ◌⊎◌, ℕ, ◌+◌, ◌<◌, ◌-◌, true, false, Option, Some, None, List, [], ◌∷◌, ◌++◌, length, refl, sym, ap, subst, ◌∙◌, inl}
-use Rattle.std.proofs.Common.{absurd, inr, arith}
+use Rattle.std.proofs.Common.{inr, arith}
 use Rattle.std.proofs.lemmas.Bool.Decides.{nat_tests, eqb_tells}
 use Rattle.std.specs.List.{AllByRecursion}
 use Rattle.std.proofs.lemmas.Bool.{false≢true}
@@ -9,20 +9,16 @@ use Rattle.inno_model.specs.declared.event.Event.{Event}
 use Rattle.inno_model.specs.declared.event.Event.TheVariants as events
 use Rattle.inno_model.specs.Past.{is_of, own, begins}
 use Rattle.inno_db.specs.declared.change.Change.TheVariants.{Create}
-use Rattle.sql_plan.specs.declared.choice.Plan.{Plan}
-use Rattle.shared_lists.specs.Answers.{Changed}
-use Rattle.shared_lists.specs.declared.answers.ChangePart.TheVariants as part
 use Rattle.shared_lists.specs.Answers.{Undone}
 use Rattle.store_api.specs.declared.stepped.Stepped.TheVariants as stepped
-use Rattle.shared_lists.specs.Tasks.{Task, Idle, asked, left_by}
+use Rattle.shared_lists.specs.Tasks.{Task, Idle, asked}
 use Rattle.shared_lists.specs.State.{State, IsNow, Adds, Closes, Turns, Stays, task_of, places_before, counted, writer_without}
-use Rattle.shared_lists.specs.Steps.{Searches, GoesOn, Enters, Changes, TakesBack}
+use Rattle.shared_lists.specs.Steps.{GoesOn, Enters, TakesBack}
 use Rattle.law_past_agreement.specs.Order.{IsNoOthers}
 use Rattle.sql_grammar.specs.Grammar.{Spells}
 use Rattle.sql_lists.specs.Steps.{Adding, IsEntryOf, MayWriteAlone, AsksToWrite, Moves, StaysRunning, Intends, is_apart, changes_rows, TellsOne}
 use Rattle.inno_types.specs.Order.{IsBelow}
 use Rattle.inno_types.specs.{declared.lock.Level.Level, declared.stmt.Stmt.Stmt, declared.value.Schema.Schema}
-use Rattle.shared_lists.specs.{declared.answers.Reading.Reading, Answers.Searched}
 use Rattle.sql_history.specs.{Legal.Takes, Legal.IsCreation, Counts.last_moment}
 use Rattle.sql_lists.specs.{Tables.table_made, Tables.none_made, Going.left, Going.to_close, Going.to_roll_back, Going.to_search}
 
@@ -228,12 +224,6 @@ module _ (t : ℕ) (l : Level) (old new : State) (free : old.writer ≡ None) wh
 
 -- ---- the steps of a session's task
 
-pub moves_searches : (t table : ℕ) (plan : Plan) (reading : Reading) (old new : State) (answer : Searched) → Searches table plan reading t old new answer
-    → Moves t old new
-moves_searches t table plan reading old new stepped.Went searches = moves_turns t (task_of t old) old new searches
-moves_searches t table plan reading old new (stepped.Done rows) searches = moves_turns t Idle old new searches.0
-moves_searches t table plan reading old new (stepped.Hindered why) searches = moves_turns t Idle old new searches
-
 pub moves_goes_on : (t : ℕ) (old new : State) → GoesOn t old new → Moves t old new
 moves_goes_on t old new goes = moves_turns t (task_of t new) old new goes.turns
 
@@ -241,12 +231,6 @@ pub moves_enters : (t : ℕ) (old new : State) → old.writer ≡ Some t → Ent
 moves_enters t old new locked enters =
     moves_entry t (events.Changed t enters.change) (task_of t new) old new (grind (arith, nat_tests)) refl (λ changes. (locked, inl enters.asked_was))
     enters.now
-
-pub moves_changes : (t : ℕ) (old new : State) (answer : Changed) → old.writer ≡ Some t → Changes t old new answer → Moves t old new
-moves_changes t old new stepped.Went locked changes = moves_goes_on t old new changes
-moves_changes t old new (stepped.Done part.Record) locked changes = moves_enters t old new locked changes
-moves_changes t old new (stepped.Done part.Keys) locked changes = moves_turns t Idle old new changes.1
-moves_changes t old new (stepped.Hindered why) locked changes = moves_turns t (left_by (asked (task_of t old))) old new changes
 
 pub moves_takes_back : (t keep : ℕ) (old new : State) (answer : Undone) → TakesBack t keep old new answer → Moves t old new
 moves_takes_back t keep old new stepped.Went takes = moves_turns t (task_of t new) old new takes.0

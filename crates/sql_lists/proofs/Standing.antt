@@ -1,5 +1,5 @@
 -- Which tables stand for a session, as entries come: a table is made and committed in one step.
-use Rattle.std.proofs.Common.{◌≡◌, ◌≢◌, ℕ, ◌+◌, ◌-◌, ◌<◌, ◌≤◌, Bool, true, false, cond, eqb, List, [], ◌∷◌, ◌++◌, length, drop, refl, sym, ap, subst, ◌∙◌}
+use Rattle.std.proofs.Common.{◌≡◌, ℕ, ◌+◌, ◌-◌, ◌<◌, ◌≤◌, Bool, true, false, cond, eqb, List, [], ◌∷◌, ◌++◌, length, drop, refl, sym, ap, subst, ◌∙◌}
 use Rattle.std.proofs.Common.{inl, inr, arith}
 use Rattle.std.proofs.lemmas.Bool.Decides.{nat_tests, eqb_tells}
 use Rattle.std.proofs.lemmas.Bool.{false≢true}
@@ -24,7 +24,7 @@ schemas_after db (Create schema ∷ changes) =
 schemas_after db (Put table row ∷ changes) = schemas_after db changes
 schemas_after db (Remove table key ∷ changes) = schemas_after db changes
 
-made_append : (xs ys : List Change) → made (xs ++ ys) ≡ made ys ++ made xs
+pub made_append : (xs ys : List Change) → made (xs ++ ys) ≡ made ys ++ made xs
 made_append [] ys = sym (append-nil (made ys))
 made_append (Create schema ∷ xs) ys = ap (λ schemas. schemas ++ schema ∷ []) (made_append xs ys) ∙ append_assoc (made ys) (made xs) (schema ∷ [])
 made_append (Put table row ∷ xs) ys = made_append xs ys

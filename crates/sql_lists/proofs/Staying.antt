@@ -1,15 +1,12 @@
 -- What an entry of another session, or one's own within an item, leaves as it was: for the definitions of SQL's histories.
-use Rattle.std.proofs.Common.{◌≡◌, ◌≢◌, ℕ, ◌+◌, ◌≤◌, Bool, true, false, cond, eqb, List, [], ◌∷◌, refl, ap, ◌∙◌, inr, arith}
+use Rattle.std.proofs.Common.{◌≡◌, ◌≢◌, ℕ, ◌+◌, ◌≤◌, Bool, true, false, cond, eqb, List, [], ◌∷◌, refl, ap, arith}
 use Rattle.std.proofs.lemmas.Bool.Decides.{nat_tests}
 use Rattle.std.specs.List.{list_any}
-use Rattle.inno_types.specs.declared.stmt.Stmt.{Stmt}
 use Rattle.inno_model.specs.declared.event.Event.{Event}
 use Rattle.inno_model.specs.declared.event.Event.TheVariants as events
 use Rattle.inno_model.specs.Past.{is_of, under_way, before_item, closes, own, commits, committed, opening}
 use Rattle.inno_model.specs.Moments.{starts}
-use Rattle.sql_grammar.specs.Grammar.{Spells}
 use Rattle.sql_history.specs.Items.{of_turn, is_over, point, before_turn, own_before}
-use Rattle.sql_history.specs.Legal.{Takes}
 use Rattle.law_past_agreement.specs.Order.{IsNoOthers}
 
 -- an entry of one session is no other's
@@ -73,16 +70,6 @@ module _ (e : Event) (h : List Event) (s : ℕ) (within : is_within s e ≡ true
 
   pub starts_not : starts s e ≡ false
   starts_not = grind (arith, nat_tests, within)
-
-  -- what the item asks for, and what its session had set before
-  pub takes_within : (stmt : Stmt) → Takes Spells s stmt h → Takes Spells s stmt (e ∷ h)
-  takes_within stmt takes =
-      record {
-        asks = (takes.asks.0, item_within ∙ takes.asks.1, takes.asks.2);
-        setting = takes.setting;
-        is_set = rw before_within takes.is_set;
-        not_refused = inr (starts_not, takes.not_refused);
-      }
 
 pub within_of_other : (e : Event) (s : ℕ) → is_of s e ≡ false → is_within s e ≡ true
 within_of_other e s other = grind (arith, nat_tests, other)

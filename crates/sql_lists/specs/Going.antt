@@ -1,6 +1,6 @@
 -- A step that went, or that found no memory, brings its statement nearer to its end, by a list of numbers that gets smaller.
 use Rattle.std.specs.Prelude.{ℕ, if◌then◌else◌, is_some, List, [], ◌∷◌, length}
-use Rattle.inno_model.specs.{declared.event.Event.Event, Past.level, Past.own, Past.view_of}
+use Rattle.inno_model.specs.{declared.event.Event.Event, Past.level, Past.own}
 use Rattle.shared_lists.specs.{Tasks.undo_to_go, State.State, State.task_of, State.places_before}
 use Rattle.inno_types.specs.Order.{IsBelow}
 use Rattle.sql_lists.specs.declared.advance.Advance.{Advance}
@@ -10,17 +10,9 @@ use Rattle.sql_lists.specs.declared.advance.Advance.TheVariants as advance
 abbrev pub left : ℕ → ℕ → ℕ → ℕ → List ℕ
 left phases first second third = phases ∷ first ∷ second ∷ third ∷ 0 ∷ 0 ∷ 0 ∷ 0 ∷ 0 ∷ 0 ∷ 0 ∷ 0 ∷ 0 ∷ 0 ∷ 0 ∷ []
 
--- a transaction that is yet to be opened
-abbrev pub to_open : ℕ → List Event → ℕ
-to_open s past = if is_some (level s past) then 0 else 1
-
 -- a transaction that is yet to be closed
 abbrev pub to_close : ℕ → List Event → ℕ
 to_close s past = if is_some (level s past) then 1 else 0
-
--- a view that is yet to be taken
-abbrev pub to_view : ℕ → List Event → ℕ
-to_view s past = if is_some (view_of s past) then 0 else 1
 
 -- what a rollback has before it: its transaction's end, the changes to be taken back, and what is left of the one that is
 -- being taken back
