@@ -6,6 +6,7 @@ use Rattle.inno_model.specs.Past.{own, started, under_way, of_item, awaits_ack, 
 use Rattle.inno_model.specs.{declared.event.Event.Event, declared.event.Event.TheVariants.Opened}
 use Rattle.store_api.specs.declared.answers.Undo.{Undo}
 use Rattle.read_view.specs.Sight.{Sight as ReadSight}
+use Rattle.inno_types.specs.declared.value.Schema.{Schema}
 use Rattle.world.specs.{State.WorldState, State.Session, State.Work, State.Logged, State.Seen, State.IsSession, State.HasWork, Undoing.read_into}
 use Rattle.law_world_agreement.specs.Agreement.{Agrees, sight_of}
 use Rattle.shared_lists.specs.Fitting.{CanBeCoded, FitsThen}
@@ -15,12 +16,12 @@ use Rattle.desks.specs.Desks.{Store, desk_at, doing_at, started_at, is_quiet_doi
 use Rattle.desks.specs.{declared.desk.Desk.Desk, declared.desk.Doing.Doing, declared.desk.TableSearch.TableSearch}
 use Rattle.inno_db.specs.{Database.Database, declared.limits.TheConstants.MOST_TABLES, declared.change.Change.Change}
 use Rattle.row_versions.specs.{declared.place.Place.Place, Chains.Chains, Chains.in_model, Chains.versions_at}
-use Rattle.law_past_agreement.specs.{Rows.place_in, Agreement.IsOpenedWith}
-use Rattle.law_stored_rows.specs.Tables.{what_is_there}
+use Rattle.law_past_agreement.specs.{Rows.place_in, Rows.is_place, Agreement.IsOpenedWith}
+use Rattle.law_stored_rows.specs.Tables.{Said, TellsOfOlder}
 use Rattle.row_changes.specs.declared.row_change.RowChange.TheVariants.{Record, Keys}
-use Rattle.row_changes.specs.{Told.HasRows, Rows.IsChangingRowAlone, declared.keys_change.KeysChange.KeysChange, declared.row_change.RowChange.RowChange}
+use Rattle.row_changes.specs.{Told.HasRows, Told.AreRowsAs, Told.SaysAt, Rows.IsChangingRow, Keys.IsChangingKeys, declared.keys_change.KeysChange.KeysChange}
 use Rattle.row_search.specs.{declared.sight.Sight.Sight, declared.sight.Sight.TheVariants.View, declared.sight.Sight.TheVariants.Newest}
-use Rattle.undo_apply.specs.{declared.work_room.WorkRoom.WorkRoom, Stages.IsPuttingBack}
+use Rattle.undo_apply.specs.{declared.work_room.WorkRoom.WorkRoom, Stages.IsPuttingBack, Standing.said_but}
 use Rattle.law_logged_changes.specs.Logs.{LogsAgree}
 
 -- each place has few versions: those of this history, and not too many older ones
@@ -51,61 +52,80 @@ pub record HasRoom (state : WorldState) : Type 0 where
   pub acks : (s : ℕ) (session : Session) → IsSession s session state → awaits_ack (of_item s state.past) ≡ true → session.can_ack ≡ true
   pub ends : (s : ℕ) (session : Session) (work : Work) → HasWork s session work state → work.can_end ≡ true
 
--- ---- rows, by what who may write has under way
+-- ---- rows, by what each session has under way
 
 -- the newest change of the session is one of a row at this place, and this is its undo record
-pub record IsLast (state : WorldState) (w : ℕ) (logged : Logged) (place : Place) : Type 0 where
+pub record IsLast (state : WorldState) (s : ℕ) (logged : Logged) (place : Place) : Type 0 where
   pub session : Session
   pub work : Work
-  pub has_work : HasWork w session work state
+  pub has_work : HasWork s session work state
   pub log : List Logged
   pub log_is : work.log ≡ logged ∷ log
   pub change : Change
   pub before : List Change
-  pub own_is : own w state.past ≡ change ∷ before
+  pub own_is : own s state.past ≡ change ∷ before
   pub place_is : place_in state.schemas change ≡ Some place
 
 -- The change that its keys take over is the newest one, and the newest undo record is of the same row.
-pub record IsLastOf (state : WorldState) (w : ℕ) (change : KeysChange) : Type 0 where
+pub record IsLastOf (state : WorldState) (s : ℕ) (change : KeysChange) : Type 0 where
   pub logged : Logged
   pub place : Place
-  pub last : IsLast state w logged place
+  pub last : IsLast state s logged place
   pub table_is : place.table ≡ change.table
   pub key_is : logged.undo.key ≡ change.key
 
--- its keys lag
-pub record IsLagging (chains : Chains) (state : WorldState) (w : ℕ) : Type 0 where
-  pub change : KeysChange
-  pub changing : IsChangingRowAlone w chains state (Keys change)
-  pub newest : IsLastOf state w change
+-- what keys say of all other places, and of this one what is there
+abbrev pub settled_at : Place → Chains → Said → Said
+settled_at place chains said = said_but said place (λ which. versions_at place chains)
 
--- the same of a change that the history tells
-abbrev pub IsLastIfTold : WorldState → ℕ → RowChange → Type 0
-IsLastIfTold state w (Record change key after) = Unit {0}
-IsLastIfTold state w (Keys change) = IsLastOf state w change
+-- keys take the session's newest change over, or it was given up meanwhile
+pub record IsLagging (chains : Chains) (said : Said) (state : WorldState) (s : ℕ) (change : KeysChange) : Type 0 where
+  pub newest : IsLastOf state s change
+  pub changing : IsChangingKeys chains (settled_at newest.place chains said) state change
 
 -- it is being taken back
-pub record IsGoingBack (chains : Chains) (state : WorldState) (w : ℕ) (undo : Undo) (room : WorkRoom) : Type 0 where
+pub record IsGoingBack (chains : Chains) (said : Said) (state : WorldState) (s : ℕ) (undo : Undo) (room : WorkRoom) : Type 0 where
   pub logged : Logged
   pub place : Place
-  pub last : IsLast state w logged place
+  pub last : IsLast state s logged place
   pub undo_is : undo ≡ logged.undo
-  pub putting : IsPuttingBack chains (what_is_there chains) place undo room state
+  pub putting : IsPuttingBack chains (settled_at place chains said) place undo room state
 
-abbrev pub RowsHeld : Chains → WorldState → ℕ → Undo → WorkRoom → Doing → Type 0
-RowsHeld chains state w undo room (Changing change) = IsChangingRowAlone w chains state change × IsLastIfTold state w change
-RowsHeld chains state w undo room Lagging = IsLagging chains state w
-RowsHeld chains state w undo room Undoing = IsGoingBack chains state w undo room
-RowsHeld chains state w undo room quiet = HasRows chains state
+-- what the session knows of the row that it is at work on
+abbrev pub RowHeld : Chains → Said → WorldState → ℕ → Undo → WorkRoom → Doing → Type 0
+RowHeld chains said state s undo room (Changing (Record change key after)) = IsChangingRow s chains said state (Record change key after)
+RowHeld chains said state s undo room (Changing (Keys change)) = IsLagging chains said state s change
+RowHeld chains said state s undo room Lagging = (change : KeysChange) × IsLagging chains said state s change
+RowHeld chains said state s undo room Undoing = IsGoingBack chains said state s undo room
+RowHeld chains said state s undo room quiet = Unit {0}
 
--- as the session at this desk holds them
-abbrev pub RowsHeldAt : Chains → WorldState → ℕ → Option Desk → Type 0
-RowsHeldAt chains state w None = HasRows chains state
-RowsHeldAt chains state w (Some desk) = RowsHeld chains state w (read_into desk.undo) desk.room desk.doing
+-- by what lies at its desk
+abbrev pub RowHeldAt : Chains → Said → WorldState → ℕ → Option Desk → Type 0
+RowHeldAt chains said state s None = Unit {0}
+RowHeldAt chains said state s (Some desk) = RowHeld chains said state s (read_into desk.undo) desk.room desk.doing
 
-abbrev pub RowsHeldBy : Option ℕ → Chains → WorldState → List Desk → Type 0
-RowsHeldBy None chains state desks = HasRows chains state
-RowsHeldBy (Some w) chains state desks = RowsHeldAt chains state w (desk_at w desks)
+-- the place of the newest of these changes
+abbrev pub newest_place : List Schema → List Change → Option Place
+newest_place schemas [] = None
+newest_place schemas (change ∷ before) = place_in schemas change
+
+-- the place at which the session's keys lag: that of its newest change
+abbrev pub lags_in : WorldState → ℕ → Doing → Option Place
+lags_in state s (Changing (Keys change)) = newest_place state.schemas (own s state.past)
+lags_in state s Lagging = newest_place state.schemas (own s state.past)
+lags_in state s Undoing = newest_place state.schemas (own s state.past)
+lags_in state s other = None
+
+abbrev pub lags_at : Place → WorldState → List Desk → ℕ → Bool
+lags_at place state desks s = is_place place (lags_in state s (doing_at s desks))
+
+-- The keys say one thing of each place, whoever looks: what is there, or where they lag, all that is there but the newest.
+pub record RowsHeld (chains : Chains) (state : WorldState) (desks : List Desk) : Type 0 where
+  pub said : Said
+  pub coded : AreRowsAs chains said state
+  pub each : (s : ℕ) → RowHeldAt chains said state s (desk_at s desks)
+  pub lagging : (s : ℕ) (place : Place) → lags_at place state desks s ≡ true → TellsOfOlder place chains said
+  pub settled : (place : Place) → ((s : ℕ) → lags_at place state desks s ≡ false) → SaysAt place chains said
 
 -- ---- searches
 
@@ -152,7 +172,7 @@ pub record IsHeld (store : Store) : Type 0 where
   pub agrees : Agrees chains store.world
   pub fits : FitsThen store.world.past
   pub writes : WriterAgrees store.world.past store.writer
-  pub rows : RowsHeldBy store.writer chains store.world store.desks
+  pub rows : RowsHeld chains store.world store.desks
   pub quiet : (s : ℕ) → store.writer ≢ Some s → is_quiet_doing (doing_at s store.desks) ≡ true
   pub searches : (s : ℕ) → SearchHeld chains store s (doing_at s store.desks)
   pub logs : LogsAgree store.world
