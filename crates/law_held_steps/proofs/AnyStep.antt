@@ -1,6 +1,6 @@
 -- What holds of the lists after a step of one session, whatever step it is. What the others have is said here once: their
 -- desks, searches, rooms and rows.
-use Rattle.std.proofs.Common.{◌≡◌, ◌≢◌, ⊎_elim, inl, inr, ℕ, ◌==◌, Bool, false, cond, eq-eqb, ◌≤◌, true, List, ◌∷◌, length, Option, Some, None, refl, sym, ap}
+use Rattle.std.proofs.Common.{◌≡◌, ◌≢◌, ◌⊎◌, ⊎_elim, inl, inr, ℕ, ◌==◌, Bool, false, cond, eq-eqb, ◌≤◌, true, List, ◌∷◌, length, Option, Some, None, refl, sym, ap}
 use Rattle.std.proofs.Common.{[], subst, ◌∙◌, arith}
 use Rattle.std.proofs.lemmas.Bool.{cases_eq, false≢true}
 use Rattle.std.specs.Prelude.{slice_get, is_some}
@@ -8,26 +8,26 @@ use Rattle.inno_types.specs.declared.value.Schema.{Schema}
 use Rattle.inno_model.specs.{declared.event.Event.Event, Past.own, Past.started, Past.under_way, Past.of_item, Past.awaits_ack, Past.level, Past.IsOpen}
 use Rattle.inno_model.proofs.Untouched.{IsUntouched, untouched}
 use Rattle.store_api.specs.declared.answers.Undo.{Undo}
-use Rattle.law_past_agreement.specs.Rows.{place_in}
+use Rattle.law_past_agreement.specs.Rows.{place_in, is_place}
 use Rattle.world.specs.State.{WorldState, Session, Work, Logged, IsSession, HasWork}
-use Rattle.world.specs.{Told.IsTold, Told.LeavesRows, Undoing.read_into}
+use Rattle.world.specs.{Told.IsTold, Told.LeavesRows, Told.pairs_of, Undoing.read_into}
 use Rattle.law_world_agreement.specs.Agreement.{Agrees}
 use Rattle.undo_apply.proofs.Goes.{others_leave}
-use Rattle.law_stored_rows.specs.Tables.{what_is_there}
+use Rattle.law_stored_rows.specs.Tables.{Said, AreCoded, what_is_there}
 use Rattle.shared_lists.specs.Fitting.{FitsThen}
 use Rattle.law_found_rows.specs.Pasts.{AddsAtMostOne}
 use Rattle.law_found_rows.proofs.Seen.{other_of}
 use Rattle.desks.specs.declared.desk.Doing.TheVariants.{Nothing, Searching, Changing, Lagging, Undoing}
-use Rattle.desks.specs.Holding.{AreFew, IsLast, IsLastIfTold, RowsHeld, RowsHeldAt, RowsHeldBy, SearchHeld, IsHeld}
+use Rattle.desks.specs.Holding.{AreFew, IsLast, IsLastOf, IsLagging, RowHeld, RowHeldAt, RowsHeld, SearchHeld, IsHeld, settled_at, newest_place, lags_in, lags_at}
 use Rattle.desks.specs.Desks.{Store, desk_at, doing_in, doing_at, started_in, started_at, is_quiet_doing, HasRooms}
 use Rattle.desks.specs.{declared.desk.Desk.Desk, declared.desk.Doing.Doing, Leaves.Does}
 use Rattle.desks.proofs.Leaving.{search_left}
 use Rattle.row_versions.specs.{Versions.Stays, declared.place.Place.Place, Chains.Chains}
 use Rattle.row_changes.specs.declared.row_change.RowChange.TheVariants.{Record, Keys}
-use Rattle.row_changes.specs.{Told.HasRows, declared.row_change.RowChange.RowChange}
+use Rattle.row_changes.specs.declared.keys_change.KeysChange.{KeysChange}
 use Rattle.undo_apply.specs.declared.work_room.WorkRoom.{WorkRoom}
 use Rattle.law_logged_changes.specs.{Logs.IsLogOf, Logs.LogsAgree, Steps.ChangesPairsAlone}
-use Rattle.law_logged_changes.proofs.Leaving.{work_beside, agrees_beside, has_rows_left, change_left}
+use Rattle.law_logged_changes.proofs.Leaving.{work_beside, agrees_beside, rows_left, change_left}
 
 pub some_same : {X : Type 0} (a b : X) → Some a ≡ Some b → a ≡ b
 some_same a b same = cc
@@ -75,70 +75,114 @@ last_log {s} {state} agree last =
     subst (λ (log : List Logged). IsLogOf state log (last.change ∷ last.before)) last.log_is
     (subst (IsLogOf state last.work.log) last.own_is (agree.each s last.session last.work last.has_work))
 
--- rows as a session holds them that is left as it was
-module _ (w : ℕ) {chains : Chains} {old new : WorldState} (leaves : LeavesRows old new) (agrees : Agrees chains new)
-    (session : slice_get new.sessions w ≡ slice_get old.sessions w) (own_is : own w new.past ≡ own w old.past) where
-  newest_left : (change : RowChange) → IsLastIfTold old w change → IsLastIfTold new w change
-  newest_left (Record change key after) is = is
-  newest_left (Keys change) is = record {
+-- what a session knows of its row that is left as it was
+module _ (s : ℕ) {chains : Chains} {old new : WorldState} (leaves : LeavesRows old new) (agrees : Agrees chains new)
+    (session : slice_get new.sessions s ≡ slice_get old.sessions s) (own_is : own s new.past ≡ own s old.past) where
+  abbrev pub last_of_left : {change : KeysChange} → IsLastOf old s change → IsLastOf new s change
+  last_of_left is = record {
     logged = is.logged;
     place = is.place;
-    last = last_left w leaves.schemas session own_is is.last;
+    last = last_left s leaves.schemas session own_is is.last;
     table_is = is.table_is;
     key_is = is.key_is;
   }
 
-  pub rows_left : (undo : Undo) (room : WorkRoom) (doing : Doing) → RowsHeld chains old w undo room doing → RowsHeld chains new w undo room doing
-  rows_left undo room Nothing rows = has_rows_left old new leaves chains rows
-  rows_left undo room (Searching on) rows = has_rows_left old new leaves chains rows
-  rows_left undo room (Changing change) rows = (
-    change_left old new leaves w chains (what_is_there chains) change rows.0 session agrees,
-    newest_left change rows.1,
-  )
-  rows_left undo room Lagging rows = record {
-    change = rows.change;
-    changing = change_left old new leaves w chains (what_is_there chains) (Keys rows.change) rows.changing session agrees;
-    newest = newest_left (Keys rows.change) rows.newest;
-  }
-  rows_left undo room Undoing rows = record {
-    logged = rows.logged;
-    place = rows.place;
-    last = last_left w leaves.schemas session own_is rows.last;
-    undo_is = rows.undo_is;
-    putting = others_leave chains (what_is_there chains) rows.place undo room old new rows.putting leaves;
+  lagging_left : {said : Said} {change : KeysChange} → IsLagging chains said old s change → IsLagging chains said new s change
+  lagging_left {said} {change} is = record {
+    newest = last_of_left is.newest;
+    changing = change_left old new leaves s chains (settled_at is.newest.place chains said) (Keys change) is.changing session agrees;
   }
 
-  pub rows_left_at : (desk : Option Desk) → RowsHeldAt chains old w desk → RowsHeldAt chains new w desk
-  rows_left_at None rows = has_rows_left old new leaves chains rows
-  rows_left_at (Some desk) rows = rows_left (read_into desk.undo) desk.room desk.doing rows
+  row_left : (said : Said) (undo : Undo) (room : WorkRoom) (doing : Doing) → RowHeld chains said old s undo room doing → RowHeld chains said new s undo room doing
+  row_left said undo room Nothing row = row
+  row_left said undo room (Searching on) row = row
+  row_left said undo room (Changing (Record change key after)) row = change_left old new leaves s chains said (Record change key after) row session agrees
+  row_left said undo room (Changing (Keys change)) row = lagging_left row
+  row_left said undo room Lagging row = (row.0, lagging_left row.1)
+  row_left said undo room Undoing row = record {
+    logged = row.logged;
+    place = row.place;
+    last = last_left s leaves.schemas session own_is row.last;
+    undo_is = row.undo_is;
+    putting = others_leave chains (settled_at row.place chains said) row.place undo room old new row.putting leaves;
+  }
 
--- rows as who may write holds them
-pub rows_by_writer : (s : ℕ) {writer : Option ℕ} (chains : Chains) (state : WorldState) (desks : List Desk) → writer ≡ Some s → {desk : Desk}
-    → desk_at s desks ≡ Some desk → RowsHeld chains state s (read_into desk.undo) desk.room desk.doing → RowsHeldBy writer chains state desks
-rows_by_writer s chains state desks mine at rows =
-    subst (λ (w : Option ℕ). RowsHeldBy w chains state desks) (sym mine) (subst (RowsHeldAt chains state s) (sym at) rows)
+  pub row_left_at : (said : Said) (desk : Option Desk) → RowHeldAt chains said old s desk → RowHeldAt chains said new s desk
+  row_left_at said None row = row
+  row_left_at said (Some desk) row = row_left said (read_into desk.undo) desk.room desk.doing row
 
--- who changes no row leaves the indexes coded
-module _ (chains : Chains) (state : WorldState) (w : ℕ) where
-  quiet_rows : (undo : Undo) (room : WorkRoom) (doing : Doing) → is_quiet_doing doing ≡ true → RowsHeld chains state w undo room doing
-      → HasRows chains state
-  quiet_rows undo room Nothing is rows = rows
-  quiet_rows undo room (Searching on) is rows = rows
-  quiet_rows undo room other is rows = absurd (cc)
+-- who changes no row knows nothing of one
+quiet_knows : (chains : Chains) (said : Said) (state : WorldState) (s : ℕ) (undo : Undo) (room : WorkRoom) (doing : Doing) → is_quiet_doing doing ≡ true
+    → RowHeld chains said state s undo room doing
+quiet_knows chains said state s undo room Nothing is = record {}
+quiet_knows chains said state s undo room (Searching on) is = record {}
+quiet_knows chains said state s undo room other is = absurd (cc)
 
-  rows_quiet : (undo : Undo) (room : WorkRoom) (doing : Doing) → is_quiet_doing doing ≡ true → HasRows chains state
-      → RowsHeld chains state w undo room doing
-  rows_quiet undo room Nothing is rows = rows
-  rows_quiet undo room (Searching on) is rows = rows
-  rows_quiet undo room other is rows = absurd (cc)
+pub quiet_row : (chains : Chains) (said : Said) (state : WorldState) (s : ℕ) (desk : Option Desk) → is_quiet_doing (doing_in desk) ≡ true
+    → RowHeldAt chains said state s desk
+quiet_row chains said state s None is = record {}
+quiet_row chains said state s (Some desk) is = quiet_knows chains said state s (read_into desk.undo) desk.room desk.doing is
 
-  pub quiet_rows_at : (desk : Option Desk) → is_quiet_doing (doing_in desk) ≡ true → RowsHeldAt chains state w desk → HasRows chains state
-  quiet_rows_at None is rows = rows
-  quiet_rows_at (Some desk) is rows = quiet_rows (read_into desk.undo) desk.room desk.doing is rows
+-- and its keys lag nowhere
+pub lags_nowhere : (state : WorldState) (s : ℕ) (doing : Doing) → is_quiet_doing doing ≡ true → lags_in state s doing ≡ None
+lags_nowhere state s Nothing is = refl
+lags_nowhere state s (Searching on) is = refl
+lags_nowhere state s other is = absurd (cc)
 
-  pub rows_quiet_at : (desk : Option Desk) → is_quiet_doing (doing_in desk) ≡ true → HasRows chains state → RowsHeldAt chains state w desk
-  rows_quiet_at None is rows = rows
-  rows_quiet_at (Some desk) is rows = rows_quiet (read_into desk.undo) desk.room desk.doing is rows
+pub quiet_lags : (state : WorldState) (s : ℕ) (desks : List Desk) (place : Place) → is_quiet_doing (doing_at s desks) ≡ true
+    → lags_at place state desks s ≡ false
+quiet_lags state s desks place is = ap (is_place place) (lags_nowhere state s (doing_at s desks) is)
+
+lags_as : (old new : WorldState) (s : ℕ) (doing : Doing) → new.schemas ≡ old.schemas → own s new.past ≡ own s old.past
+    → lags_in new s doing ≡ lags_in old s doing
+lags_as old new s (Changing (Keys change)) schemas own_is = λ i. newest_place (schemas i) (own_is i)
+lags_as old new s Lagging schemas own_is = λ i. newest_place (schemas i) (own_is i)
+lags_as old new s Undoing schemas own_is = λ i. newest_place (schemas i) (own_is i)
+lags_as old new s other schemas own_is = refl
+
+-- where nobody changes a row, the keys say what is there
+pub none_lag : {chains : Chains} {state : WorldState} {desks : List Desk} → AreCoded state.schemas (pairs_of state) state.versions.kept_at chains
+    → ((s : ℕ) → is_quiet_doing (doing_at s desks) ≡ true) → RowsHeld chains state desks
+none_lag {chains} {state} {desks} coded quiet = record {
+  said = what_is_there chains;
+  coded = coded;
+  each = λ s. quiet_row chains (what_is_there chains) state s (desk_at s desks) (quiet s);
+  lagging = λ s place is. let no = quiet_lags state s desks place (quiet s) in absurd (cc);
+  settled = λ place none which. refl;
+}
+
+-- the session has changed no row, or is as it was
+pub record IsLeft (s : ℕ) (old new : WorldState) (desks now : List Desk) : Type 0 where
+  pub session : slice_get new.sessions s ≡ slice_get old.sessions s
+  pub own_is : own s new.past ≡ own s old.past
+  pub desk : desk_at s now ≡ desk_at s desks
+
+abbrev pub IsIdleOrLeft : ℕ → WorldState → WorldState → List Desk → List Desk → Type 0
+IsIdleOrLeft s old new desks now =
+    ((is_quiet_doing (doing_at s desks) ≡ true) × (is_quiet_doing (doing_at s now) ≡ true)) ⊎ IsLeft s old new desks now
+
+-- rows stay as all sessions hold them, where no pair of them has changed
+module _ {chains : Chains} {old new : WorldState} {desks now : List Desk} (leaves : LeavesRows old new) (agrees : Agrees chains new) (told : IsTold new)
+    (left : (s : ℕ) → IsIdleOrLeft s old new desks now) where
+  lags_still : (place : Place) (s : ℕ) → lags_at place new now s ≡ lags_at place old desks s
+  lags_still place s = elim (left s) [
+    | inl quiet ↦ quiet_lags new s now place quiet.1 ∙ sym (quiet_lags old s desks place quiet.0)
+    | inr is ↦ ap (λ desk. is_place place (lags_in new s (doing_in desk))) is.desk
+        ∙ ap (is_place place) (lags_as old new s (doing_at s desks) leaves.schemas is.own_is)
+  ]
+
+  pub rows_stay : RowsHeld chains old desks → RowsHeld chains new now
+  rows_stay rows = record {
+    said = rows.said;
+    coded = rows_left old new leaves chains rows.said told rows.coded;
+    each = λ s. elim (left s) [
+      | inl quiet ↦ quiet_row chains rows.said new s (desk_at s now) quiet.1
+      | inr is ↦ subst (RowHeldAt chains rows.said new s) (sym is.desk)
+          (row_left_at s leaves agrees is.session is.own_is rows.said (desk_at s desks) (rows.each s))
+    ];
+    lagging = λ s place is. rows.lagging s place (sym (lags_still place s) ∙ is);
+    settled = λ place none. rows.settled place (λ s. sym (lags_still place s) ∙ none s);
+  }
 
 -- what the session itself has after its step
 pub record IsOwnPart (s : ℕ) (after : Chains) (new : Store) : Type 0 where
@@ -159,7 +203,7 @@ module _ {s : ℕ} {after : Chains} {old new : Store} (held : IsHeld old) (does 
   was : (u : ℕ) (session : Session) → u ≢ s → IsSession u session new.world → IsSession u session old.world
   was u session differs there = sym (does.sessions u differs) ∙ there
 
-  pub held_after : FitsThen new.world.past → RowsHeldBy new.writer after new.world new.desks → LogsAgree new.world
+  pub held_after : FitsThen new.world.past → RowsHeld after new.world new.desks → LogsAgree new.world
       → length new.desks ≡ length new.world.names → length new.world.names ≤ 68 → new.cuts ≤ length new.world.past → AreFew after new.world.past
       → IsHeld new
   held_after fits rows logs count few cut short = record {
@@ -202,31 +246,14 @@ module _ {s : ℕ} {after : Chains} {old new : Store} (held : IsHeld old) (does 
 
 -- ---- rows, where a session that changes none makes a step
 
-module _ {s : ℕ} {old new : Store} (held : IsHeld old) (does : Does s held.chains held.chains old new) (rows : LeavesRows old.world new.world)
-    (before : is_quiet_doing (doing_at s old.desks) ≡ true) (after : is_quiet_doing (doing_at s new.desks) ≡ true) where
-  own_rows : (by : Option ℕ) → ((u : ℕ) → u ≢ s → by ≢ Some u) → RowsHeldBy by held.chains old.world old.desks → HasRows held.chains old.world
-  own_rows None none is = is
-  own_rows (Some w) none is =
-      ⊎_elim (λ here. quiet_rows_at held.chains old.world w (desk_at w old.desks) (ap (λ u. is_quiet_doing (doing_at u old.desks)) here ∙ before) is)
-      (λ differs. absurd (none w differs refl)) (cases_eq w s)
-
-  coded : ((u : ℕ) → u ≢ s → new.writer ≢ Some u) → HasRows held.chains new.world
-  coded none =
-      has_rows_left old.world new.world rows held.chains
-      (own_rows old.writer (λ u differs might. none u differs (does.rights u differs might)) held.rows)
-
-  -- who may write later, if it is another than who acts, might write before
-  rows_by : (by : Option ℕ) → new.writer ≡ by → RowsHeldBy by held.chains new.world new.desks
-  rows_by None none = coded (λ u differs might. let no : None ≡ Some u = sym none ∙ might in cc)
-  rows_by (Some w) may =
-      ⊎_elim (λ here. rows_quiet_at held.chains new.world w (desk_at w new.desks) (ap (λ u. is_quiet_doing (doing_at u new.desks)) here ∙ after)
-      (coded (λ u differs might. differs (some_same u w (sym might ∙ may) ∙ here)))) (λ differs. subst (RowsHeldAt held.chains new.world w)
-      (sym (does.desks w differs)) (rows_left_at w rows does.agrees (does.sessions w differs)
-      (others_past s w old.world.past new.world.past differs does.adds).own_is (desk_at w old.desks)
-      (subst (λ by. RowsHeldBy by held.chains old.world old.desks) (does.back w differs may) held.rows))) (cases_eq w s)
-
-  pub quiet_step : RowsHeldBy new.writer held.chains new.world new.desks
-  quiet_step = rows_by new.writer refl
+pub quiet_step : {s : ℕ} {old new : Store} (held : IsHeld old) → Does s held.chains held.chains old new → LeavesRows old.world new.world → IsTold new.world
+    → is_quiet_doing (doing_at s old.desks) ≡ true → is_quiet_doing (doing_at s new.desks) ≡ true → RowsHeld held.chains new.world new.desks
+quiet_step {s} {old} {new} held does leaves told before after =
+    rows_stay leaves does.agrees told (each s (λ u. IsIdleOrLeft u old.world new.world old.desks new.desks) (inl (before, after)) (λ u differs. inr (record {
+      session = does.sessions u differs;
+      own_is = (others_past s u old.world.past new.world.past differs does.adds).own_is;
+      desk = does.desks u differs;
+    }))) held.rows
 
 -- ---- steps that add no entry and change no session
 
@@ -255,7 +282,7 @@ module _ (s : ℕ) {store : Store} (held : IsHeld store) {new : WorldState} (now
 
   pub held_beside : started_at s now ≡ started_at s store.desks → length now ≡ length store.desks
       → (store.writer ≢ Some s → is_quiet_doing (doing_at s now) ≡ true) → SearchHeld held.chains beside s (doing_at s now)
-      → ((desk : Desk) → desk_at s now ≡ Some desk → HasRooms desk) → RowsHeldBy store.writer held.chains new now → LogsAgree new → IsHeld beside
+      → ((desk : Desk) → desk_at s now ≡ Some desk → HasRooms desk) → RowsHeld held.chains new now → LogsAgree new → IsHeld beside
   held_beside started_is count quiet search rooms rows logs =
       let past = ap (λ (x : WorldState). x.past) rest in
       let names = ap (λ (x : WorldState). x.names) rest in

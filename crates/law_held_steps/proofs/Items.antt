@@ -5,7 +5,7 @@ use Rattle.std.proofs.Common.{inr, eq-eqb, ⊎_elim, Bool, cond, zero, suc, ◌+
 use Rattle.std.proofs.lemmas.List.{length-set, set-get_or, length-map, length-append}
 use Rattle.std.proofs.lemmas.Option.{get_or_from_slice_get, slice_get-map, slice_get_within}
 use Rattle.std.proofs.{lemmas.Bool.Decides.nat_tests, lemmas.Bool.Decides.eqb_tells, lemmas.Bool.false≢true}
-use Rattle.std.specs.Prelude.{slice_get, is_some, option_map, ◌≤◌, slice_set}
+use Rattle.std.specs.Prelude.{slice_get, is_some, option_map, ◌≤◌, slice_set, IsSome, IsTrue}
 use Rattle.inno_model.specs.Past.{own, started, under_way, of_item, awaits_ack, level, IsOpen, IsClosed}
 use Rattle.inno_model.specs.declared.event.Event.TheVariants.{Started, Ended, Acked, Signal, Begin, View, Committed, RolledBack, Changed}
 use Rattle.inno_model.specs.declared.event.Event.{Event}
@@ -15,10 +15,12 @@ use Rattle.world.specs.{Told.IsTold, Told.LeavesRows, Told.pairs_in, Told.pairs_
 use Rattle.world.specs.{Sessions.with_save, Endings.IsCommitted, Endings.IsRolledBack}
 use Rattle.law_logged_changes.specs.{Steps.LeavesLog, Steps.HasNoLog, Steps.LeavesLogs, Steps.OfAll, Logs.LogsAgree, Logs.IsLogOf}
 use Rattle.desks.specs.Desks.{desk_at, with_start, doing_at, started_at, is_quiet_doing, HasRooms, doing_in, started_in, IsNewDesk, Store}
-use Rattle.desks.specs.Holding.{SearchHeld, IsHeld, IsFresh, RowsHeldAt, RowsHeldBy}
+use Rattle.desks.specs.Holding.{SearchHeld, IsHeld, IsFresh}
+use Rattle.row_versions.specs.Versions.{Versions}
 use Rattle.desks.specs.{declared.desk.Desk.Desk, declared.desk.Doing.TheVariants.Nothing, Leaves.Does}
 use Rattle.law_logged_changes.proofs.Leaving.{rows_leave, all_left, more_grow}
-use Rattle.law_held_steps.proofs.AnyStep.{some_same, each, others_past, past_grows, quiet_step, held_after, waits_not, quiet_rows_at, rows_quiet_at}
+use Rattle.law_held_steps.proofs.AnyStep.{some_same, each, others_past, past_grows, quiet_step, held_after, waits_not, none_lag}
+use Rattle.law_held_steps.proofs.Putting.{rests_coded}
 use Rattle.law_held_steps.proofs.Desks.{desk_elsewhere, as_many}
 use Rattle.law_world_agreement.proofs.Entries.{started_agrees, ended_agrees, acked_agrees, signal_agrees, unentered_agrees}
 use Rattle.law_world_agreement.proofs.{Opening.set_here, Opening.set_other, Opening.opened_agrees, Opening.viewed_agrees, Ending.one_session_of}
@@ -126,6 +128,12 @@ leaves_rows {old} same = record {
   versions = subst (λ versions. Stays old.versions versions) (sym same.versions) (same_versions old.versions);
 }
 
+rows_told : {old new : WorldState} → HasSameRows old new → IsTold old → IsTold new
+rows_told same told = record {
+  pairs = λ index. subst (λ (indexes : ℕ → Index). IsSome (indexes index).pairs) (sym same.indexes) (told.pairs index);
+  versions = subst (λ (versions : Versions). IsTrue versions.told) (sym same.versions) told.versions;
+}
+
 -- what holds then, by what the session's state is
 module _ {t : ℕ} {old new : Store} (held : IsHeld old) (rests : doing_at t old.desks ≡ Nothing) {after : Session} (told : IsTold old.world)
     (here : slice_get new.world.sessions t ≡ Some after) (rows : HasSameRows old.world new.world) (others : LeavesDesks t old new)
@@ -182,7 +190,7 @@ module _ {t : ℕ} {old new : Store} (held : IsHeld old) (rests : doing_at t old
         search = subst (SearchHeld held.chains new t) (sym rests_now) tt;
         rooms = others.rooms;
       })
-      fits (quiet_step held does leaves (ap is_quiet_doing rests) (ap is_quiet_doing rests_now)) (all_left old.world new.world
+      fits (quiet_step held does leaves (rows_told rows told) (ap is_quiet_doing rests) (ap is_quiet_doing rests_now)) (all_left old.world new.world
       (rows_leave old.world new.world leaves) (log_of log) held.logs) count few (omega (arith, held.cut, others.cuts, long))
       (λ place. omega (arith, held.short place, long))
 
@@ -469,8 +477,8 @@ module _ {store : Store} (held : IsHeld store) (told : IsTold store.world) (name
 
 -- ---- the first world
 
-pub first_held : (state : WorldState) → IsFresh state → IsHeld (record { world = state; writer = None; desks = []; cuts = 0 })
-first_held state first =
+pub first_held : (state : WorldState) → IsTold state → IsFresh state → IsHeld (record { world = state; writer = None; desks = []; cuts = 0 })
+first_held state told first =
     let nobody : (s : ℕ) (session : Session) → slice_get state.sessions s ≡ Some session → ⊥
     = λ s session there. let no : None ≡ Some session = sym (ap (λ (sessions : List Session). slice_get sessions s) first.sessions) ∙ there in cc in
     record {
@@ -486,7 +494,7 @@ first_held state first =
       });
       fits = subst FitsThen (sym first.past) first.fits;
       writes = record { opened = λ s is. absurd (cc); clean = λ s other. ap (own s) first.past };
-      rows = first.coded;
+      rows = none_lag (first.coded told) (λ s. refl);
       quiet = λ s other. refl;
       searches = λ s. tt;
       logs = record { each = λ s session work has. absurd (nobody s session has.session_is) };
@@ -535,11 +543,13 @@ module _ {store : Store} {new : WorldState} {t : ℕ} {schema : Schema} (held : 
   pairs_are : pairs_of new ≡ pairs_of source
   pairs_are = λ i index. ap (λ (x : Index). pairs_in x.pairs) (same index) i
 
-  mine_held : RowsHeldAt held.chains source t (desk_at t store.desks)
-  mine_held = subst (λ by. RowsHeldBy by held.chains source store.desks) mine held.rows
+  -- nobody changes a row
+  all_rest : (u : ℕ) → is_quiet_doing (doing_at u store.desks) ≡ true
+  all_rest = each t (λ u. is_quiet_doing (doing_at u store.desks) ≡ true) (ap is_quiet_doing rests)
+      (λ u differs. held.quiet u (λ is. differs (some_same u t (sym is ∙ mine))))
 
   was : HasRows held.chains source
-  was = quiet_rows_at held.chains source t (desk_at t store.desks) (ap is_quiet_doing rests) mine_held
+  was = rests_coded t held mine rests
 
   no_pairs : HasNoPairs (pairs_of source) (length source.schemas)
   no_pairs = record {
@@ -615,8 +625,7 @@ module _ {store : Store} {new : WorldState} {t : ℕ} {schema : Schema} (held : 
         search = subst (SearchHeld held.chains made t) (sym rests) tt;
         rooms = held.rooms t;
       })
-      (subst FitsThen (sym by.past) ((storable, tt), held.fits)) (subst (λ w. RowsHeldBy w held.chains new store.desks) (sym mine)
-      (rows_quiet_at held.chains new t (desk_at t store.desks) (ap is_quiet_doing rests) coded)) logs_now
+      (subst FitsThen (sym by.past) ((storable, tt), held.fits)) (none_lag (coded told_now) (λ u. all_rest u)) logs_now
       (held.count ∙ ap length (sym by.names)) (subst (λ (names : List (List ℕ)). length names ≤ 68) (sym by.names) held.few)
       (omega (arith, held.cut, past_grows t source.past new.past adds)) (λ place. omega (arith, held.short place, past_grows t source.past new.past adds))
     where

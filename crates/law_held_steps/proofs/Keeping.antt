@@ -13,8 +13,8 @@ use Rattle.law_world_agreement.specs.Agreement.{Agrees}
 use Rattle.entries.specs.Pairs.{Pair}
 use Rattle.row_changes.specs.declared.keys_change.KeysChange.{KeysChange}
 use Rattle.shared_lists.specs.Fitting.{FitsThen}
-use Rattle.desks.specs.Holding.{AreFew, IsHeld, IsLast, IsLastOf, RowsHeld, RowsHeldBy, SearchHeld}
-use Rattle.desks.specs.Desks.{Store, desk_at, doing_in, doing_at, with_doing, is_undoing}
+use Rattle.desks.specs.Holding.{AreFew, IsHeld, IsLast, IsLastOf, RowsHeld, SearchHeld}
+use Rattle.desks.specs.Desks.{Store, desk_at, doing_in, doing_at, with_doing, is_undoing, is_quiet_doing}
 use Rattle.desks.specs.{declared.desk.Desk.Desk, declared.desk.Doing.Doing, Leaves.Does}
 use Rattle.inno_types.specs.{declared.lock.Level.Level, declared.value.Schema.Schema}
 use Rattle.row_versions.specs.{Chains.Chains, declared.place.Place.Place}
@@ -23,7 +23,7 @@ use Rattle.law_world_agreement.proofs.{Settled.slot_if, Settled.slot_at, Opening
 use Rattle.row_changes.proofs.{Sessions.one_session, Ids.one_work}
 use Rattle.law_logged_changes.specs.{GoingOn.StaysOpen, GoingOn.KeepsBeside, Logs.LogsAgree}
 use Rattle.law_held_steps.specs.{Making.LeavesLists, Leaving.is_searching}
-use Rattle.law_held_steps.proofs.{AnyStep.each, AnyStep.waits_not, AnyStep.past_grows, AnyStep.held_after, AnyStep.rows_by_writer, Desks.IsGiven, Desks.given}
+use Rattle.law_held_steps.proofs.{AnyStep.each, AnyStep.waits_not, AnyStep.past_grows, AnyStep.held_after, AnyStep.some_same, Alone.HoldsAlone, Alone.rows_by, Desks.IsGiven, Desks.given}
 use Rattle.law_held_steps.proofs.{Desks.there, Desks.started_still, Desks.rooms_then, Places.no_search}
 
 -- it has started or ended no item, and no commit of its own waits for its acknowledgement that didn't
@@ -167,13 +167,15 @@ module _ {s : ℕ} {store : Store} {new : WorldState} (held : IsHeld store) (min
       kept = inl (refl, beside.kept);
     }
 
-    rows_then : ((desk : Desk) → RowsHeld after new s (read_into desk.undo) desk.room doing)
-        → RowsHeldBy store.writer after new (with_doing s doing store.desks)
-    rows_then rows = rows_by_writer s after new (with_doing s doing store.desks) mine gives.here (rows was.0)
+    rows_then : IsTold new → LogsAgree new → ((desk : Desk) → HoldsAlone after new s (read_into desk.undo) desk.room doing)
+        → RowsHeld after new (with_doing s doing store.desks)
+    rows_then later logs rows =
+        rows_by after new (with_doing s doing store.desks) s (λ u differs. ap (λ desk. is_quiet_doing (doing_in desk)) (gives.others u differs)
+        ∙ held.quiet u (λ is. differs (some_same u s (sym is ∙ mine)))) later logs gives.here (rows was.0)
 
-    pub keeps : is_undoing (doing_at s store.desks) ≡ false → is_searching doing ≡ false → FitsThen new.past → LogsAgree new
-        → ((desk : Desk) → RowsHeld after new s (read_into desk.undo) desk.room doing) → AreFew after new.past → IsHeld then_held
-    keeps not searches_not fits logs rows short =
+    pub keeps : is_undoing (doing_at s store.desks) ≡ false → is_searching doing ≡ false → FitsThen new.past → IsTold new → LogsAgree new
+        → ((desk : Desk) → HoldsAlone after new s (read_into desk.undo) desk.room doing) → AreFew after new.past → IsHeld then_held
+    keeps not searches_not fits later logs rows short =
         held_after held does (record {
           replies = λ session there busy. sym (ap (λ (z : Session). z.can_reply) (is_now session there)) ∙ stays_open.can_reply ∙ held.has_room.replies s
               was_open.0 was_open.2.session_is (sym (ap is_some (goes.under_way_is)) ∙ busy);
@@ -187,6 +189,6 @@ module _ {s : ℕ} {store : Store} {new : WorldState} (held : IsHeld store) (min
           quiet = λ other. absurd (other mine);
           search = subst (SearchHeld after then_held s) (sym (ap doing_in gives.here)) (no_search after then_held s doing searches_not);
           rooms = rooms_then s doing store.desks (held.rooms s) not;
-        }) fits (rows_then rows) logs (gives.count ∙ held.count ∙ ap length (sym beside.names))
+        }) fits (rows_then later logs rows) logs (gives.count ∙ held.count ∙ ap length (sym beside.names))
         (subst (λ (names : List (List ℕ)). length names ≤ 68) (sym beside.names) held.few)
         (omega (arith, held.cut, past_grows s old.past new.past goes.adds)) short

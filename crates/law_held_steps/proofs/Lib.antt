@@ -1,5 +1,6 @@
 pub mod Desks
 pub mod AnyStep
+pub mod Alone
 pub mod Made
 pub mod Keeping
 pub mod Showing

@@ -12,12 +12,13 @@ use Rattle.row_changes.specs.{declared.row_edit.RowEdit.RowEdit, declared.record
 use Rattle.row_changes.specs.{declared.row_change.RowChange.RowChange, Reached.Reached}
 use Rattle.law_past_agreement.specs.Order.{created}
 use Rattle.desks.specs.Desks.{Store, desk_at, doing_in, doing_at, started_in, started_at, with_doing, is_quiet_doing, is_undoing, HasRooms}
-use Rattle.desks.specs.{Holding.IsHeld, Holding.RowsHeld, Holding.SearchHeld, Holding.AreFew, Holding.IsLastOf, Holding.IsLastIfTold, declared.desk.Desk.Desk}
+use Rattle.desks.specs.{Holding.IsHeld, Holding.SearchHeld, Holding.AreFew, Holding.IsLastOf, declared.desk.Desk.Desk}
 use Rattle.desks.specs.{declared.desk.Doing.Doing, declared.desk.Doing.TheVariants.Nothing, declared.desk.Doing.TheVariants.Changing, Undoing.keys_if}
 use Rattle.row_changes.proofs.Alone.{alone_rows, alone_over, keys_alone}
 use Rattle.law_held_steps.proofs.Keeping.{open_work, open_joined, goes_same, goes_changed, leaves_lists, last_of_kept, keeps}
-use Rattle.law_held_steps.proofs.{Desks.given, Desks.there, Desks.started_still, Desks.rooms_then, Desks.changes_at_a_desk, AnyStep.each, AnyStep.quiet_rows_at}
-use Rattle.law_held_steps.proofs.{AnyStep.rows_by_writer, Places.search_as, Putting.rows_mine, Putting.changing_rows, Putting.alone_if}
+use Rattle.law_held_steps.proofs.{Desks.given, Desks.there, Desks.started_still, Desks.rooms_then, Desks.changes_at_a_desk, AnyStep.each}
+use Rattle.law_held_steps.proofs.Alone.{IsLastIfTold, HoldsAlone, rows_by}
+use Rattle.law_held_steps.proofs.{Places.search_as, Putting.rests_coded, Putting.others_quiet, Putting.changing_rows, Putting.alone_if}
 use Rattle.law_found_rows.proofs.FittingChanges.{tables_storable}
 use Rattle.law_world_agreement.specs.Agreement.{Agrees}
 use Rattle.law_logged_changes.proofs.{Listed.begun as begun_row, Entering.goes_on, Entering.place_there, Logging.change_logged, Logging.row_all}
@@ -91,11 +92,11 @@ module _ {store : Store} (held : IsHeld store) where
 
   module _ {s : ℕ} (mine : store.writer ≡ Some s) where
     -- who may write has something else under way, while the world is what it was
-    pub turned : (doing : Doing) → s < length store.desks → is_undoing (doing_at s store.desks) ≡ false
-        → ((desk : Desk) → RowsHeld held.chains state s (read_into desk.undo) desk.room doing)
+    pub turned : IsTold state → (doing : Doing) → s < length store.desks → is_undoing (doing_at s store.desks) ≡ false
+        → ((desk : Desk) → HoldsAlone held.chains state s (read_into desk.undo) desk.room doing)
         → SearchHeld held.chains (record store { desks = with_doing s doing store.desks }) s doing
         → IsHeld (record store { desks = with_doing s doing store.desks })
-    turned doing within not rows search =
+    turned told doing within not rows search =
         let was = there s store.desks within in
         let gives = given s doing store.desks was.1 in
         let now : Store = record store { desks = with_doing s doing store.desks } in
@@ -104,7 +105,7 @@ module _ {store : Store} (held : IsHeld store) where
           agrees = held.agrees;
           fits = held.fits;
           writes = held.writes;
-          rows = rows_by_writer s held.chains state now.desks mine gives.here (rows was.0);
+          rows = rows_by held.chains state now.desks s (others_quiet s held mine now.desks gives.others) told held.logs gives.here (rows was.0);
           quiet = each s (λ u. store.writer ≢ Some u → is_quiet_doing (doing_at u now.desks) ≡ true) (λ other. absurd (other mine))
               (λ u differs other. ap (λ desk. is_quiet_doing (doing_in desk)) (gives.others u differs) ∙ held.quiet u other);
           searches = each s (λ u. SearchHeld held.chains now u (doing_at u now.desks))
@@ -123,11 +124,11 @@ module _ {store : Store} (held : IsHeld store) where
           short = held.short;
         }
 
-    pub begins : (table : ℕ) (schema : Schema) (edit : RowEdit) (key : List ℕ) → doing_at s store.desks ≡ Nothing → IsOpen s state.past
+    pub begins : IsTold state → (table : ℕ) (schema : Schema) (edit : RowEdit) (key : List ℕ) → doing_at s store.desks ≡ Nothing → IsOpen s state.past
         → FitsWell (created state.past) (change_of table edit) → slice_get state.schemas table ≡ Some schema → IsKeyOfEdit schema edit key
         → IsHeld (record store { desks = with_doing s (Changing (begun table edit key)) store.desks })
-    begins table schema edit key nothing is_open fits there spelled =
-        let rows = quiet_rows_at held.chains state s (desk_at s store.desks) (ap is_quiet_doing nothing) (rows_mine s held mine) in
+    begins told table schema edit key nothing is_open fits there spelled =
+        let rows = rests_coded s held mine nothing in
         let has = open_work held.agrees s is_open in
         let storable =
         tables_storable state.past held.fits table schema (ap (λ (tables : List Schema). slice_get tables table) (sym held.agrees.lists.tables) ∙ there) in
@@ -135,7 +136,7 @@ module _ {store : Store} (held : IsHeld store) where
         let changing =
         begun_row held.chains state s table has.0 has.1 schema edit key held.agrees rows has.2 (record { there = there; storable = storable })
         (fits_edit state.schemas table schema edit key there (fits_here table edit fits) spelled) in
-        turned (Changing (begun table edit key)) within (ap is_undoing nothing) (λ desk. (changing, record {})) (record {})
+        turned told (Changing (begun table edit key)) within (ap is_undoing nothing) (λ desk. (changing, record {})) (record {})
 
 rows_more : (table : ℕ) (edit : RowEdit) → rows_put edit ≡ rows_of_change (Some (change_of table edit))
 rows_more table (Put row) = refl
@@ -183,12 +184,12 @@ module _ {s : ℕ} {store : Store} {new : WorldState} (held : IsHeld store) (min
   still : (change : RowChange) (reached : Reached RowChange) (beside : KeepsBeside s old new) → IsChangingRowAlone s held.chains old change
       → ChangesRowAlone s held.chains old new change reached → new.past ≡ old.past → Agrees held.chains new
       → is_searching (doing_after change reached) ≡ false
-      → ((desk : Desk) → RowsHeld held.chains new s (read_into desk.undo) desk.room (doing_after change reached)) → Comes s old new change reached
+      → ((desk : Desk) → HoldsAlone held.chains new s (read_into desk.undo) desk.room (doing_after change reached)) → Comes s old new change reached
       → MakesChange s store new change reached
   still change reached beside p c past agrees quiet rows comes = record {
     held =
         keeps held mine beside (goes_same past) agrees was (doing_after change reached) within not quiet
-        (subst FitsThen (sym past) held.fits) (logs_now change reached p c) rows (subst (AreFew held.chains) (sym past) held.short);
+        (subst FitsThen (sym past) held.fits) told (logs_now change reached p c) rows (subst (AreFew held.chains) (sym past) held.short);
     leaves = leaves_lists held mine beside;
     comes = comes;
   }
@@ -246,7 +247,7 @@ module _ {s : ℕ} {store : Store} {new : WorldState} (held : IsHeld store) (min
       let longer : length new.past ≡ 1 + length old.past = omega (arith, ap length a.past) in
       record {
         held =
-            keeps held mine a.beside (goes_changed a.past) a.agrees was (Changing (Keys next)) within not refl (subst FitsThen (sym a.past) fits)
+            keeps held mine a.beside (goes_changed a.past) a.agrees was (Changing (Keys next)) within not refl (subst FitsThen (sym a.past) fits) told
             (logs_now (Record change key after) (Went (Keys next)) row c) (λ desk. (changing, last_logged change key after next row c a.beside.schemas))
             (λ place. let pushed = pushed_short held.chains a.after _ _ (length old.past + 2 ^ 62) a.pushes.pushes held.short
             place in omega (arith, longer, pushed));

@@ -1,12 +1,12 @@
 -- Steps that move a session's places leave all rows, and may follow one another; a world that is held stays so.
-use Rattle.std.proofs.Common.{◌≡◌, ◌≢◌, ◌⊎◌, ⊎_elim, ℕ, Bool, true, false, List, Option, Some, None, refl, sym, ap, subst, ◌∙◌, ◌<◌, ◌≤◌, length, ◌+◌, arith}
+use Rattle.std.proofs.Common.{◌≡◌, ◌≢◌, ◌⊎◌, ⊎_elim, inr, ℕ, Bool, true, false, List, Option, Some, None, refl, sym, ap, subst, ◌∙◌, ◌<◌, ◌≤◌, length, ◌+◌, arith}
 use Rattle.std.proofs.{lemmas.Bool.Decides.eqb_tells, lemmas.Bool.cases_eq}
 use Rattle.std.specs.Prelude.{◌==◌, if◌then◌else◌, slice_get, List}
-use Rattle.law_held_steps.proofs.AnyStep.{each, quiet_step, does_beside, held_beside, rows_left_at}
+use Rattle.law_held_steps.proofs.AnyStep.{each, quiet_step, does_beside, held_beside, rows_stay}
 use Rattle.law_held_steps.proofs.Desks.{desk_elsewhere, started_still, doing_mine, as_many, doing_stays, rooms_then, quiet_undoes_not}
-use Rattle.law_logged_changes.proofs.Leaving.{logs_beside, own_beside, agrees_beside, left_told, has_rows_left, rows_leave, all_left}
+use Rattle.law_logged_changes.proofs.Leaving.{logs_beside, own_beside, agrees_beside, left_told, rows_leave, all_left}
 use Rattle.desks.specs.Desks.{desk_at, doing_at, with_doing, is_quiet_doing, Store}
-use Rattle.desks.specs.Holding.{SearchHeld, IsHeld, RowsHeldBy, SightHolds}
+use Rattle.desks.specs.Holding.{SearchHeld, IsHeld, SightHolds}
 use Rattle.desks.specs.{declared.desk.Desk.Desk, declared.desk.Doing.Doing, declared.desk.Doing.TheVariants.Nothing, declared.desk.Doing.TheVariants.Searching}
 use Rattle.law_held_steps.specs.Leaving.{MovesPlaces, LeavesTable, is_searching}
 use Rattle.row_versions.specs.{Versions.Versions, Versions.Stays, Chains.Chains}
@@ -118,7 +118,7 @@ module _ {s : ℕ} {store : Store} {new : WorldState} (moves : MovesPlaces s sto
       (⊎_elim (λ here. subst (SearchHeld held.chains (record store { world = new; desks = now }) s) (sym here) search)
       (λ none. subst (SearchHeld held.chains (record store { world = new; desks = now }) s) (sym none) (record {})) (doing_mine s doing store.desks))
       (rooms_then s doing store.desks (held.rooms s) (quiet_undoes_not (doing_at s store.desks) was))
-      (quiet_step held does rows was quiet) (all_left store.world new (rows_leave store.world new rows) (logs_beside store.world new moves.rest) held.logs)
+      (quiet_step held does rows told was quiet) (all_left store.world new (rows_leave store.world new rows) (logs_beside store.world new moves.rest) held.logs)
 
 pub held_idle : {s : ℕ} {store : Store} {new : WorldState} → IsHeld store → doing_at s store.desks ≡ Nothing → MovesPlaces s store.world new → IsTold new
     → IsHeld (record store { world = new })
@@ -182,11 +182,10 @@ module _ {s : ℕ} {store : Store} {new : WorldState} (leaves : MovesPlaces s st
   held_left held none told =
       let rows = moves_leave leaves in
       held_beside s held store.desks leaves.rest leaves.versions (moves_told leaves told) told leaves.places (λ u differs. refl) refl refl
-      (held.quiet s) (no_search held.chains (record store { world = new }) s (doing_at s store.desks) none) (held.rooms s) (rows_by store.writer held.rows)
+      (held.quiet s) (no_search held.chains (record store { world = new }) s (doing_at s store.desks) none) (held.rooms s)
+      (rows_stay rows (agrees_beside leaves.rest held.agrees) told (λ u. inr (record {
+        session = ap (λ (state : WorldState). slice_get state.sessions u) leaves.rest;
+        own_is = own_beside u store.world new leaves.rest;
+        desk = refl;
+      })) held.rows)
       (all_left store.world new (rows_leave store.world new rows) (logs_beside store.world new leaves.rest) held.logs)
-    where
-      rows_by : (by : Option ℕ) → RowsHeldBy by held.chains store.world store.desks → RowsHeldBy by held.chains new store.desks
-      rows_by None is = has_rows_left store.world new (moves_leave leaves) held.chains is
-      rows_by (Some w) is =
-          rows_left_at w (moves_leave leaves) (agrees_beside leaves.rest held.agrees)
-          (ap (λ (state : WorldState). slice_get state.sessions w) leaves.rest) (own_beside w store.world new leaves.rest) (desk_at w store.desks) is

@@ -8,7 +8,8 @@ use Rattle.std.proofs.{lemmas.Bool.cases_eq, lemmas.Bool.Decides.nat_tests, lemm
 use Rattle.world.specs.State.{WorldState, Logged, Session, Work, HasWork, IsSession, standing_of}
 use Rattle.world.specs.{Undoing.read_into, Undoing.ReadsLast, Undoing.newest, Undoing.IsRead, Undoing.HoldsRecord, Undoing.IsCutBack, Told.IsTold}
 use Rattle.world.specs.{Told.pairs_of, Told.TellsTogether, Told.LeavesRows, declared.undo_room.UndoRoom.UndoRoom, Memory.IsInMemory, Sessions.undone_added}
-use Rattle.desks.specs.Holding.{RowsHeld, RowsHeldAt, RowsHeldBy, IsLast, IsLastIfTold, IsLagging, SearchHeld, IsHeld, IsGoingBack, WriterAgrees}
+use Rattle.desks.specs.Holding.{IsLast, SearchHeld, IsHeld, WriterAgrees, lags_in}
+use Rattle.law_held_steps.proofs.Alone.{IsLastIfTold, LagsAlone, GoesBackAlone, HoldsAlone, HoldsAloneAt, held_alone, coded_all, rows_by, back_left}
 use Rattle.desks.specs.Undoing.{left_at, keys_if, undo_left_in, most_versions, left_in}
 use Rattle.desks.specs.declared.desk.Doing.TheVariants.{Nothing, Changing, Lagging, Undoing}
 use Rattle.desks.specs.Desks.{desk_at, doing_in, doing_at, started_in, is_quiet_doing, is_undoing, with_read, with_room, HasRooms, with_doing, Store}
@@ -17,7 +18,7 @@ use Rattle.law_logged_changes.proofs.Leaving.{own_beside, agrees_beside, step_al
 use Rattle.law_logged_changes.proofs.Leaving.{cut_left, cut_again, has_rows_left}
 use Rattle.law_logged_changes.proofs.Beginning.{tells_of_it, begins_settled, begins_lagging}
 use Rattle.law_logged_changes.proofs.{TakenBack.taken as taken_back, TakenBack.to_cut_by_history, Cutting.rows_as_cut, Cutting.has_cut}
-use Rattle.law_held_steps.proofs.AnyStep.{some_same, last_left, held_beside, rows_left, last_log, rows_by_writer, waits_not, held_after}
+use Rattle.law_held_steps.proofs.AnyStep.{some_same, last_left, held_beside, last_log, waits_not, held_after}
 use Rattle.law_held_steps.proofs.{Desks.IsGiven, Desks.is_given, Desks.given_then, Keeping.open_work, Showing.settings_same, Showing.shows_now}
 use Rattle.undo_apply.specs.Stages.{Stops, StopsAt, IsPuttingBack, GoesOn, IsHindered, IsDone, PutsBack, StageHolds, WalksOn}
 use Rattle.undo_apply.specs.Standing.{versions_before, HasWalked, IsTakenBack, said_but}
@@ -78,25 +79,35 @@ pub record LeavesAll (old new : WorldState) : Type 0 where
   pub rest : ChangesPairsAlone old new
 
 changing_at : (chains : Chains) (state : WorldState) (s : ℕ) (change : RowChange) (desk : Option Desk) → doing_in desk ≡ Changing change
-    → RowsHeldAt chains state s desk → IsChangingRowAlone s chains state change × IsLastIfTold state s change
+    → HoldsAloneAt chains state s desk → IsChangingRowAlone s chains state change × IsLastIfTold state s change
 changing_at chains state s change None at rows = (let e : Nothing ≡ Changing change = at in absurd (cc))
-changing_at chains state s change (Some desk) at rows = subst (RowsHeld chains state s (read_into desk.undo) desk.room) at rows
+changing_at chains state s change (Some desk) at rows = subst (HoldsAlone chains state s (read_into desk.undo) desk.room) at rows
 
 -- it is being taken back, by the rooms of this desk
 pub record GoesBackAt (chains : Chains) (state : WorldState) (s : ℕ) (desks : List Desk) : Type 0 where
   pub desk : Desk
   pub at : desk_at s desks ≡ Some desk
-  pub going : IsGoingBack chains state s (read_into desk.undo) desk.room
+  pub going : GoesBackAlone chains state s (read_into desk.undo) desk.room
 
 back_at : (chains : Chains) (state : WorldState) (s : ℕ) (desks : List Desk) (found : Option Desk) → desk_at s desks ≡ found → doing_in found ≡ Undoing
-    → RowsHeldAt chains state s found → GoesBackAt chains state s desks
+    → HoldsAloneAt chains state s found → GoesBackAt chains state s desks
 back_at chains state s desks None found at rows = (let e : Nothing ≡ Undoing = at in absurd (cc))
 back_at chains state s desks (Some desk) found at rows =
-    record { desk = desk; at = found; going = subst (RowsHeld chains state s (read_into desk.undo) desk.room) at rows }
+    record { desk = desk; at = found; going = subst (HoldsAlone chains state s (read_into desk.undo) desk.room) at rows }
 
 module _ (s : ℕ) {store : Store} (held : IsHeld store) where
-  pub rows_mine : store.writer ≡ Some s → RowsHeldAt held.chains store.world s (desk_at s store.desks)
-  rows_mine mine = subst (λ (w : Option ℕ). RowsHeldBy w held.chains store.world store.desks) mine held.rows
+  -- no other session has more than a search under way
+  pub others_quiet : store.writer ≡ Some s → (now : List Desk) → ((u : ℕ) → u ≢ s → desk_at u now ≡ desk_at u store.desks) → (u : ℕ) → u ≢ s
+      → is_quiet_doing (doing_at u now) ≡ true
+  others_quiet mine now same u differs =
+      ap (λ desk. is_quiet_doing (doing_in desk)) (same u differs) ∙ held.quiet u (λ is. differs (some_same u s (sym is ∙ mine)))
+
+  pub rows_mine : store.writer ≡ Some s → HoldsAloneAt held.chains store.world s (desk_at s store.desks)
+  rows_mine mine = held_alone held.chains store.world store.desks s (others_quiet mine store.desks (λ u differs. refl)) held.rows
+
+  -- who may write and has nothing under way finds all rows coded
+  pub rests_coded : store.writer ≡ Some s → doing_at s store.desks ≡ Nothing → HasRows held.chains store.world
+  rests_coded mine rests = coded_all held.chains store.world store.desks s (others_quiet mine store.desks (λ u differs. refl)) held.rows (ap (lags_in store.world s) rests)
 
   -- who has more than a search under way may write
   pub busy_writes : {doing : Doing} → doing_at s store.desks ≡ doing → is_quiet_doing doing ≡ false → store.writer ≡ Some s
@@ -113,7 +124,7 @@ module _ (s : ℕ) {store : Store} (held : IsHeld store) where
   changing_rows {change} mine at = changing_at held.chains store.world s change (desk_at s store.desks) at (rows_mine mine)
 
   pub held_given : {new : WorldState} {now : List Desk} {was is : Desk} → store.writer ≡ Some s → LeavesAll store.world new → IsTold store.world → IsTold new
-      → IsGiven s was is store.desks now → RowsHeld held.chains new s (read_into is.undo) is.room is.doing → LogsAgree new
+      → IsGiven s was is store.desks now → HoldsAlone held.chains new s (read_into is.undo) is.room is.doing → LogsAgree new
       → SearchHeld held.chains (record store { world = new; desks = now }) s is.doing → HasRooms is → IsHeld (record store { world = new; desks = now })
   held_given {new} {now} {was} {is} mine leaves told tells gives rows logs search rooms =
       held_beside s held now leaves.rest leaves.versions told tells
@@ -121,7 +132,7 @@ module _ (s : ℕ) {store : Store} (held : IsHeld store) where
       (ap started_in gives.here ∙ gives.started ∙ sym (ap started_in gives.before)) gives.count (λ other. absurd (other mine))
       (subst (λ desk. SearchHeld held.chains (record store { world = new; desks = now }) s (doing_in desk)) (sym gives.here) search)
       (λ desk there. subst HasRooms (some_same is desk (sym gives.here ∙ there)) rooms)
-      (rows_by_writer s held.chains new now mine gives.here rows) logs
+      (rows_by held.chains new now s (others_quiet mine now gives.others) tells logs gives.here rows) logs
 
 -- a step that was hindered doesn't answer that it went on
 module _ (actor : ℕ) (old new : WorldState) (memory : IsInMemory old) where
@@ -249,7 +260,7 @@ read_there log logged older read there is reads =
 module _ (chains : Chains) (state : WorldState) (s : ℕ) (room : WorkRoom) (read : Undo) (agree : LogsAgree state) (whole : IsWhole room)
     (anew : room.stage ≡ Find) (is_read : (logged : Logged) (place : Place) → IsLast state s logged place → read ≡ logged.undo) where
   going_if : (logged : Logged) (place : Place) → IsLast state s logged place → IsPuttingBack chains (what_is_there chains) place logged.undo room state
-      → IsGoingBack chains state s read room
+      → GoesBackAlone chains state s read room
   going_if logged place last putting =
       let is = is_read logged place last in
       record {
@@ -260,15 +271,15 @@ module _ (chains : Chains) (state : WorldState) (s : ℕ) (room : WorkRoom) (rea
         putting = subst (λ (u : Undo). IsPuttingBack chains (what_is_there chains) place u room state) (sym is) putting;
       }
 
-  begin_from : (desk : Option Desk) → IsReady (doing_in desk) → RowsHeldAt chains state s desk → HasLast s state → IsGoingBack chains state s read room
+  begin_from : (desk : Option Desk) → IsReady (doing_in desk) → HoldsAloneAt chains state s desk → HasLast s state → GoesBackAlone chains state s read room
   begin_from desk is rows (logged, place, last) = go desk is rows where
-    settled : HasRows chains state → IsGoingBack chains state s read room
+    settled : HasRows chains state → GoesBackAlone chains state s read room
     settled coded =
         let log = last_log agree last in
         going_if logged place last (begins_settled state logged last.log last.change last.before place log last.place_is chains room
         (rows_beside chains place state coded) whole anew)
 
-    lagging : IsLagging chains state s → IsGoingBack chains state s read room
+    lagging : LagsAlone chains state s → GoesBackAlone chains state s read room
     lagging rows =
         let lag = rows.newest in
         let last = lag.last in
@@ -277,13 +288,13 @@ module _ (chains : Chains) (state : WorldState) (s : ℕ) (room : WorkRoom) (rea
         going_if lag.logged lag.place last (begins_lagging state lag.logged last.log last.change last.before lag.place log last.place_is chains room
         rows.change rows.changing (sym lag.table_is ∙ tells.table_is) (sym lag.key_is) whole anew)
 
-    by_doing : (undo : Undo) (other : WorkRoom) (doing : Doing) → IsReady doing → RowsHeld chains state s undo other doing
-        → IsGoingBack chains state s read room
+    by_doing : (undo : Undo) (other : WorkRoom) (doing : Doing) → IsReady doing → HoldsAlone chains state s undo other doing
+        → GoesBackAlone chains state s read room
     by_doing undo other Nothing is rows = settled rows
     by_doing undo other Lagging is rows = lagging rows
     by_doing undo other doing is rows = absurd is
 
-    go : (desk : Option Desk) → IsReady (doing_in desk) → RowsHeldAt chains state s desk → IsGoingBack chains state s read room
+    go : (desk : Option Desk) → IsReady (doing_in desk) → HoldsAloneAt chains state s desk → GoesBackAlone chains state s read room
     go None is rows = settled rows
     go (Some desk) is rows = by_doing (read_into desk.undo) desk.room desk.doing is rows
 
@@ -325,11 +336,11 @@ module _ (s : ℕ) {store : Store} (held : IsHeld store) where
         rooms_were : HasRooms desk
         rooms_were = held.rooms s desk at
 
-        begin : IsGoingBack held.chains old s (read_into read) desk.room
+        begin : GoesBackAlone held.chains old s (read_into read) desk.room
         begin =
             begin_from held.chains old s desk.room (read_into read) held.logs rooms_were.whole (rooms_were.anew (ready_undoes_not desk.doing ready))
             (λ logged place last. (is_read logged place last).1) (Some desk) ready
-            (subst (RowsHeldAt held.chains old s) at (rows_mine s held may_write)) has_last
+            (subst (HoldsAloneAt held.chains old s) at (rows_mine s held may_write)) has_last
 
         left_rows : LeavesRows old new
         left_rows = record {
@@ -338,10 +349,9 @@ module _ (s : ℕ) {store : Store} (held : IsHeld store) where
           versions = reads.1.versions;
         }
 
-        going_back : IsGoingBack held.chains new s (read_into read) desk.room
+        going_back : GoesBackAlone held.chains new s (read_into read) desk.room
         going_back =
-            rows_left s left_rows (agrees_beside reads.1.rest held.agrees) (ap (λ (state : WorldState). slice_get state.sessions s) reads.1.rest)
-            (own_beside s old new reads.1.rest) (read_into read) desk.room Undoing begin
+            back_left left_rows (ap (λ (state : WorldState). slice_get state.sessions s) reads.1.rest) (own_beside s old new reads.1.rest) begin
 
         pub held_begun : HoldsRecord read → IsHeld (record store { world = new; desks = with_read s read store.desks })
         held_begun holds =
@@ -376,7 +386,7 @@ module _ (s : ℕ) {store : Store} (held : IsHeld store) where
     abbrev pub room : WorkRoom
     room = desk.room
 
-    abbrev pub going : IsGoingBack held.chains old s (read_into undo) room
+    abbrev pub going : GoesBackAlone held.chains old s (read_into undo) room
     going = goes_back.going
 
     pub asks_for : IsInMemory old
@@ -416,8 +426,8 @@ module _ (s : ℕ) {store : Store} (held : IsHeld store) where
             is_busy = sym (ap doing_in goes_back.at) ∙ busy
 
             undoing_rows : StaysPutting held.chains going.place (read_into undo) next old new
-                → RowsHeld held.chains new s (read_into undo) next desk.doing
-            undoing_rows stays = subst (RowsHeld held.chains new s (read_into undo) next) (sym is_busy) (record {
+                → HoldsAlone held.chains new s (read_into undo) next desk.doing
+            undoing_rows stays = subst (HoldsAlone held.chains new s (read_into undo) next) (sym is_busy) (record {
               logged = going.logged;
               place = going.place;
               last = last_beside s stays.leaves.rest going.last;
@@ -483,7 +493,7 @@ module _ (s : ℕ) {store : Store} (held : IsHeld store) (busy : doing_at s stor
   abbrev room_was : WorkRoom
   room_was = room s held busy
 
-  abbrev back_to : IsGoingBack held.chains source s read room_was
+  abbrev back_to : GoesBackAlone held.chains source s read room_was
   back_to = going s held busy
 
   abbrev last : IsLast source s back_to.logged back_to.place
@@ -719,8 +729,8 @@ module _ (s : ℕ) {store : Store} (held : IsHeld store) (busy : doing_at s stor
           kept = inr refl;
         }
 
-        pub held_then : IsInMemory source → length new.past < 2 ^ 63 → IsHeld taken
-        held_then memory few =
+        pub held_then : IsInMemory source → IsTold new → length new.past < 2 ^ 63 → IsHeld taken
+        held_then memory told few =
             let long = ap length past_now in
             let names : new.names ≡ source.names = ap (λ (x : WorldState). x.names) is_then in
             held_after held (does memory few) (record {
@@ -740,7 +750,7 @@ module _ (s : ℕ) {store : Store} (held : IsHeld store) (busy : doing_at s stor
                 whole = done.whole;
                 anew = λ none. done.anew;
               });
-            }) (subst FitsThen (sym past_now) held.fits) (rows_by_writer s after new taken.desks by_me gives.here rows_now) logs_now
+            }) (subst FitsThen (sym past_now) held.fits) (rows_by after new taken.desks s (others_quiet s held by_me taken.desks gives.others) told logs_now gives.here rows_now) logs_now
             (gives.count ∙ held.count ∙ ap length (sym names)) (subst (λ (n : List (List ℕ)). length n ≤ 68) (sym names) held.few)
             (omega (arith, held.cut, long)) (λ place. omega (arith, held.short place, popped_fewer back_to.place place held.chains after pops, long))
 

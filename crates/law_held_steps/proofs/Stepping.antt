@@ -1,24 +1,26 @@
 -- Searches in a held store. It shows its rows to each that is under way: where keys lag behind the newest change of a session, other
 -- readers by a view don't see that change. A search begins, goes on, ends or is given up.
 use Rattle.std.proofs.Common.{◌≡◌, ◌≢◌, inl, inr, ℕ, ◌<◌, Bool, true, false, cond, List, [], ◌∷◌, ◌++◌, Option, Some, refl, sym, ap, subst, ◌∙◌, arith, length}
-use Rattle.std.proofs.Common.{slice_get, ◌⊎◌, ⊎_elim, None, eq-eqb, ◌≤◌, map}
-use Rattle.std.proofs.{lemmas.Bool.cases_lt, lemmas.Bool.false≢true, lemmas.Bool.cases_eq, lemmas.Bool.Decides.nat_tests, lemmas.Bool.Decides.eqb_tells}
+use Rattle.std.proofs.Common.{slice_get, zero, suc, ◌⊎◌, ⊎_elim, None, eq-eqb, ◌≤◌, map}
+use Rattle.std.proofs.{lemmas.Option.slice_get_past, lemmas.Bool.cases_Bool, lemmas.Bool.cases_lt, lemmas.Bool.false≢true, lemmas.Bool.cases_eq, lemmas.Bool.Decides.nat_tests, lemmas.Bool.Decides.eqb_tells}
 use Rattle.std.specs.Prelude.{is_some, option_map, ◌||◌, ◌≤◌, ◌==◌, ◌-◌, filter, ◌<◌}
 use Rattle.std.specs.List.{list_any}
 use Rattle.inno_model.specs.Past.{own, IsOpen, view_of, commits, changed}
-use Rattle.law_stored_rows.proofs.Values.{place_itself}
+use Rattle.law_stored_rows.proofs.Values.{place_itself, same_place}
 use Rattle.undo_apply.specs.{Told.rows_of as told_rows, Standing.IsTakenBack, declared.work_room.WorkRoom.WorkRoom}
 use Rattle.undo_apply.proofs.Taken.{whole_yet}
-use Rattle.desks.specs.Holding.{IsLast, IsOwnView, IsLastOf, RowsHeld, RowsHeldAt, RowsHeldBy, SightHolds, IsHeld, FindsSince, IsSearchHeld, SearchHeld}
+use Rattle.desks.specs.Holding.{IsLast, IsOwnView, RowHeld, RowHeldAt, RowsHeld, SightHolds, IsHeld, FindsSince, IsSearchHeld, SearchHeld}
+use Rattle.desks.specs.Holding.{newest_place, lags_in, lags_at}
 use Rattle.desks.specs.declared.desk.Doing.TheVariants.{Nothing, Searching, Changing, Lagging, Undoing}
-use Rattle.desks.specs.Desks.{Store, desk_at, doing_at, is_quiet_doing, is_quiet, with_doing}
+use Rattle.desks.specs.Desks.{Store, desk_at, doing_at, doing_in, is_quiet_doing, is_quiet, with_doing}
 use Rattle.desks.specs.Searching.{keys_left, places_in}
 use Rattle.desks.specs.{declared.desk.Desk.Desk, declared.desk.Doing.Doing, declared.desk.TableSearch.TableSearch, Shown.reading_of}
 use Rattle.law_stored_rows.specs.Tables.{Said, HasItsColumns, in_table, what_is_there, AreCoded}
 use Rattle.law_held_steps.proofs.Places.{none_moves, held_stays, moves_then, moves_in_one, moves_nothing, leaving_moves, moves_leave, moves_told}
 use Rattle.law_held_steps.proofs.Nearing.{IsLess, keys_before, visit_before, keys_anew, steps_nearer, still_nearer, anew_nearer, nearer_in}
-use Rattle.law_held_steps.proofs.{AnyStep.some_same, AnyStep.last_log, AnyStep.quiet_rows_at, Keeping.open_work, Putting.others_clean}
-use Rattle.law_found_rows.proofs.Showing.{shows_coded, shows_lagging, lags_at_one, holds_table, shows_clustered}
+use Rattle.law_held_steps.proofs.{AnyStep.some_same, AnyStep.quiet_lags, AnyStep.lags_nowhere, Keeping.open_work, Putting.others_clean, Putting.busy_writes}
+use Rattle.law_held_steps.proofs.{Putting.others_quiet, Alone.coded_all, Alone.last_lags}
+use Rattle.law_found_rows.proofs.Showing.{IsUnseen, shows_coded, shows_lagging, holds_table, shows_clustered}
 use Rattle.law_found_rows.proofs.{Finding.begins, Finding.may_come_anew, Finding.goes_on, Finding.waits_on, Databases.found_by_view, Databases.found_newest}
 use Rattle.row_versions.specs.{Chains.Chains, Chains.versions_at, Chains.sees, declared.place.Place.Place, declared.version.Version.Version}
 use Rattle.law_past_agreement.specs.Rows.{is_at, is_place, row_of, row_opened, seen}
@@ -116,51 +118,67 @@ module _ {chains : Chains} {state : WorldState} (agrees : Agrees chains state) {
 
 -- ---- what is shown while keys lag
 
-pub shows_changing : {schema : Schema} (scan : Scan) {state : WorldState} {chains : Chains} {change : KeysChange}
-    (p : IsChangingKeys chains (what_is_there chains) state change)
-    → IsTold state → slice_get state.schemas scan.table ≡ Some schema → HasItsColumns schema → scan.which ≤ length schema.keys
-    → sees_by scan.sight p.pushed.version.writer ≡ false → ShowsRows schema scan state (in_table scan.table chains)
-shows_changing {schema} scan {state} {chains} {change} p told there columns le unseen =
-    let rows = p.rows told in
-    let pushed = p.pushed in
-    shows_lagging state chains rows.0 told rows.1 schema scan there columns le (lags_at_one rows.2.lag
-    (record {
-      version = pushed.version;
-      others = p.older;
-      newest_is = pushed.versions;
-      tells = lags change.put change.before pushed.version pushed.versions rows.2;
-      unseen = unseen;
-    }))
-
 abbrev pub HasSome : Chains → WorldState → Type 0
 HasSome chains state = (said : Said) × AreRowsAs chains said state
 
-module _ (chains : Chains) {state : WorldState} (told : IsTold state) where
-  going_rows : {beside : Said} {place : Place} {undo : Undo} → LagsAt place chains beside state ⊎ IsTakenBack chains beside place undo (told_rows state)
-      → HasSome chains state
-  going_rows (inl lags) = (lags.said, lags.coded)
-  going_rows (inr back) = (_, back.all)
+rows_of_all : {store : Store} (held : IsHeld store) → HasSome held.chains store.world
+rows_of_all held = (held.rows.said, held.rows.coded)
 
-  rows_of_some : (w : ℕ) (undo : Undo) (room : WorkRoom) (doing : Doing) → RowsHeld chains state w undo room doing → HasSome chains state
-  rows_of_some w undo room Nothing rows = (what_is_there chains, rows told)
-  rows_of_some w undo room (Searching on) rows = (what_is_there chains, rows told)
-  rows_of_some w undo room (Changing (Record change key after)) rows = (what_is_there chains, alone_rows w chains state change key after rows.0 told)
-  rows_of_some w undo room (Changing (Keys change)) rows = let so = rows.0.rows told in (so.0, so.1)
-  rows_of_some w undo room Lagging rows = let so = rows.changing.rows told in (so.0, so.1)
-  rows_of_some w undo room Undoing rows = going_rows (lags_while chains (what_is_there chains) rows.place undo room state rows.putting told)
+-- the change by which a session's keys lag at this place
+lags_by : (chains : Chains) (said : Said) (state : WorldState) (w : ℕ) (undo : Undo) (room : WorkRoom) (doing : Doing) (place : Place)
+    → RowHeld chains said state w undo room doing → is_place place (lags_in state w doing) ≡ true → (logged : Logged) × IsLast state w logged place
+lags_by chains said state w undo room doing place row is = by doing row is
+  where
+    at : {logged : Logged} {other : Place} → IsLast state w logged other → is_place place (newest_place state.schemas (own w state.past)) ≡ true
+        → (logged : Logged) × IsLast state w logged place
+    at {logged} {other} last is =
+        let here = ap (is_place place) (last_lags last) in
+        (logged, subst (IsLast state w logged) (same_place other place (sym here ∙ is)) last)
 
-  some_rows_at : (w : ℕ) (desk : Option Desk) → RowsHeldAt chains state w desk → HasSome chains state
-  some_rows_at w None rows = (what_is_there chains, rows told)
-  some_rows_at w (Some desk) rows = rows_of_some w (read_into desk.undo) desk.room desk.doing rows
+    by : (doing : Doing) → RowHeld chains said state w undo room doing → is_place place (lags_in state w doing) ≡ true
+        → (logged : Logged) × IsLast state w logged place
+    by (Changing (Keys change)) row is = at row.newest.last is
+    by Lagging row is = at row.1.newest.last is
+    by Undoing row is = at row.last is
+    by Nothing row is = absurd (cc)
+    by (Searching on) row is = absurd (cc)
+    by (Changing (Record change key after)) row is = absurd (cc)
 
-  pub some_rows_by : (writer : Option ℕ) (desks : List Desk) → RowsHeldBy writer chains state desks → HasSome chains state
-  some_rows_by None desks rows = (what_is_there chains, rows told)
-  some_rows_by (Some w) desks rows = some_rows_at w (desk_at w desks) rows
+-- some session's keys lag at the place, or none's
+lags_below : (place : Place) (state : WorldState) (desks : List Desk) (n : ℕ)
+    → ((s : ℕ) × (lags_at place state desks s ≡ true)) ⊎ ((s : ℕ) → s < n → lags_at place state desks s ≡ false)
+lags_below place state desks zero = inr (λ s less. absurd (omega (arith, less)))
+lags_below place state desks (suc n) = elim (cases_Bool (lags_at place state desks n)) [
+  | inl is ↦ inl (n, is)
+  | inr not ↦ elim (lags_below place state desks n) [
+    | inl some ↦ inl some
+    | inr none ↦ inr (λ s less. elim (cases_eq s n) [
+      | inl same ↦ ap (lags_at place state desks) same ∙ not
+      | inr differs ↦ none s (omega (arith, less, differs))
+    ])
+  ]
+]
 
-  pub coded_while_quiet : (writer : Option ℕ) (desks : List Desk) → is_quiet writer desks ≡ true → RowsHeldBy writer chains state desks
-      → AreCoded state.schemas (pairs_of state) state.versions.kept_at chains
-  coded_while_quiet None desks is rows = rows told
-  coded_while_quiet (Some w) desks is rows = quiet_rows_at chains state w (desk_at w desks) is rows told
+who_lags : (place : Place) (state : WorldState) (desks : List Desk)
+    → ((s : ℕ) × (lags_at place state desks s ≡ true)) ⊎ ((s : ℕ) → lags_at place state desks s ≡ false)
+who_lags place state desks = elim (lags_below place state desks (length desks)) [
+  | inl some ↦ inl some
+  | inr none ↦ inr (λ s. elim (cases_lt s (length desks)) [
+    | inl less ↦ none s less
+    | inr beyond ↦ ap (λ desk. is_place place (lags_in state s (doing_in desk))) (slice_get_past desks s beyond)
+  ])
+]
+
+-- nobody changes a row, if who may write doesn't
+coded_while_quiet : {store : Store} (held : IsHeld store) → IsTold store.world → is_quiet store.writer store.desks ≡ true
+    → AreCoded store.world.schemas (pairs_of store.world) store.world.versions.kept_at held.chains
+coded_while_quiet {store} held told is = go store.writer refl
+  where
+    go : (writer : Option ℕ) → store.writer ≡ writer → AreCoded store.world.schemas (pairs_of store.world) store.world.versions.kept_at held.chains
+    go None none = coded_all held.chains store.world store.desks 0 (λ t differs. held.quiet t (λ may. let no : None ≡ Some t = sym none ∙ may in cc)) held.rows
+        (lags_nowhere store.world 0 (doing_at 0 store.desks) (held.quiet 0 (λ may. let no : None ≡ Some 0 = sym none ∙ may in cc))) told
+    go (Some w) may = coded_all held.chains store.world store.desks w (others_quiet w held may store.desks (λ u differs. refl)) held.rows
+        (lags_nowhere store.world w (doing_at w store.desks) (sym (ap (λ writer. is_quiet writer store.desks) may) ∙ is)) told
 
 -- a table whose rows are coded has its columns
 pub columns_of : (chains : Chains) (said : Said) (state : WorldState) (table : ℕ) {schema : Schema} → AreRowsAs chains said state
@@ -174,82 +192,55 @@ columns_of chains said state table {schema} coded there =
       keys = λ which key is. let entries = coded.keyed.keys table which schema key there is in (entries.indexed, entries.indexed_is);
     }
 
--- ---- a search of another session
-
-module _ {chains : Chains} (store : Store) (agrees : Agrees chains store.world) (logs : LogsAgree store.world) (told : IsTold store.world)
-    {w : ℕ} (s : ℕ) (writes : store.writer ≡ Some w) (differs : s ≢ w) {schema : Schema} (scan : Scan)
-    (there : slice_get store.world.schemas scan.table ≡ Some schema) (columns : HasItsColumns schema) (le : scan.which ≤ length schema.keys)
-    (holds : SightHolds store s scan.sight) where
-  abbrev state : WorldState
-  state = store.world
-
-  -- who reads the newest rows may write, and so is no other
-  unseen : (sight : Sight) → SightHolds store s sight → (logged : Logged) (place : Place) → IsLast state w logged place
-      → sees_by sight (id_of state.past w) ≡ false
-  unseen (View view reader) holds logged place last = unseen_by agrees last differs holds
-  unseen Newest holds logged place last = absurd (differs (some_same s w (sym holds ∙ writes)))
-
-  shows_keys : {change : KeysChange} (p : IsChangingKeys chains (what_is_there chains) state change) → IsLastOf state w change
-      → ShowsRows schema scan state (in_table scan.table chains)
-  shows_keys {change} p own =
-      let by : IsWrittenBy chains own.place (id_of state.past w) = written agrees own.last in
-      let last = own.last in
-      let tells = tells_of_it state own.logged last.log last.change last.before own.place (last_log logs last) last.place_is in
-      let at = sym (keys_place chains state tells change p (sym own.table_is ∙ tells.table_is) (sym own.key_is)) in
-      let one : p.pushed.version ≡ by.version = (let same : p.pushed.version ∷ p.older ≡ by.version ∷ by.others =
-      sym p.pushed.versions ∙ (ap (λ (place : Place). versions_at place chains) (sym at) ∙ by.versions) in cc) in
-      shows_changing scan p told there columns le (ap (λ (version : Version). sees_by scan.sight version.writer) one ∙ (ap (sees_by scan.sight) by.writer_is
-      ∙ unseen scan.sight holds own.logged own.place own.last))
-
-  shows_back : {logged : Logged} {place : Place} {undo : Undo} → IsLast state w logged place → LagsAt place chains (what_is_there chains) state ⊎ IsTakenBack
-      chains (what_is_there chains) place undo (told_rows state) → ShowsRows schema scan state (in_table scan.table chains)
-  shows_back {place = place} {undo = undo} last (inr back) =
-      shows_coded schema scan state chains told there columns le (whole_yet chains place undo (told_rows state) back)
-  shows_back {logged} {place} last (inl lag) =
-      let by : IsWrittenBy chains place (id_of state.past w) = written agrees last in
-      let unseen_by_it = ap (sees_by scan.sight) by.writer_is ∙ unseen scan.sight holds logged place last in
-      shows_lagging state chains lag.said told lag.coded schema scan there columns le (lags_at_one lag.lag
-      (record { version = by.version; others = by.others; newest_is = by.versions; tells = lag.older; unseen = unseen_by_it }))
-
-  shows_other : (undo : Undo) (room : WorkRoom) (doing : Doing) → RowsHeld chains state w undo room doing
-      → ShowsRows schema scan state (in_table scan.table chains)
-  shows_other undo room Nothing rows = shows_coded schema scan state chains told there columns le (rows told)
-  shows_other undo room (Searching on) rows = shows_coded schema scan state chains told there columns le (rows told)
-  shows_other undo room (Changing (Record change key after)) rows =
-      shows_coded schema scan state chains told there columns le (alone_rows w chains state change key after rows.0 told)
-  shows_other undo room (Changing (Keys change)) rows = shows_keys rows.0 rows.1
-  shows_other undo room Lagging rows = shows_keys rows.changing rows.newest
-  shows_other undo room Undoing rows = shows_back rows.last (lags_while chains (what_is_there chains) rows.place undo room state rows.putting told)
-
-  shows_other_at : (desk : Option Desk) → RowsHeldAt chains state w desk → ShowsRows schema scan state (in_table scan.table chains)
-  shows_other_at None rows = shows_coded schema scan state chains told there columns le (rows told)
-  shows_other_at (Some desk) rows = shows_other (read_into desk.undo) desk.room desk.doing rows
+-- ---- a search while others change rows
 
 module _ {store : Store} (held : IsHeld store) (told : IsTold store.world) (s : ℕ) (searching : is_quiet_doing (doing_at s store.desks) ≡ true)
     {schema : Schema} (scan : Scan) (there : slice_get store.world.schemas scan.table ≡ Some schema) (le : scan.which ≤ length schema.keys)
     (holds : SightHolds store s scan.sight) where
-  shows_by : (writer : Option ℕ) → store.writer ≡ writer → RowsHeldBy writer held.chains store.world store.desks
-      → ShowsRows schema scan store.world (in_table scan.table held.chains)
-  shows_by None is rows =
-      shows_coded schema scan store.world held.chains told there
-      (columns_of held.chains (what_is_there held.chains) store.world scan.table (rows told) there) le (rows told)
-  shows_by (Some w) is rows =
-      let some : HasSome held.chains store.world = some_rows_by held.chains told (Some w) store.desks rows in
-      let columns = columns_of held.chains some.0 store.world scan.table some.1 there in
-      ⊎_elim (λ same. shows_coded schema scan store.world held.chains told there columns le (quiet_rows_at held.chains store.world w (desk_at w store.desks)
-      (ap (λ (n : ℕ). is_quiet_doing (doing_at n store.desks)) (sym same) ∙ searching) rows told))
-      (λ differs. shows_other_at store held.agrees held.logs told s is
-      differs scan there columns le holds (desk_at w store.desks) rows) (cases_eq s w)
+  -- whose keys lag may write; who reads the newest rows may write, and so is no other
+  unseen : {w : ℕ} {logged : Logged} {place : Place} (sight : Sight) → SightHolds store s sight → s ≢ w → store.writer ≡ Some w
+      → IsLast store.world w logged place → sees_by sight (id_of store.world.past w) ≡ false
+  unseen (View view reader) holds differs writes last = unseen_by held.agrees last differs holds
+  unseen {w} Newest holds differs writes last = absurd (differs (some_same s w (sym holds ∙ writes)))
+
+  lagging_unseen : (w : ℕ) (place : Place) (desk : Option Desk) → desk_at w store.desks ≡ desk → lags_at place store.world store.desks w ≡ true
+      → IsUnseen held.chains held.rows.said scan.sight place
+  lagging_unseen w place None is lags = let no = ap (λ desk. is_place place (lags_in store.world w (doing_in desk))) is in absurd (cc)
+  lagging_unseen w place (Some desk) is lags =
+      let differs : s ≢ w = λ same. let no = quiet_lags store.world w store.desks place (subst (λ u. is_quiet_doing (doing_at u store.desks) ≡ true) same searching) in cc in
+      let last = lags_by held.chains held.rows.said store.world w (read_into desk.undo) desk.room desk.doing place
+      (subst (RowHeldAt held.chains held.rows.said store.world w) is (held.rows.each w))
+      (sym (ap (λ desk. is_place place (lags_in store.world w (doing_in desk))) is) ∙ lags) in
+      let by : IsWrittenBy held.chains place (id_of store.world.past w) = written held.agrees last.1 in
+      let busy : is_quiet_doing (doing_at w store.desks) ≡ false = lagging_busy place w lags in
+      record {
+        version = by.version;
+        others = by.others;
+        newest_is = by.versions;
+        tells = held.rows.lagging w place lags;
+        unseen = ap (sees_by scan.sight) by.writer_is ∙ unseen scan.sight holds differs (busy_writes w held refl busy) last.1;
+      }
+    where
+      lagging_busy : (place : Place) (w : ℕ) → lags_at place store.world store.desks w ≡ true → is_quiet_doing (doing_at w store.desks) ≡ false
+      lagging_busy place w lags = elim (cases_Bool (is_quiet_doing (doing_at w store.desks))) [
+        | inl quiet ↦ let no = quiet_lags store.world w store.desks place quiet in absurd (cc)
+        | inr busy ↦ busy
+      ]
 
   pub shows_held : ShowsRows schema scan store.world (in_table scan.table held.chains)
-  shows_held = shows_by store.writer refl held.rows
+  shows_held =
+      shows_lagging store.world held.chains held.rows.said told held.rows.coded schema scan there
+      (columns_of held.chains held.rows.said store.world scan.table held.rows.coded there) le (λ place. elim (who_lags place store.world store.desks) [
+        | inl some ↦ inr (lagging_unseen some.0 place (desk_at some.0 store.desks) refl some.1)
+        | inr none ↦ inl (held.rows.settled place none)
+      ])
 
 -- ---- A search that begins, with the view by which it reads; one that is under way goes on, ends or is given up.
 
 pub columns_held : {store : Store} (table : ℕ) {schema : Schema} → IsHeld store → IsTold store.world → slice_get store.world.schemas table ≡ Some schema
     → HasItsColumns schema
 columns_held {store} table held told there =
-    let rows : HasSome held.chains store.world = some_rows_by held.chains told store.writer store.desks held.rows in
+    let rows : HasSome held.chains store.world = rows_of_all held in
     columns_of held.chains rows.0 store.world table rows.1 there
 
 pub new_search : (table : ℕ) (plan : Plan) (sight : Sight) (search : RowSearch) → search.scan ≡ record {
@@ -393,7 +384,7 @@ module _ {store : Store} (held : IsHeld store) (told : IsTold store.world) (s : 
   now = store.world
 
   rows : HasSome held.chains now
-  rows = some_rows_by held.chains told store.writer store.desks held.rows
+  rows = rows_of_all held
 
   abbrev scan : Scan
   scan = on.search.scan
@@ -442,7 +433,7 @@ module _ (s : ℕ) {store : Store} {on : TableSearch} (held : IsHeld store) (is 
   search_held = subst (SearchHeld held.chains store s) is (held.searches s)
 
   some_rows : IsTold old → HasSome held.chains old
-  some_rows told = some_rows_by held.chains told store.writer store.desks held.rows
+  some_rows told = rows_of_all held
 
   short : (place : Place) → length (versions_at place held.chains) ≤ most_versions
   short = few_held held
@@ -545,12 +536,12 @@ module _ {store : Store} (table : ℕ) (plan : Plan) (schema : Schema) (held : I
       columns = columns_held table held told there;
       which = le;
       said = what_is_there held.chains;
-      coded = coded_while_quiet held.chains told store.writer store.desks is held.rows;
+      coded = coded_while_quiet held told is;
       tells = inl refl;
       short = few_held held;
     }
     tells_by false is =
-        let rows : HasSome held.chains store.world = some_rows_by held.chains told store.writer store.desks held.rows in
+        let rows : HasSome held.chains store.world = rows_of_all held in
         record {
           there = there;
           columns = columns_held table held told there;
