@@ -1,5 +1,5 @@
 -- What holds of a store between calls.
-use Rattle.std.specs.Prelude.{◌≡◌, ◌≢◌, ℕ, ◌+◌, ◌≤◌, ◌^◌, ◌==◌, Bool, true, false, List, [], ◌∷◌, length, slice_get, Option, None, Some, is_some}
+use Rattle.std.specs.Prelude.{◌≡◌, ◌≢◌, ℕ, ◌+◌, ◌≤◌, ◌^◌, ◌==◌, if◌then◌else◌, Bool, true, false, List, [], ◌∷◌, length, slice_get, Option, None, Some, is_some}
 use Rattle.std.specs.FinMap.{get}
 use Rattle.sql_history.specs.Counts.{rows_in, most_rows}
 use Rattle.inno_model.specs.Past.{own, started, under_way, of_item, awaits_ack, IsOpen}
@@ -19,9 +19,10 @@ use Rattle.row_versions.specs.{declared.place.Place.Place, Chains.Chains, Chains
 use Rattle.law_past_agreement.specs.{Rows.place_in, Rows.is_place, Agreement.IsOpenedWith}
 use Rattle.law_stored_rows.specs.Tables.{Said, TellsOfOlder}
 use Rattle.row_changes.specs.declared.row_change.RowChange.TheVariants.{Record, Keys}
-use Rattle.row_changes.specs.{Told.HasRows, Told.AreRowsAs, Told.SaysAt, Rows.IsChangingRow, Keys.IsChangingKeys, declared.keys_change.KeysChange.KeysChange}
+use Rattle.row_changes.specs.{Told.HasRows, Told.AreRowsAs, Told.SaysAt, Rows.IsChangingRow, declared.keys_change.KeysChange.KeysChange}
+use Rattle.row_changes.specs.declared.row_change.RowChange.{RowChange}
 use Rattle.row_search.specs.{declared.sight.Sight.Sight, declared.sight.Sight.TheVariants.View, declared.sight.Sight.TheVariants.Newest}
-use Rattle.undo_apply.specs.{declared.work_room.WorkRoom.WorkRoom, Stages.IsPuttingBack, Standing.said_but}
+use Rattle.undo_apply.specs.{declared.work_room.WorkRoom.WorkRoom, Stages.IsPuttingBack}
 use Rattle.law_logged_changes.specs.Logs.{LogsAgree}
 
 -- each place has few versions: those of this history, and not too many older ones
@@ -74,35 +75,36 @@ pub record IsLastOf (state : WorldState) (s : ℕ) (change : KeysChange) : Type 
   pub table_is : place.table ≡ change.table
   pub key_is : logged.undo.key ≡ change.key
 
--- what keys say of all other places, and of this one what is there
-abbrev pub settled_at : Place → Chains → Said → Said
-settled_at place chains said = said_but said place (λ which. versions_at place chains)
+-- the same of a change that the history tells
+abbrev pub IsLastIfTold : WorldState → ℕ → RowChange → Type 0
+IsLastIfTold state s (Record change key after) = Unit {0}
+IsLastIfTold state s (Keys change) = IsLastOf state s change
 
--- keys take the session's newest change over, or it was given up meanwhile
-pub record IsLagging (chains : Chains) (said : Said) (state : WorldState) (s : ℕ) (change : KeysChange) : Type 0 where
+-- its keys lag, of a change that was given up
+pub record IsLagging (chains : Chains) (beside : Said) (state : WorldState) (s : ℕ) : Type 0 where
+  pub change : KeysChange
+  pub changing : IsChangingRow s chains beside state (Keys change)
   pub newest : IsLastOf state s change
-  pub changing : IsChangingKeys chains (settled_at newest.place chains said) state change
 
 -- it is being taken back
-pub record IsGoingBack (chains : Chains) (said : Said) (state : WorldState) (s : ℕ) (undo : Undo) (room : WorkRoom) : Type 0 where
+pub record IsGoingBack (chains : Chains) (beside : Said) (state : WorldState) (s : ℕ) (undo : Undo) (room : WorkRoom) : Type 0 where
   pub logged : Logged
   pub place : Place
   pub last : IsLast state s logged place
   pub undo_is : undo ≡ logged.undo
-  pub putting : IsPuttingBack chains (settled_at place chains said) place undo room state
+  pub putting : IsPuttingBack chains beside place undo room state
 
--- what the session knows of the row that it is at work on
+-- what the session knows of the row that it is at work on, where keys say this of others
 abbrev pub RowHeld : Chains → Said → WorldState → ℕ → Undo → WorkRoom → Doing → Type 0
-RowHeld chains said state s undo room (Changing (Record change key after)) = IsChangingRow s chains said state (Record change key after)
-RowHeld chains said state s undo room (Changing (Keys change)) = IsLagging chains said state s change
-RowHeld chains said state s undo room Lagging = (change : KeysChange) × IsLagging chains said state s change
-RowHeld chains said state s undo room Undoing = IsGoingBack chains said state s undo room
-RowHeld chains said state s undo room quiet = Unit {0}
+RowHeld chains beside state s undo room (Changing change) = IsChangingRow s chains beside state change × IsLastIfTold state s change
+RowHeld chains beside state s undo room Lagging = IsLagging chains beside state s
+RowHeld chains beside state s undo room Undoing = IsGoingBack chains beside state s undo room
+RowHeld chains beside state s undo room quiet = Unit {0}
 
 -- by what lies at its desk
 abbrev pub RowHeldAt : Chains → Said → WorldState → ℕ → Option Desk → Type 0
-RowHeldAt chains said state s None = Unit {0}
-RowHeldAt chains said state s (Some desk) = RowHeld chains said state s (read_into desk.undo) desk.room desk.doing
+RowHeldAt chains beside state s None = Unit {0}
+RowHeldAt chains beside state s (Some desk) = RowHeld chains beside state s (read_into desk.undo) desk.room desk.doing
 
 -- the place of the newest of these changes
 abbrev pub newest_place : List Schema → List Change → Option Place
@@ -119,11 +121,16 @@ lags_in state s other = None
 abbrev pub lags_at : Place → WorldState → List Desk → ℕ → Bool
 lags_at place state desks s = is_place place (lags_in state s (doing_at s desks))
 
+-- what keys say of all places but that where the session's own keys lag, and of that one what is there
+abbrev pub said_beside : Chains → Said → WorldState → List Desk → ℕ → Said
+said_beside chains said state desks s table which key =
+    if lags_at (record { table = table; key = key }) state desks s then versions_at (record { table = table; key = key }) chains else said table which key
+
 -- The keys say one thing of each place, whoever looks: what is there, or where they lag, all that is there but the newest.
 pub record RowsHeld (chains : Chains) (state : WorldState) (desks : List Desk) : Type 0 where
   pub said : Said
   pub coded : AreRowsAs chains said state
-  pub each : (s : ℕ) → RowHeldAt chains said state s (desk_at s desks)
+  pub each : (s : ℕ) → RowHeldAt chains (said_beside chains said state desks s) state s (desk_at s desks)
   pub lagging : (s : ℕ) (place : Place) → lags_at place state desks s ≡ true → TellsOfOlder place chains said
   pub settled : (place : Place) → ((s : ℕ) → lags_at place state desks s ≡ false) → SaysAt place chains said
 

@@ -1,6 +1,7 @@
 -- What holds of the lists after a step of one session, whatever step it is. What the others have is said here once: their
 -- desks, searches, rooms and rows.
-use Rattle.std.proofs.Common.{◌≡◌, ◌≢◌, ◌⊎◌, ⊎_elim, inl, inr, ℕ, ◌==◌, Bool, false, cond, eq-eqb, ◌≤◌, true, List, ◌∷◌, length, Option, Some, None, refl, sym, ap}
+use Rattle.std.proofs.Common.{◌≡◌, ◌≢◌, ◌⊎◌, ⊎_elim, inl, inr, ℕ, ◌==◌, Bool, false, cond, eq-eqb, ◌≤◌, true, List, ◌∷◌, length, Option, Some, None, refl, sym}
+use Rattle.std.proofs.Common.{ap}
 use Rattle.std.proofs.Common.{[], subst, ◌∙◌, arith}
 use Rattle.std.proofs.lemmas.Bool.{cases_eq, false≢true}
 use Rattle.std.specs.Prelude.{slice_get, is_some}
@@ -18,13 +19,13 @@ use Rattle.shared_lists.specs.Fitting.{FitsThen}
 use Rattle.law_found_rows.specs.Pasts.{AddsAtMostOne}
 use Rattle.law_found_rows.proofs.Seen.{other_of}
 use Rattle.desks.specs.declared.desk.Doing.TheVariants.{Nothing, Searching, Changing, Lagging, Undoing}
-use Rattle.desks.specs.Holding.{AreFew, IsLast, IsLastOf, IsLagging, RowHeld, RowHeldAt, RowsHeld, SearchHeld, IsHeld, settled_at, newest_place, lags_in, lags_at}
+use Rattle.desks.specs.Holding.{AreFew, IsLast, IsLastIfTold, RowHeld, RowHeldAt, RowsHeld, SearchHeld, IsHeld, newest_place, lags_in, lags_at, said_beside}
 use Rattle.desks.specs.Desks.{Store, desk_at, doing_in, doing_at, started_in, started_at, is_quiet_doing, HasRooms}
 use Rattle.desks.specs.{declared.desk.Desk.Desk, declared.desk.Doing.Doing, Leaves.Does}
 use Rattle.desks.proofs.Leaving.{search_left}
-use Rattle.row_versions.specs.{Versions.Stays, declared.place.Place.Place, Chains.Chains}
+use Rattle.row_versions.specs.{Versions.Stays, declared.place.Place.Place, Chains.Chains, Chains.versions_at}
 use Rattle.row_changes.specs.declared.row_change.RowChange.TheVariants.{Record, Keys}
-use Rattle.row_changes.specs.declared.keys_change.KeysChange.{KeysChange}
+use Rattle.row_changes.specs.declared.row_change.RowChange.{RowChange}
 use Rattle.undo_apply.specs.declared.work_room.WorkRoom.{WorkRoom}
 use Rattle.law_logged_changes.specs.{Logs.IsLogOf, Logs.LogsAgree, Steps.ChangesPairsAlone}
 use Rattle.law_logged_changes.proofs.Leaving.{work_beside, agrees_beside, rows_left, change_left}
@@ -77,9 +78,10 @@ last_log {s} {state} agree last =
 
 -- what a session knows of its row that is left as it was
 module _ (s : ℕ) {chains : Chains} {old new : WorldState} (leaves : LeavesRows old new) (agrees : Agrees chains new)
-    (session : slice_get new.sessions s ≡ slice_get old.sessions s) (own_is : own s new.past ≡ own s old.past) where
-  abbrev pub last_of_left : {change : KeysChange} → IsLastOf old s change → IsLastOf new s change
-  last_of_left is = record {
+    (session : slice_get new.sessions s ≡ slice_get old.sessions s) (own_is : own s new.past ≡ own s old.past) (beside : Said) where
+  newest_left : (change : RowChange) → IsLastIfTold old s change → IsLastIfTold new s change
+  newest_left (Record change key after) is = is
+  newest_left (Keys change) is = record {
     logged = is.logged;
     place = is.place;
     last = last_left s leaves.schemas session own_is is.last;
@@ -87,29 +89,26 @@ module _ (s : ℕ) {chains : Chains} {old new : WorldState} (leaves : LeavesRows
     key_is = is.key_is;
   }
 
-  lagging_left : {said : Said} {change : KeysChange} → IsLagging chains said old s change → IsLagging chains said new s change
-  lagging_left {said} {change} is = record {
-    newest = last_of_left is.newest;
-    changing = change_left old new leaves s chains (settled_at is.newest.place chains said) (Keys change) is.changing session agrees;
+  pub row_left : (undo : Undo) (room : WorkRoom) (doing : Doing) → RowHeld chains beside old s undo room doing → RowHeld chains beside new s undo room doing
+  row_left undo room Nothing row = row
+  row_left undo room (Searching on) row = row
+  row_left undo room (Changing change) row = (change_left old new leaves s chains beside change row.0 session agrees, newest_left change row.1)
+  row_left undo room Lagging row = record {
+    change = row.change;
+    changing = change_left old new leaves s chains beside (Keys row.change) row.changing session agrees;
+    newest = newest_left (Keys row.change) row.newest;
   }
-
-  row_left : (said : Said) (undo : Undo) (room : WorkRoom) (doing : Doing) → RowHeld chains said old s undo room doing → RowHeld chains said new s undo room doing
-  row_left said undo room Nothing row = row
-  row_left said undo room (Searching on) row = row
-  row_left said undo room (Changing (Record change key after)) row = change_left old new leaves s chains said (Record change key after) row session agrees
-  row_left said undo room (Changing (Keys change)) row = lagging_left row
-  row_left said undo room Lagging row = (row.0, lagging_left row.1)
-  row_left said undo room Undoing row = record {
+  row_left undo room Undoing row = record {
     logged = row.logged;
     place = row.place;
     last = last_left s leaves.schemas session own_is row.last;
     undo_is = row.undo_is;
-    putting = others_leave chains (settled_at row.place chains said) row.place undo room old new row.putting leaves;
+    putting = others_leave chains beside row.place undo room old new row.putting leaves;
   }
 
-  pub row_left_at : (said : Said) (desk : Option Desk) → RowHeldAt chains said old s desk → RowHeldAt chains said new s desk
-  row_left_at said None row = row
-  row_left_at said (Some desk) row = row_left said (read_into desk.undo) desk.room desk.doing row
+  row_left_at : (desk : Option Desk) → RowHeldAt chains beside old s desk → RowHeldAt chains beside new s desk
+  row_left_at None row = row
+  row_left_at (Some desk) row = row_left (read_into desk.undo) desk.room desk.doing row
 
 -- who changes no row knows nothing of one
 quiet_knows : (chains : Chains) (said : Said) (state : WorldState) (s : ℕ) (undo : Undo) (room : WorkRoom) (doing : Doing) → is_quiet_doing doing ≡ true
@@ -124,7 +123,7 @@ quiet_row chains said state s None is = record {}
 quiet_row chains said state s (Some desk) is = quiet_knows chains said state s (read_into desk.undo) desk.room desk.doing is
 
 -- and its keys lag nowhere
-pub lags_nowhere : (state : WorldState) (s : ℕ) (doing : Doing) → is_quiet_doing doing ≡ true → lags_in state s doing ≡ None
+lags_nowhere : (state : WorldState) (s : ℕ) (doing : Doing) → is_quiet_doing doing ≡ true → lags_in state s doing ≡ None
 lags_nowhere state s Nothing is = refl
 lags_nowhere state s (Searching on) is = refl
 lags_nowhere state s other is = absurd (cc)
@@ -146,7 +145,7 @@ pub none_lag : {chains : Chains} {state : WorldState} {desks : List Desk} → Ar
 none_lag {chains} {state} {desks} coded quiet = record {
   said = what_is_there chains;
   coded = coded;
-  each = λ s. quiet_row chains (what_is_there chains) state s (desk_at s desks) (quiet s);
+  each = λ s. quiet_row chains (said_beside chains (what_is_there chains) state desks s) state s (desk_at s desks) (quiet s);
   lagging = λ s place is. let no = quiet_lags state s desks place (quiet s) in absurd (cc);
   settled = λ place none which. refl;
 }
@@ -171,14 +170,19 @@ module _ {chains : Chains} {old new : WorldState} {desks now : List Desk} (leave
         ∙ ap (is_place place) (lags_as old new s (doing_at s desks) leaves.schemas is.own_is)
   ]
 
+  beside_still : (said : Said) (s : ℕ) → said_beside chains said new now s ≡ said_beside chains said old desks s
+  beside_still said s = λ i table which key.
+      let place : Place = record { table = table; key = key } in cond (lags_still place s i) (versions_at place chains) (said table which key)
+
   pub rows_stay : RowsHeld chains old desks → RowsHeld chains new now
   rows_stay rows = record {
     said = rows.said;
     coded = rows_left old new leaves chains rows.said told rows.coded;
     each = λ s. elim (left s) [
-      | inl quiet ↦ quiet_row chains rows.said new s (desk_at s now) quiet.1
-      | inr is ↦ subst (RowHeldAt chains rows.said new s) (sym is.desk)
-          (row_left_at s leaves agrees is.session is.own_is rows.said (desk_at s desks) (rows.each s))
+      | inl quiet ↦ quiet_row chains (said_beside chains rows.said new now s) new s (desk_at s now) quiet.1
+      | inr is ↦ subst (RowHeldAt chains (said_beside chains rows.said new now s) new s) (sym is.desk)
+          (subst (λ beside. RowHeldAt chains beside new s (desk_at s desks)) (sym (beside_still rows.said s))
+          (row_left_at s leaves agrees is.session is.own_is (said_beside chains rows.said old desks s) (desk_at s desks) (rows.each s)))
     ];
     lagging = λ s place is. rows.lagging s place (sym (lags_still place s) ∙ is);
     settled = λ place none. rows.settled place (λ s. sym (lags_still place s) ∙ none s);

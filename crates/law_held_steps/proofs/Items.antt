@@ -15,13 +15,11 @@ use Rattle.world.specs.{Told.IsTold, Told.LeavesRows, Told.pairs_in, Told.pairs_
 use Rattle.world.specs.{Sessions.with_save, Endings.IsCommitted, Endings.IsRolledBack}
 use Rattle.law_logged_changes.specs.{Steps.LeavesLog, Steps.HasNoLog, Steps.LeavesLogs, Steps.OfAll, Logs.LogsAgree, Logs.IsLogOf}
 use Rattle.desks.specs.Desks.{desk_at, with_start, doing_at, started_at, is_quiet_doing, HasRooms, doing_in, started_in, IsNewDesk, Store}
-use Rattle.desks.specs.Holding.{SearchHeld, IsHeld, IsFresh}
-use Rattle.row_versions.specs.Versions.{Versions}
-use Rattle.desks.specs.{declared.desk.Desk.Desk, declared.desk.Doing.TheVariants.Nothing, Leaves.Does}
+use Rattle.desks.specs.{Holding.SearchHeld, Holding.IsHeld, Holding.IsFresh, declared.desk.Desk.Desk, declared.desk.Doing.TheVariants.Nothing, Leaves.Does}
+use Rattle.row_versions.specs.Versions.{Versions, Stays}
 use Rattle.law_logged_changes.proofs.Leaving.{rows_leave, all_left, more_grow}
 use Rattle.law_held_steps.proofs.AnyStep.{some_same, each, others_past, past_grows, quiet_step, held_after, waits_not, none_lag}
-use Rattle.law_held_steps.proofs.Putting.{rests_coded}
-use Rattle.law_held_steps.proofs.Desks.{desk_elsewhere, as_many}
+use Rattle.law_held_steps.proofs.{Putting.rests_coded, Desks.desk_elsewhere, Desks.as_many}
 use Rattle.law_world_agreement.proofs.Entries.{started_agrees, ended_agrees, acked_agrees, signal_agrees, unentered_agrees}
 use Rattle.law_world_agreement.proofs.{Opening.set_here, Opening.set_other, Opening.opened_agrees, Opening.viewed_agrees, Ending.one_session_of}
 use Rattle.law_world_agreement.proofs.{Ending.committed_agrees, Ending.rolled_back_agrees, Joining.first_agrees, Joining.joined_agrees, Changing.created_agrees}
@@ -31,7 +29,6 @@ use Rattle.law_stored_rows.specs.Tables.{HasItsColumns, HasNoPairs, AreCoded}
 use Rattle.law_stored_rows.specs.{Storable.IsStorable, Storable.IsKeyOn, Edits.clustered_index, Edits.key_index}
 use Rattle.law_held_steps.specs.Leaving.{LeavesDesks, HasSameRows}
 use Rattle.entries.specs.{Index.Index, Index.AreKept, Pairs.Pair, Lists.empty_index}
-use Rattle.row_versions.specs.Versions.{Stays}
 use Rattle.shared_lists.specs.Fitting.{FitsThen}
 use Rattle.law_found_rows.specs.Pasts.{AddsAtMostOne}
 use Rattle.sql_history.specs.Settings.{at_end, saved}

@@ -4,21 +4,19 @@ use Rattle.std.proofs.lemmas.Option.{slice_get_within}
 use Rattle.std.specs.Prelude.{slice_get, IsSomeAnd}
 use Rattle.law_stored_rows.specs.{Fitting.IsKeyFor, Fitting.FitsTable, Tables.what_is_there}
 use Rattle.row_changes.specs.Rows.{primary_of, table_of, place_of, row_steps, IsChangingRowAlone, ChangesRowAlone}
-use Rattle.row_changes.specs.declared.row_edit.RowEdit.TheVariants.{Put, Remove}
-use Rattle.row_changes.specs.Edits.{change_of, FitsEdit, rows_put}
-use Rattle.row_changes.specs.declared.row_change.RowChange.TheVariants.{Record, Keys}
-use Rattle.row_changes.specs.Reached.{Went, Done, Hindered}
+use Rattle.row_changes.specs.Reached.{Went, Done, Hindered, Reached}
+use Rattle.row_changes.specs.{declared.row_edit.RowEdit.TheVariants.Put, declared.row_edit.RowEdit.TheVariants.Remove, Edits.change_of, Edits.FitsEdit}
+use Rattle.row_changes.specs.{Edits.rows_put, declared.row_change.RowChange.TheVariants.Record, declared.row_change.RowChange.TheVariants.Keys}
 use Rattle.row_changes.specs.{declared.row_edit.RowEdit.RowEdit, declared.record_change.RecordChange.RecordChange, declared.keys_change.KeysChange.KeysChange}
-use Rattle.row_changes.specs.{declared.row_change.RowChange.RowChange, Reached.Reached}
+use Rattle.row_changes.specs.{declared.row_change.RowChange.RowChange}
 use Rattle.law_past_agreement.specs.Order.{created}
 use Rattle.desks.specs.Desks.{Store, desk_at, doing_in, doing_at, started_in, started_at, with_doing, is_quiet_doing, is_undoing, HasRooms}
-use Rattle.desks.specs.{Holding.IsHeld, Holding.SearchHeld, Holding.AreFew, Holding.IsLastOf, declared.desk.Desk.Desk}
+use Rattle.desks.specs.{Holding.IsHeld, Holding.SearchHeld, Holding.AreFew, Holding.IsLastOf, Holding.IsLastIfTold, declared.desk.Desk.Desk}
 use Rattle.desks.specs.{declared.desk.Doing.Doing, declared.desk.Doing.TheVariants.Nothing, declared.desk.Doing.TheVariants.Changing, Undoing.keys_if}
 use Rattle.row_changes.proofs.Alone.{alone_rows, alone_over, keys_alone}
 use Rattle.law_held_steps.proofs.Keeping.{open_work, open_joined, goes_same, goes_changed, leaves_lists, last_of_kept, keeps}
-use Rattle.law_held_steps.proofs.{Desks.given, Desks.there, Desks.started_still, Desks.rooms_then, Desks.changes_at_a_desk, AnyStep.each}
-use Rattle.law_held_steps.proofs.Alone.{IsLastIfTold, HoldsAlone, rows_by}
-use Rattle.law_held_steps.proofs.{Places.search_as, Putting.rests_coded, Putting.others_quiet, Putting.changing_rows, Putting.alone_if}
+use Rattle.law_held_steps.proofs.{Desks.given, Desks.there, Desks.started_still, Desks.rooms_then, Desks.changes_at_a_desk, AnyStep.each, Alone.HoldsAlone}
+use Rattle.law_held_steps.proofs.{Alone.rows_by, Places.search_as, Putting.rests_coded, Putting.others_quiet, Putting.changing_rows, Putting.alone_if}
 use Rattle.law_found_rows.proofs.FittingChanges.{tables_storable}
 use Rattle.law_world_agreement.specs.Agreement.{Agrees}
 use Rattle.law_logged_changes.proofs.{Listed.begun as begun_row, Entering.goes_on, Entering.place_there, Logging.change_logged, Logging.row_all}

@@ -8,8 +8,8 @@ use Rattle.std.proofs.{lemmas.Bool.cases_eq, lemmas.Bool.Decides.nat_tests, lemm
 use Rattle.world.specs.State.{WorldState, Logged, Session, Work, HasWork, IsSession, standing_of}
 use Rattle.world.specs.{Undoing.read_into, Undoing.ReadsLast, Undoing.newest, Undoing.IsRead, Undoing.HoldsRecord, Undoing.IsCutBack, Told.IsTold}
 use Rattle.world.specs.{Told.pairs_of, Told.TellsTogether, Told.LeavesRows, declared.undo_room.UndoRoom.UndoRoom, Memory.IsInMemory, Sessions.undone_added}
-use Rattle.desks.specs.Holding.{IsLast, SearchHeld, IsHeld, WriterAgrees, lags_in}
-use Rattle.law_held_steps.proofs.Alone.{IsLastIfTold, LagsAlone, GoesBackAlone, HoldsAlone, HoldsAloneAt, held_alone, coded_all, rows_by, back_left}
+use Rattle.desks.specs.Holding.{IsLast, IsLastIfTold, IsLagging, IsGoingBack, SearchHeld, IsHeld, WriterAgrees}
+use Rattle.law_held_steps.proofs.Alone.{HoldsAlone, HoldsAloneAt, held_alone, coded_all, rows_by}
 use Rattle.desks.specs.Undoing.{left_at, keys_if, undo_left_in, most_versions, left_in}
 use Rattle.desks.specs.declared.desk.Doing.TheVariants.{Nothing, Changing, Lagging, Undoing}
 use Rattle.desks.specs.Desks.{desk_at, doing_in, doing_at, started_in, is_quiet_doing, is_undoing, with_read, with_room, HasRooms, with_doing, Store}
@@ -18,7 +18,7 @@ use Rattle.law_logged_changes.proofs.Leaving.{own_beside, agrees_beside, step_al
 use Rattle.law_logged_changes.proofs.Leaving.{cut_left, cut_again, has_rows_left}
 use Rattle.law_logged_changes.proofs.Beginning.{tells_of_it, begins_settled, begins_lagging}
 use Rattle.law_logged_changes.proofs.{TakenBack.taken as taken_back, TakenBack.to_cut_by_history, Cutting.rows_as_cut, Cutting.has_cut}
-use Rattle.law_held_steps.proofs.AnyStep.{some_same, last_left, held_beside, last_log, waits_not, held_after}
+use Rattle.law_held_steps.proofs.AnyStep.{some_same, last_left, row_left, held_beside, last_log, waits_not, held_after}
 use Rattle.law_held_steps.proofs.{Desks.IsGiven, Desks.is_given, Desks.given_then, Keeping.open_work, Showing.settings_same, Showing.shows_now}
 use Rattle.undo_apply.specs.Stages.{Stops, StopsAt, IsPuttingBack, GoesOn, IsHindered, IsDone, PutsBack, StageHolds, WalksOn}
 use Rattle.undo_apply.specs.Standing.{versions_before, HasWalked, IsTakenBack, said_but}
@@ -87,7 +87,7 @@ changing_at chains state s change (Some desk) at rows = subst (HoldsAlone chains
 pub record GoesBackAt (chains : Chains) (state : WorldState) (s : ℕ) (desks : List Desk) : Type 0 where
   pub desk : Desk
   pub at : desk_at s desks ≡ Some desk
-  pub going : GoesBackAlone chains state s (read_into desk.undo) desk.room
+  pub going : IsGoingBack chains (what_is_there chains) state s (read_into desk.undo) desk.room
 
 back_at : (chains : Chains) (state : WorldState) (s : ℕ) (desks : List Desk) (found : Option Desk) → desk_at s desks ≡ found → doing_in found ≡ Undoing
     → HoldsAloneAt chains state s found → GoesBackAt chains state s desks
@@ -107,7 +107,8 @@ module _ (s : ℕ) {store : Store} (held : IsHeld store) where
 
   -- who may write and has nothing under way finds all rows coded
   pub rests_coded : store.writer ≡ Some s → doing_at s store.desks ≡ Nothing → HasRows held.chains store.world
-  rests_coded mine rests = coded_all held.chains store.world store.desks s (others_quiet mine store.desks (λ u differs. refl)) held.rows (ap (lags_in store.world s) rests)
+  rests_coded mine rests = coded_all held.chains store.world store.desks s (others_quiet mine store.desks (λ u differs. refl)) held.rows
+      (ap is_quiet_doing rests)
 
   -- who has more than a search under way may write
   pub busy_writes : {doing : Doing} → doing_at s store.desks ≡ doing → is_quiet_doing doing ≡ false → store.writer ≡ Some s
@@ -260,7 +261,7 @@ read_there log logged older read there is reads =
 module _ (chains : Chains) (state : WorldState) (s : ℕ) (room : WorkRoom) (read : Undo) (agree : LogsAgree state) (whole : IsWhole room)
     (anew : room.stage ≡ Find) (is_read : (logged : Logged) (place : Place) → IsLast state s logged place → read ≡ logged.undo) where
   going_if : (logged : Logged) (place : Place) → IsLast state s logged place → IsPuttingBack chains (what_is_there chains) place logged.undo room state
-      → GoesBackAlone chains state s read room
+      → IsGoingBack chains (what_is_there chains) state s read room
   going_if logged place last putting =
       let is = is_read logged place last in
       record {
@@ -271,15 +272,16 @@ module _ (chains : Chains) (state : WorldState) (s : ℕ) (room : WorkRoom) (rea
         putting = subst (λ (u : Undo). IsPuttingBack chains (what_is_there chains) place u room state) (sym is) putting;
       }
 
-  begin_from : (desk : Option Desk) → IsReady (doing_in desk) → HoldsAloneAt chains state s desk → HasLast s state → GoesBackAlone chains state s read room
+  begin_from : (desk : Option Desk) → IsReady (doing_in desk) → HoldsAloneAt chains state s desk → HasLast s state
+      → IsGoingBack chains (what_is_there chains) state s read room
   begin_from desk is rows (logged, place, last) = go desk is rows where
-    settled : HasRows chains state → GoesBackAlone chains state s read room
+    settled : HasRows chains state → IsGoingBack chains (what_is_there chains) state s read room
     settled coded =
         let log = last_log agree last in
         going_if logged place last (begins_settled state logged last.log last.change last.before place log last.place_is chains room
         (rows_beside chains place state coded) whole anew)
 
-    lagging : LagsAlone chains state s → GoesBackAlone chains state s read room
+    lagging : IsLagging chains (what_is_there chains) state s → IsGoingBack chains (what_is_there chains) state s read room
     lagging rows =
         let lag = rows.newest in
         let last = lag.last in
@@ -289,12 +291,12 @@ module _ (chains : Chains) (state : WorldState) (s : ℕ) (room : WorkRoom) (rea
         rows.change rows.changing (sym lag.table_is ∙ tells.table_is) (sym lag.key_is) whole anew)
 
     by_doing : (undo : Undo) (other : WorkRoom) (doing : Doing) → IsReady doing → HoldsAlone chains state s undo other doing
-        → GoesBackAlone chains state s read room
+        → IsGoingBack chains (what_is_there chains) state s read room
     by_doing undo other Nothing is rows = settled rows
     by_doing undo other Lagging is rows = lagging rows
     by_doing undo other doing is rows = absurd is
 
-    go : (desk : Option Desk) → IsReady (doing_in desk) → HoldsAloneAt chains state s desk → GoesBackAlone chains state s read room
+    go : (desk : Option Desk) → IsReady (doing_in desk) → HoldsAloneAt chains state s desk → IsGoingBack chains (what_is_there chains) state s read room
     go None is rows = settled rows
     go (Some desk) is rows = by_doing (read_into desk.undo) desk.room desk.doing is rows
 
@@ -336,7 +338,7 @@ module _ (s : ℕ) {store : Store} (held : IsHeld store) where
         rooms_were : HasRooms desk
         rooms_were = held.rooms s desk at
 
-        begin : GoesBackAlone held.chains old s (read_into read) desk.room
+        begin : IsGoingBack held.chains (what_is_there held.chains) old s (read_into read) desk.room
         begin =
             begin_from held.chains old s desk.room (read_into read) held.logs rooms_were.whole (rooms_were.anew (ready_undoes_not desk.doing ready))
             (λ logged place last. (is_read logged place last).1) (Some desk) ready
@@ -349,9 +351,10 @@ module _ (s : ℕ) {store : Store} (held : IsHeld store) where
           versions = reads.1.versions;
         }
 
-        going_back : GoesBackAlone held.chains new s (read_into read) desk.room
+        going_back : IsGoingBack held.chains (what_is_there held.chains) new s (read_into read) desk.room
         going_back =
-            back_left left_rows (ap (λ (state : WorldState). slice_get state.sessions s) reads.1.rest) (own_beside s old new reads.1.rest) begin
+            row_left s left_rows (agrees_beside reads.1.rest held.agrees) (ap (λ (state : WorldState). slice_get state.sessions s) reads.1.rest)
+            (own_beside s old new reads.1.rest) (what_is_there held.chains) (read_into read) desk.room Undoing begin
 
         pub held_begun : HoldsRecord read → IsHeld (record store { world = new; desks = with_read s read store.desks })
         held_begun holds =
@@ -386,7 +389,7 @@ module _ (s : ℕ) {store : Store} (held : IsHeld store) where
     abbrev pub room : WorkRoom
     room = desk.room
 
-    abbrev pub going : GoesBackAlone held.chains old s (read_into undo) room
+    abbrev pub going : IsGoingBack held.chains (what_is_there held.chains) old s (read_into undo) room
     going = goes_back.going
 
     pub asks_for : IsInMemory old
@@ -493,7 +496,7 @@ module _ (s : ℕ) {store : Store} (held : IsHeld store) (busy : doing_at s stor
   abbrev room_was : WorkRoom
   room_was = room s held busy
 
-  abbrev back_to : GoesBackAlone held.chains source s read room_was
+  abbrev back_to : IsGoingBack held.chains (what_is_there held.chains) source s read room_was
   back_to = going s held busy
 
   abbrev last : IsLast source s back_to.logged back_to.place
@@ -750,7 +753,8 @@ module _ (s : ℕ) {store : Store} (held : IsHeld store) (busy : doing_at s stor
                 whole = done.whole;
                 anew = λ none. done.anew;
               });
-            }) (subst FitsThen (sym past_now) held.fits) (rows_by after new taken.desks s (others_quiet s held by_me taken.desks gives.others) told logs_now gives.here rows_now) logs_now
+            }) (subst FitsThen (sym past_now) held.fits)
+            (rows_by after new taken.desks s (others_quiet s held by_me taken.desks gives.others) told logs_now gives.here rows_now) logs_now
             (gives.count ∙ held.count ∙ ap length (sym names)) (subst (λ (n : List (List ℕ)). length n ≤ 68) (sym names) held.few)
             (omega (arith, held.cut, long)) (λ place. omega (arith, held.short place, popped_fewer back_to.place place held.chains after pops, long))
 

@@ -1,16 +1,16 @@
 -- Searches in a held store. It shows its rows to each that is under way: where keys lag behind the newest change of a session, other
 -- readers by a view don't see that change. A search begins, goes on, ends or is given up.
 use Rattle.std.proofs.Common.{◌≡◌, ◌≢◌, inl, inr, ℕ, ◌<◌, Bool, true, false, cond, List, [], ◌∷◌, ◌++◌, Option, Some, refl, sym, ap, subst, ◌∙◌, arith, length}
-use Rattle.std.proofs.Common.{slice_get, zero, suc, ◌⊎◌, ⊎_elim, None, eq-eqb, ◌≤◌, map}
-use Rattle.std.proofs.{lemmas.Option.slice_get_past, lemmas.Bool.cases_Bool, lemmas.Bool.cases_lt, lemmas.Bool.false≢true, lemmas.Bool.cases_eq, lemmas.Bool.Decides.nat_tests, lemmas.Bool.Decides.eqb_tells}
+use Rattle.std.proofs.Common.{slice_get, zero, suc, ◌⊎◌, None, eq-eqb, ◌≤◌, map}
+use Rattle.std.proofs.{lemmas.Option.slice_get_past, lemmas.Bool.cases_Bool, lemmas.Bool.cases_lt, lemmas.Bool.false≢true, lemmas.Bool.cases_eq}
+use Rattle.std.proofs.{lemmas.Bool.Decides.nat_tests, lemmas.Bool.Decides.eqb_tells}
 use Rattle.std.specs.Prelude.{is_some, option_map, ◌||◌, ◌≤◌, ◌==◌, ◌-◌, filter, ◌<◌}
 use Rattle.std.specs.List.{list_any}
 use Rattle.inno_model.specs.Past.{own, IsOpen, view_of, commits, changed}
 use Rattle.law_stored_rows.proofs.Values.{place_itself, same_place}
-use Rattle.undo_apply.specs.{Told.rows_of as told_rows, Standing.IsTakenBack, declared.work_room.WorkRoom.WorkRoom}
-use Rattle.undo_apply.proofs.Taken.{whole_yet}
-use Rattle.desks.specs.Holding.{IsLast, IsOwnView, RowHeld, RowHeldAt, RowsHeld, SightHolds, IsHeld, FindsSince, IsSearchHeld, SearchHeld}
-use Rattle.desks.specs.Holding.{newest_place, lags_in, lags_at}
+use Rattle.undo_apply.specs.{declared.work_room.WorkRoom.WorkRoom}
+use Rattle.desks.specs.Holding.{IsLast, IsOwnView, RowHeld, RowHeldAt, SightHolds, IsHeld, FindsSince, IsSearchHeld, SearchHeld}
+use Rattle.desks.specs.Holding.{newest_place, lags_in, lags_at, said_beside}
 use Rattle.desks.specs.declared.desk.Doing.TheVariants.{Nothing, Searching, Changing, Lagging, Undoing}
 use Rattle.desks.specs.Desks.{Store, desk_at, doing_at, doing_in, is_quiet_doing, is_quiet, with_doing}
 use Rattle.desks.specs.Searching.{keys_left, places_in}
@@ -18,7 +18,7 @@ use Rattle.desks.specs.{declared.desk.Desk.Desk, declared.desk.Doing.Doing, decl
 use Rattle.law_stored_rows.specs.Tables.{Said, HasItsColumns, in_table, what_is_there, AreCoded}
 use Rattle.law_held_steps.proofs.Places.{none_moves, held_stays, moves_then, moves_in_one, moves_nothing, leaving_moves, moves_leave, moves_told}
 use Rattle.law_held_steps.proofs.Nearing.{IsLess, keys_before, visit_before, keys_anew, steps_nearer, still_nearer, anew_nearer, nearer_in}
-use Rattle.law_held_steps.proofs.{AnyStep.some_same, AnyStep.quiet_lags, AnyStep.lags_nowhere, Keeping.open_work, Putting.others_clean, Putting.busy_writes}
+use Rattle.law_held_steps.proofs.{AnyStep.some_same, AnyStep.quiet_lags, Keeping.open_work, Putting.others_clean, Putting.busy_writes}
 use Rattle.law_held_steps.proofs.{Putting.others_quiet, Alone.coded_all, Alone.last_lags}
 use Rattle.law_found_rows.proofs.Showing.{IsUnseen, shows_coded, shows_lagging, holds_table, shows_clustered}
 use Rattle.law_found_rows.proofs.{Finding.begins, Finding.may_come_anew, Finding.goes_on, Finding.waits_on, Databases.found_by_view, Databases.found_newest}
@@ -27,7 +27,6 @@ use Rattle.law_past_agreement.specs.Rows.{is_at, is_place, row_of, row_opened, s
 use Rattle.law_past_agreement.specs.{Agreement.AreVersionsBy, Agreement.ViewAgrees, Agreement.versions_of, Ids.id_of, DatabaseTables.with_all_tables}
 use Rattle.world.specs.State.{WorldState, Logged, Session, Work, Seen, HasWork, id_of as work_id, standing_of, index_of}
 use Rattle.world.specs.{Told.IsTold, Told.pairs_of, Undoing.read_into, Sessions.IsShown, Indexes.Calls}
-use Rattle.law_logged_changes.specs.{Logs.LogsAgree, Lagging.LagsAt}
 use Rattle.row_search.specs.{Searches.BeginsWithNothing, Searches.MayBegin, Searches.IsSearching, Searches.place_in, Steps.IsSameScan, Steps.GoesOn}
 use Rattle.row_search.specs.{Steps.Waits, Steps.Ends, declared.scan.Scan.Scan, Sights.sees_by, Sights.rows_seen, Tables.ShowsRows, Tables.most_versions}
 use Rattle.row_search.specs.{declared.sight.Sight.Sight, declared.sight.Sight.TheVariants.View, declared.sight.Sight.TheVariants.Newest}
@@ -40,12 +39,11 @@ use Rattle.read_view.specs.Sight.{is_seen, Sight as ReadSight}
 use Rattle.law_past_agreement.proofs.Ids.{AreIds, ids_of}
 use Rattle.law_world_agreement.specs.Agreement.{sight_of, Agrees}
 use Rattle.law_world_agreement.proofs.Ending.{work_of}
-use Rattle.row_changes.proofs.Alone.{alone_rows}
 use Rattle.store_api.specs.{declared.answers.Undo.Undo, declared.moves.Move.Move}
 use Rattle.inno_types.specs.{declared.value.Value.Value, declared.value.Schema.Schema, Order.IsBelow, declared.stmt.Range.Range, Ranges.is_within}
 use Rattle.row_changes.specs.declared.row_change.RowChange.TheVariants.{Record, Keys}
-use Rattle.row_changes.specs.{declared.keys_change.KeysChange.KeysChange, Keys.IsChangingKeys, Told.AreRowsAs}
-use Rattle.law_logged_changes.proofs.{Beginning.tells_of_it, Beginning.keys_place, Lags.lags, Lags.lags_while, Leaving.rows_left}
+use Rattle.row_changes.specs.{Told.AreRowsAs}
+use Rattle.law_logged_changes.proofs.{Lags.lags, Leaving.rows_left}
 use Rattle.sql_plan.specs.{declared.choice.Plan.Plan, Plans.whole_index, Visits.index_key}
 use Rattle.law_found_rows.specs.Finding.{IsFinding, IsFindingAnew}
 use Rattle.entries.specs.Calls.{Leaves}
@@ -125,9 +123,9 @@ rows_of_all : {store : Store} (held : IsHeld store) → HasSome held.chains stor
 rows_of_all held = (held.rows.said, held.rows.coded)
 
 -- the change by which a session's keys lag at this place
-lags_by : (chains : Chains) (said : Said) (state : WorldState) (w : ℕ) (undo : Undo) (room : WorkRoom) (doing : Doing) (place : Place)
-    → RowHeld chains said state w undo room doing → is_place place (lags_in state w doing) ≡ true → (logged : Logged) × IsLast state w logged place
-lags_by chains said state w undo room doing place row is = by doing row is
+lags_by : (chains : Chains) (beside : Said) (state : WorldState) (w : ℕ) (undo : Undo) (room : WorkRoom) (doing : Doing) (place : Place)
+    → RowHeld chains beside state w undo room doing → is_place place (lags_in state w doing) ≡ true → (logged : Logged) × IsLast state w logged place
+lags_by chains beside state w undo room doing place row is = by doing row is
   where
     at : {logged : Logged} {other : Place} → IsLast state w logged other → is_place place (newest_place state.schemas (own w state.past)) ≡ true
         → (logged : Logged) × IsLast state w logged place
@@ -135,10 +133,10 @@ lags_by chains said state w undo room doing place row is = by doing row is
         let here = ap (is_place place) (last_lags last) in
         (logged, subst (IsLast state w logged) (same_place other place (sym here ∙ is)) last)
 
-    by : (doing : Doing) → RowHeld chains said state w undo room doing → is_place place (lags_in state w doing) ≡ true
+    by : (doing : Doing) → RowHeld chains beside state w undo room doing → is_place place (lags_in state w doing) ≡ true
         → (logged : Logged) × IsLast state w logged place
-    by (Changing (Keys change)) row is = at row.newest.last is
-    by Lagging row is = at row.1.newest.last is
+    by (Changing (Keys change)) row is = at row.1.last is
+    by Lagging row is = at row.newest.last is
     by Undoing row is = at row.last is
     by Nothing row is = absurd (cc)
     by (Searching on) row is = absurd (cc)
@@ -175,10 +173,12 @@ coded_while_quiet : {store : Store} (held : IsHeld store) → IsTold store.world
 coded_while_quiet {store} held told is = go store.writer refl
   where
     go : (writer : Option ℕ) → store.writer ≡ writer → AreCoded store.world.schemas (pairs_of store.world) store.world.versions.kept_at held.chains
-    go None none = coded_all held.chains store.world store.desks 0 (λ t differs. held.quiet t (λ may. let no : None ≡ Some t = sym none ∙ may in cc)) held.rows
-        (lags_nowhere store.world 0 (doing_at 0 store.desks) (held.quiet 0 (λ may. let no : None ≡ Some 0 = sym none ∙ may in cc))) told
+    go None none = coded_all held.chains store.world store.desks 0 (λ t differs. all none t) held.rows (all none 0) told
+      where
+        all : store.writer ≡ None → (t : ℕ) → is_quiet_doing (doing_at t store.desks) ≡ true
+        all none t = held.quiet t (λ may. let no : None ≡ Some t = sym none ∙ may in cc)
     go (Some w) may = coded_all held.chains store.world store.desks w (others_quiet w held may store.desks (λ u differs. refl)) held.rows
-        (lags_nowhere store.world w (doing_at w store.desks) (sym (ap (λ writer. is_quiet writer store.desks) may) ∙ is)) told
+        (sym (ap (λ writer. is_quiet writer store.desks) may) ∙ is) told
 
 -- a table whose rows are coded has its columns
 pub columns_of : (chains : Chains) (said : Said) (state : WorldState) (table : ℕ) {schema : Schema} → AreRowsAs chains said state
@@ -207,9 +207,11 @@ module _ {store : Store} (held : IsHeld store) (told : IsTold store.world) (s : 
       → IsUnseen held.chains held.rows.said scan.sight place
   lagging_unseen w place None is lags = let no = ap (λ desk. is_place place (lags_in store.world w (doing_in desk))) is in absurd (cc)
   lagging_unseen w place (Some desk) is lags =
-      let differs : s ≢ w = λ same. let no = quiet_lags store.world w store.desks place (subst (λ u. is_quiet_doing (doing_at u store.desks) ≡ true) same searching) in cc in
-      let last = lags_by held.chains held.rows.said store.world w (read_into desk.undo) desk.room desk.doing place
-      (subst (RowHeldAt held.chains held.rows.said store.world w) is (held.rows.each w))
+      let differs : s ≢ w = λ same. let no =
+      quiet_lags store.world w store.desks place (subst (λ u. is_quiet_doing (doing_at u store.desks) ≡ true) same searching) in cc in
+      let last = lags_by held.chains (said_beside held.chains held.rows.said store.world store.desks w) store.world w (read_into desk.undo) desk.room
+      desk.doing place
+      (subst (RowHeldAt held.chains (said_beside held.chains held.rows.said store.world store.desks w) store.world w) is (held.rows.each w))
       (sym (ap (λ desk. is_place place (lags_in store.world w (doing_in desk))) is) ∙ lags) in
       let by : IsWrittenBy held.chains place (id_of store.world.past w) = written held.agrees last.1 in
       let busy : is_quiet_doing (doing_at w store.desks) ≡ false = lagging_busy place w lags in
