@@ -20,7 +20,7 @@ use Rattle.desks.proofs.Showing.{task_is, desk_read, set_at}
 use Rattle.law_held_steps.proofs.Putting.{mine, asks_for, goes_back, going, held_on, rest_beside, goes_or_is_done, held_begun, may_write, desk as own_desk}
 use Rattle.law_held_steps.proofs.Putting.{undo as own_undo, room as own_room, own_number, has_logged, may_add, held_then, ready_if, shows_begun, shows_went}
 use Rattle.law_held_steps.proofs.Putting.{shows_undone}
-use Rattle.law_held_steps.proofs.{Desks.desk_here, Desks.doing_mine, Places.held_left, Showing.left_shown, AnyStep.some_same}
+use Rattle.law_held_steps.proofs.{Desks.desk_here, Desks.doing_mine, Places.held_left, Places.moves_told, Showing.left_shown, AnyStep.some_same}
 use Rattle.world_lists.specs.{Between.IsKept, Between.AwaitsOnly, Between.table_in, Between.table_at, Parts.DropsNewest}
 use Rattle.world_lists.proofs.Calls.{only_mine, only_then, only_left, awaits_none, awaits_of_nobody, writer_of_only, rests, past_here, at_desk, with_both}
 use Rattle.world_lists.proofs.Changing.{HasTable}
@@ -159,22 +159,22 @@ module _ (s : ℕ) {store : Store} (kept : IsKept store) (joined : s < length st
 
     -- it goes on
     module _ (put : PutsTo Step) (later : IsInMemory mid) where
-      abbrev stepped : List Desk → Store
-      stepped desks = record store { world = mid; desks = desks }
+      abbrev gone_on : List Desk → Store
+      gone_on desks = record store { world = mid; desks = desks }
 
-      pub step_kept : AwaitsIn s table old mid → IsKept (stepped (slice_set store.desks s (record desk { room = next })))
+      pub step_kept : AwaitsIn s table old mid → IsKept (gone_on (slice_set store.desks s (record desk { room = next })))
       step_kept awaits =
-          subst (λ (ds : List Desk). IsKept (stepped ds)) (sym put_room) (record {
+          subst (λ (ds : List Desk). IsKept (gone_on ds)) (sym put_room) (record {
             held = held_on s kept.held busy mid next Step (its_put Step put) step_is_not_done memory later;
-            awaits = writer_of_only s table (stepped (with_room s next store.desks)) (only_then s table old mid only awaits (same_schemas Step put)) by_me
+            awaits = writer_of_only s table (gone_on (with_room s next store.desks)) (only_then s table old mid only awaits (same_schemas Step put)) by_me
                 (ap table_at (desk_here s (λ d. record d { room = next }) store.desks ∙ ap (option_map (λ (d : Desk). record d { room = next })) at)
                 ∙ its_table next);
           })
 
       pub step_shown : TakesBackIn s (length (own s old.past) - 1) (lists_of store)
-          (lists_of (stepped (slice_set store.desks s (record desk { room = next })))) stepped.Went
+          (lists_of (gone_on (slice_set store.desks s (record desk { room = next })))) stepped.Went
       step_shown =
-          subst (λ (ds : List Desk). TakesBackIn s (length (own s old.past) - 1) (lists_of store) (lists_of (stepped ds)) stepped.Went) (sym put_room)
+          subst (λ (ds : List Desk). TakesBackIn s (length (own s old.past) - 1) (lists_of store) (lists_of (gone_on ds)) stepped.Went) (sym put_room)
           (shows_went s (length (own s old.past) - 1) kept.held busy mid next memory later (its_put Step put))
 
     -- It is the last one, and the undo record may go.
@@ -240,7 +240,7 @@ module _ (s : ℕ) {store : Store} (kept : IsKept store) (joined : s < length st
           pub done_kept : length new.past < 2 ^ 63 → AwaitsIn s table old mid → LeavesTable s table new fin → IsKept (made now)
           done_kept few awaits gone = record {
             held = subst (λ (ds : List Desk). IsHeld (made ds)) (sym left_given) (held_left {store = taken} leaves (held_then s kept.held busy mid next its
-                drops.cut drops.cuts keep new drops.added keep_is memory few) not_searching later.told);
+                drops.cut drops.cuts keep new drops.added keep_is memory (moves_told leaves later.told) few) not_searching later.told);
             awaits = awaits_of_nobody (made now) (only_left s table new fin (record {
               each = λ index by is. (let was = (only_then s table old mid only awaits (same_schemas Done put)).each index by
                   (ap (λ (at : ℕ → Index). (at index).awaited) (sym drops_same.0) ∙ is) in
