@@ -9,3 +9,4 @@ pub mod Putting
 pub mod Places
 pub mod Stepping
 pub mod Nearing
+pub mod Hindering

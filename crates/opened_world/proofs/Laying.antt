@@ -205,7 +205,7 @@ module _ (db : Database) (table : ℕ) (row : List Value) (schema : Schema) (old
     go false is = laid.versions other
 
   -- nobody is awaited once the record is put
-  nobody_mid : AwaitsNobody mid
+  pub nobody_mid : AwaitsNobody mid
   nobody_mid index by is =
       ⊎_elim
       (λ here. (let none : None ≡ Some by = sym puts.inserts.index_is.here.2.awaited ∙ subst (λ (i : ℕ). (mid.indexes i).awaited ≡ Some by) here is in cc))

@@ -14,7 +14,7 @@ ghost use Rattle.law_stored_rows.specs.Tables.{what_is_there};
 ghost use Rattle.row_changes.specs.Keys.{IsChangingKeys};
 ghost use Rattle.inno_types.specs.declared.value.Schema.{Schema as ASchema};
 ghost use Rattle.law_held_steps.specs.Leaving.{MovesPlaces, LeavesTable};
-ghost use Rattle.opened_world.specs.Laid.{PutsNewRecord, HasRecordThere, TakesKeysOver};
+ghost use Rattle.opened_world.specs.Laid.{AwaitsNobody, PutsNewRecord, HasRecordThere, TakesKeysOver};
 
 use crate::opening::PutBad;
 use inno_db::{key_of_row, to_value};
@@ -113,8 +113,8 @@ pub fn leave_table(world: &mut ListWorld, table: u8, keys: u8)
     }
 }
 
-/// Puts the row's entries into the keys of its table. Over indexes in memory that nobody else uses only want of memory
-/// keeps a step from going on.
+/// Puts the row's entries into the keys of its table. Only want of memory keeps a step from going on: the indexes are in memory,
+/// and nobody else uses them.
 pub fn enter_keys(
     alloc: Global,
     world: &mut ListWorld,
@@ -122,7 +122,8 @@ pub fn enter_keys(
     key: Bytes,
     row: &Row,
 ) -> Result<(), NoMemory>
-    requires { (chains : Chains) × IsChangingKeys chains (what_is_there chains) (world_of world.old) (record { table = table; key = key; before = None; after = Some row.now; which = 0; put = None }) }
+    requires keys { (chains : Chains) × IsChangingKeys chains (what_is_there chains) (world_of world.old) (record { table = table; key = key; before = None; after = Some row.now; which = 0; put = None }) }
+    requires nobody { AwaitsNobody (world_of world.old) }
     ensures { OnOk result (TakesKeysOver table key row.now (world_of world.old) (world_of world.new)) }
 {
     let mut change = KeysChange {
@@ -137,7 +138,10 @@ pub fn enter_keys(
         match change.advance(alloc, world, ACTOR) {
             Stepped::Went => {}
             Stepped::Done(()) => return Ok(()),
-            Stepped::Hindered(_) => return Err(NoMemory),
+            Stepped::Hindered(why) => match why {
+                Move::NoMemory | Move::End => return Err(NoMemory),
+                _ => unreachable!(),
+            },
         }
     }
     Err(NoMemory)

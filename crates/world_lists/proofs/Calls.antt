@@ -17,7 +17,8 @@ use Rattle.desks.specs.declared.desk.Doing.TheVariants.{Nothing, Changing}
 use Rattle.desks.specs.{declared.desk.Desk.Desk, Shown.lists_of, Holding.IsHeld, declared.desk.Doing.Doing}
 use Rattle.row_changes.specs.Rows.{IsChangingRow, ChangesRow, table_of}
 use Rattle.row_changes.specs.{Records.IsListed, declared.row_change.RowChange.RowChange, declared.row_change.RowChange.TheVariants.Record}
-use Rattle.row_changes.specs.{declared.row_change.RowChange.TheVariants.Keys, Reached.Reached, Awaited.AwaitsIn, Awaited.IsOfTable}
+use Rattle.row_changes.specs.{declared.row_change.RowChange.TheVariants.Keys, Reached.Reached, Awaited.AwaitsIn}
+use Rattle.row_changes.specs.Awaited.{IsOfTable, IsAwaitedAlone}
 use Rattle.inno_types.specs.{declared.reply.Item.Item, declared.value.Schema.Schema}
 use Rattle.sql_history.specs.Settings.{Setting, at_first}
 use Rattle.store_api.specs.declared.answers.Standing.{Standing}
@@ -365,6 +366,10 @@ only_mine s table {store} awaits mine at = record {
       let same : was.table ≡ table = same_table was.table table (sym was.table_is ∙ (ap (λ n. table_at (desk_at n store.desks)) one ∙ at)) in
       (one, subst (λ (t : ℕ). IsOfTable t store.world.schemas index) same was.of_table));
 }
+
+-- nobody else is awaited
+pub awaits_alone : (s : ℕ) {store : Store} → AwaitsWriter store → store.writer ≡ Some s → IsAwaitedAlone s store.world
+awaits_alone s awaits mine index by is = same_table by s (sym (awaits.each index by is).writes ∙ mine)
 
 -- a step in a table, by its session
 pub only_then : (s table : ℕ) (old new : WorldState) → AwaitsOnly s table old → AwaitsIn s table old new → new.schemas ≡ old.schemas → AwaitsOnly s table new

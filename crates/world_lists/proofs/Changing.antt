@@ -4,37 +4,41 @@ use Rattle.store_api.specs.declared.stepped.Stepped.TheVariants as stepped
 use Rattle.shared_lists.specs.declared.answers.ChangePart.TheVariants as part
 use Rattle.std.proofs.Common.{◌≡◌, ℕ, zero, suc, ◌+◌, ◌<◌, ◌^◌, false, true, List, ◌∷◌, length, Option, Some, refl, sym, ap, subst, ◌∙◌, arith, []}
 use Rattle.std.proofs.lemmas.Bool.{false≢true}
-use Rattle.std.specs.Prelude.{slice_get, slice_index_or, slice_set, get_or}
+use Rattle.std.specs.Prelude.{slice_get, slice_index_or, slice_set, get_or, is_some}
 use Rattle.inno_db.specs.declared.change.Change.{Change}
-use Rattle.row_versions.specs.Chains.{Chains}
+use Rattle.row_versions.specs.{Chains.Chains, declared.place.Place.Place}
 use Rattle.law_stored_rows.specs.Tables.{Said, what_is_there}
 use Rattle.law_past_agreement.specs.Order.{created}
 use Rattle.key_codec.specs.Keys.{IsOfKind}
 use Rattle.row_changes.proofs.Changing.{lacks_memory}
 use Rattle.law_logged_changes.proofs.Leaving.{left_told}
 use Rattle.shared_lists.specs.Tasks.{Task, Idle, asked, left_by, is_changing, steps_left}
-use Rattle.shared_lists.specs.{Fitting.FitsWell, Answers.Changed, State.Lists, State.Turns, State.task_of, Steps.Changes, Steps.rows_entered}
+use Rattle.shared_lists.specs.{Fitting.FitsWell, Fitting.RemovesOne, Answers.Changed, State.Lists, State.Turns, State.task_of, Steps.Changes}
+use Rattle.shared_lists.specs.Steps.{rows_entered}
 use Rattle.desks.specs.declared.desk.Doing.TheVariants.{Nothing, Searching, Changing, Lagging, Undoing}
 use Rattle.desks.specs.Desks.{desk_at, doing_at, with_doing, doing_in}
 use Rattle.desks.specs.{declared.desk.Desk.Desk, declared.desk.Doing.Doing, Desks.Store, Shown.lists_of, Shown.shown, Undoing.left_in, Holding.IsHeld}
 use Rattle.desks.proofs.Showing.{task_is, desk_read, given_at}
 use Rattle.law_held_steps.proofs.Showing.{begun_turns, begun_task, went_shown, entered_shown, done_shown, given_up_shown, rows_shown, left_shown}
 use Rattle.law_held_steps.proofs.Made.{can_be_keyed, begins, change_made}
-use Rattle.law_held_steps.proofs.{Putting.changing_rows, Desks.doing_here, Desks.changes_at_a_desk, Places.held_left}
+use Rattle.law_held_steps.proofs.{Putting.changing_rows, Putting.alone_if, Desks.doing_here, Desks.changes_at_a_desk, Places.held_left}
 use Rattle.world_lists.specs.Between.{IsKept, AwaitsWriter}
-use Rattle.world_lists.specs.Parts.{StepsChange, StepsAtDesk, HasChange, LeavesIfOver, doing_now, is_told, answer_for}
+use Rattle.world_lists.specs.Parts.{StepsChange, StepsAtDesk, HasChange, IsThereToRemove, RemovesRow, MayGoOn, LeavesIfOver, doing_now, is_told, answer_for}
 use Rattle.inno_types.specs.{declared.value.Column.Column, declared.value.Schema.Schema}
 use Rattle.inno_model.specs.{Past.IsOpen, declared.event.Event.Event}
 use Rattle.store_api.specs.{declared.moves.Move.Move, declared.moves.Move.TheVariants.NoMemory}
 use Rattle.world.specs.{State.WorldState, Told.IsTold}
 use Rattle.row_changes.specs.declared.row_change.RowChange.TheVariants.{Record, Keys}
+use Rattle.row_changes.specs.declared.row_edit.RowEdit.TheVariants.{Put, Remove}
 use Rattle.row_changes.specs.Reached.{Went, Done, Hindered}
 use Rattle.row_changes.specs.Rows.{IsChangingRow, ChangesRow, table_of, primary_of}
 use Rattle.row_changes.specs.{Awaited.AwaitsIn, declared.row_edit.RowEdit.RowEdit, declared.row_change.RowChange.RowChange, Reached.Reached}
 use Rattle.row_changes.specs.{Edits.change_of, Records.IsTable}
 use Rattle.law_held_steps.specs.Making.{doing_after, made_to, Comes, LeavesLists, MakesChange}
 use Rattle.law_held_steps.specs.{Beginning.IsEditable, Beginning.IsKeyOfEdit, Beginning.begun, Leaving.is_searching, Leaving.MovesPlaces, Leaving.LeavesTable}
-use Rattle.world_lists.proofs.Calls.{kept_beside, same_no_more, change_awaits, only_mine, rests, table_by, past_here, at_rest, at_desk, writer_now}
+use Rattle.world_lists.proofs.Hindering.{newest_seen}
+use Rattle.world_lists.proofs.Calls.{kept_beside, awaits_alone, same_no_more, change_awaits, only_mine, rests, table_by, past_here, at_rest, at_desk}
+use Rattle.world_lists.proofs.Calls.{writer_now}
 
 -- ---- the table of a change
 
@@ -64,6 +68,10 @@ module _ (s : ℕ) (chains : Chains) (beside : Said) where
   done_table old new (Keys change) is made =
       let had = table_there old (Keys change) is in
       (had.0, ap (λ (state : WorldState). slice_get state.schemas change.table) made.0.rest ∙ had.1, had.2)
+
+pub its_rows : {s : ℕ} {state : WorldState} {change : RowChange} → MayGoOn s state change
+    → (chains : Chains) × (beside : Said) × IsChangingRow s chains beside state change
+its_rows may = (may.chains, may.beside, may.changing)
 
 -- it is there where a change has come so far, and where one is given up
 module _ (s : ℕ) {table : ℕ} (change : RowChange) (table_is : table ≡ table_of change) (old : WorldState)
@@ -128,6 +136,13 @@ steps_there s {old} {new} desks {change = change} {doing = doing} {answer = answ
     let one : change ≡ other = (let e : Changing change ≡ Changing other =
     sym at ∙ (sym (ap doing_in (desk_read desks s within is)) ∙ is_other) in cc) in
     (doing, subst (λ (c : RowChange). StepsChange s c old new doing answer) one step, given_at s doing desks within is same)
+
+-- the change at the desk may go on
+pub may_there : (s : ℕ) {state : WorldState} (desks : List Desk) {read : Desk} {change : RowChange} → s < length desks → read ≡ get_or desks s read
+    → read.doing ≡ Changing change → HasChange s state desks → MayGoOn s state change
+may_there s {state} desks {change = change} within is at has =
+    let one : has.0 ≡ change = (let e : Changing has.0 ≡ Changing change = sym has.1 ∙ (ap doing_in (desk_read desks s within is) ∙ at) in cc) in
+    subst (MayGoOn s state) one has.2
 
 -- ---- a change that is given up
 
@@ -351,7 +366,8 @@ module _ (s : ℕ) {store : Store} {lists : Lists} (kept : IsKept store) (view :
         (lists_of (record store { world = new; desks = ds })) answer) (sym gives) (mine_shown s step kept its at was told few))
 
     -- a change that was asked for and is given up is nothing
-    pub step_stops : (asks : Change) → asked (task_of s lists.state) ≡ Some asks → answer ≡ stepped.Hindered (record {}) → Turns s Idle lists.state (lists_of now).state
+    pub step_stops : (asks : Change) → asked (task_of s lists.state) ≡ Some asks → answer ≡ stepped.Hindered (record {})
+        → Turns s Idle lists.state (lists_of now).state
     step_stops asks asked_is is =
         subst (λ (o : Option Change). Turns s (left_by o) lists.state (lists_of now).state) asked_is
         (subst (Changes s lists.state (lists_of now).state) is step_shown.changes)
@@ -368,22 +384,49 @@ module _ (s : ℕ) {store : Store} {lists : Lists} (kept : IsKept store) (view :
       untold_if old.schemas left change (ap (λ (d : Doing). asked (shown old.schemas left d)) (sym at) ∙ (ap asked (sym (task_is s store))
       ∙ (ap (λ (l : Lists). asked (task_of s l.state)) view ∙ asks)))
 
+  -- a row that it is to remove is there
+  module _ (removes : (asks : Change) → asked (task_of s lists.state) ≡ Some asks → RemovesOne s lists.state.past asks) where
+    shows_there : (table : ℕ) (edit : RowEdit) → RemovesOne s old.past (change_of table edit) → IsThereToRemove kept.held.chains table edit
+    shows_there table (Put row) seen = record {}
+    shows_there table (Remove value) seen =
+        let place : Place = record { table = table; key = value } in
+        ap is_some (newest_seen kept.held.chains old kept.held.agrees s place (alone_if kept.held its place)) ∙ seen
+
+    its_row : (change : RowChange) → doing_at s store.desks ≡ Changing change → RemovesRow kept.held.chains change
+    its_row (Keys change) at = record {}
+    its_row (Record change key after) at =
+        let edit = change_of change.table change.edit in
+        let asks : asked (task_of s lists.state) ≡ Some edit =
+        ap (λ (l : Lists). asked (task_of s l.state)) (sym view) ∙ (ap asked (task_is s store)
+        ∙ ap (λ (d : Doing). asked (shown old.schemas (left_in old (desk_at s store.desks)) d)) at) in
+        shows_there change.table change.edit (past_here s kept view (λ h. RemovesOne s h edit) (removes edit asks))
+
+    may_go_on : {change : RowChange} → doing_at s store.desks ≡ Changing change → MayGoOn s old change
+    may_go_on {change} at = record {
+      chains = kept.held.chains;
+      beside = what_is_there kept.held.chains;
+      changing = (changing_rows s kept.held its at).0;
+      removes = its_row change at;
+      alone = awaits_alone s kept.awaits its;
+    }
+
   module _ (changing : is_changing (task_of s lists.state) ≡ true) where
     -- who shows that it changes a row has a change under way
-    pub may_change : HasChange s old store.desks
-    may_change =
-        let found = changing_shown old.schemas (left_in old (desk_at s store.desks)) (doing_at s store.desks) (subst (λ (t : Task). is_changing t ≡ true)
-        (task_is s store) (subst (λ (l : Lists). is_changing (task_of s l.state) ≡ true) (sym view) changing)) in
-        let mine = its_change found.1 in
-        (found.0, found.1, mine.0, mine.1, mine.2)
+    under_way : (change : RowChange) × (doing_at s store.desks ≡ Changing change)
+    under_way =
+        changing_shown old.schemas (left_in old (desk_at s store.desks)) (doing_at s store.desks) (subst (λ (t : Task). is_changing t ≡ true)
+        (task_is s store) (subst (λ (l : Lists). is_changing (task_of s l.state) ≡ true) (sym view) changing))
+
+    pub may_change : ((asks : Change) → asked (task_of s lists.state) ≡ Some asks → RemovesOne s lists.state.past asks) → HasChange s old store.desks
+    may_change removes = (under_way.0, under_way.1, may_go_on removes under_way.1)
 
     module _ {new : WorldState} (was : IsTold old) (told : IsTold new) (few : length new.past < 2 ^ 63) {later : List Desk} {answer : Changed}
         (made : StepsAtDesk s old new store.desks later answer) where
       pub desk_kept : IsKept (record store { world = new; desks = later })
-      desk_kept = let step = made may_change.0 may_change.1 in step_kept was told few may_change.1 step.1 step.2
+      desk_kept = let step = made under_way.0 under_way.1 in step_kept was told few under_way.1 step.1 step.2
 
       pub desk_shown : ChangesIn s lists (lists_of (record store { world = new; desks = later })) answer
-      desk_shown = let step = made may_change.0 may_change.1 in step_shown was told few may_change.1 step.1 step.2
+      desk_shown = let step = made under_way.0 under_way.1 in step_shown was told few under_way.1 step.1 step.2
 
 pub none_entered : (new old : ℕ) → new ≡ old + 0 → new ≡ old
 none_entered new old same = omega (arith, same)

@@ -5,14 +5,14 @@ use Rattle.shared_lists.specs.declared.answers.Reading.TheVariants as readings
 use Rattle.store_api.specs.declared.stepped.Stepped.TheVariants as stepped
 use Rattle.shared_lists.specs.Tasks as tasks
 use Rattle.std.proofs.Common.{◌≡◌, ◌≢◌, inl, inr, ℕ, ◌<◌, ◌==◌, true, false, not, List, map, length, get_or, Option, Some, None, slice_get, [], Result, Ok, Err}
-use Rattle.std.proofs.Common.{refl, sym, ap, subst, ◌∙◌, arith}
+use Rattle.std.proofs.Common.{refl, sym, ap, subst, ◌∙◌, arith, Bool, ⊎_elim}
 use Rattle.std.proofs.{lemmas.Bool.Decides.eqb_tells, lemmas.Option.slice_get_within, lemmas.Option.get_or_from_slice_get}
-use Rattle.std.specs.Prelude.{◌≤◌, is_some, IfSome, IfOk}
+use Rattle.std.specs.Prelude.{◌≤◌, is_some, IfSome, IfOk, if◌then◌else◌}
 use Rattle.store_api.specs.declared.moves.Move.{Move}
 use Rattle.entries.specs.Calls.{Leaves}
 use Rattle.row_versions.specs.Chains.{Chains}
 use Rattle.sql_plan.specs.declared.choice.Plan.{Plan}
-use Rattle.shared_lists.specs.State.{State, Lists, Places, task_of, places_before, counted, Turns, Stays}
+use Rattle.shared_lists.specs.State.{State, Lists, Places, task_of, places_before, counted, Turns, Stays, writer_without}
 use Rattle.shared_lists.specs.{declared.answers.Reading.Reading, Answers.Searched, Steps.AreFoundBy, Steps.Searches, Steps.AreNewestRows}
 use Rattle.desks.proofs.Showing.{task_is, places_are}
 use Rattle.law_held_steps.specs.TakenUp.{ComesAnew, IsTakenUp, MayStep, IsSearchOf, plan_of}
@@ -27,7 +27,8 @@ use Rattle.inno_types.specs.{Order.IsBelow, declared.value.Value.Value, declared
 use Rattle.inno_model.specs.{declared.event.Event.Event, Past.own, Past.view_of, Past.IsOpen}
 use Rattle.law_past_agreement.specs.Order.{created}
 use Rattle.world.specs.{State.WorldState, Told.IsTold, Indexes.Calls}
-use Rattle.row_search.specs.Steps.{GoesOn, Waits, Ends}
+use Rattle.row_search.specs.Steps.{GoesOn, Waits, Ends, Searches as Steps}
+use Rattle.row_search.specs.declared.search.{Hindrance.Hindrance, Hindrance.TheVariants.Call}
 use Rattle.row_search.specs.{declared.found.FoundRow.FoundRow, declared.search.RowSearch.RowSearch, declared.sight.Sight.Sight}
 use Rattle.desks.specs.{declared.desk.Desk.Desk, declared.desk.Doing.Doing, declared.desk.Doing.TheVariants.Nothing, declared.desk.Doing.TheVariants.Searching}
 use Rattle.desks.specs.{declared.desk.TableSearch.TableSearch, Desks.desk_at, Desks.doing_at, Desks.with_doing, Desks.is_quiet, Desks.Store, Holding.IsHeld}
@@ -50,6 +51,20 @@ reads_by s store readings.Newest own newest mine = subst (ReadsBy s store readin
 
 nothing_changes : (s : ℕ) (state : State) → Stays s state state
 nothing_changes s state = record { names_are = refl; past_is = refl; writer_is = refl; task_is = refl; others = λ t differs. refl }
+
+without_it : (s : ℕ) (writer : Option ℕ) {other : ℕ} → writer_without writer s ≡ Some other → (writer ≡ Some other) × (other ≢ s)
+without_it s None is = absurd (cc)
+without_it s (Some w) {other} is =
+    let who : Bool → Option ℕ = λ mine. if mine then None else Some w in
+    ⊎_elim (λ mine. absurd (let none : None ≡ Some other = sym (ap who mine.0) ∙ is in cc))
+    (λ differs. let one : Some w ≡ Some other = sym (ap who differs.0) ∙ is in
+    (one, λ same. differs.1 (let writer_is : w ≡ other = cc in writer_is ∙ same))) (eqb_tells w s)
+
+-- a call that was hindered
+pub waits_by : {s : ℕ} {schema : Schema} {old new : WorldState} {search next : RowSearch} {hindrance : Hindrance} {why : Move} → hindrance ≡ Call why
+    → Steps s schema old new search next (stepped.Hindered hindrance) → Waits s schema old new search next why
+waits_by {s} {schema} {old} {new} {search} {next} is made =
+    subst (λ (h : Hindrance). Steps s schema old new search next (stepped.Hindered h)) is made
 
 no_search : (on : TableSearch) → Nothing ≡ Searching on → ⊥
 no_search on same = cc
@@ -89,6 +104,15 @@ found_as table plan reading s past rows on is found =
 module _ (s : ℕ) {store : Store} {lists : Lists} (kept : IsKept store) (view : lists_of store ≡ lists) where
   abbrev old : WorldState
   old = store.world
+
+  -- another session may write
+  pub held_by : {other : ℕ} → writer_without store.writer s ≡ Some other → (lists.state.writer ≡ Some other) × (other ≢ s) × IsOpen other lists.state.past
+      × (other < length lists.state.names) × Stays s lists.state lists.state
+  held_by {other} is =
+      let found = without_it s store.writer is in
+      let opened = kept.held.writes.opened other found.0 in
+      subst (λ (l : Lists). (l.state.writer ≡ Some other) × (other ≢ s) × IsOpen other l.state.past × (other < length l.state.names) × Stays s l.state l.state)
+      view (found.0, found.1, opened, open_joined kept.held.agrees other opened, nothing_changes s (lists_of store).state)
 
   pub writer_within : IfSome store.writer (λ w. w < length store.desks)
   writer_within = by store.writer refl where

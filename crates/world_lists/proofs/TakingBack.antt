@@ -159,22 +159,22 @@ module _ (s : ℕ) {store : Store} (kept : IsKept store) (joined : s < length st
 
     -- it goes on
     module _ (put : PutsTo Step) (later : IsInMemory mid) where
-      abbrev stepped : List Desk → Store
-      stepped desks = record store { world = mid; desks = desks }
+      abbrev gone_on : List Desk → Store
+      gone_on desks = record store { world = mid; desks = desks }
 
-      pub step_kept : AwaitsIn s table old mid → IsKept (stepped (slice_set store.desks s (record desk { room = next })))
+      pub step_kept : AwaitsIn s table old mid → IsKept (gone_on (slice_set store.desks s (record desk { room = next })))
       step_kept awaits =
-          subst (λ (ds : List Desk). IsKept (stepped ds)) (sym put_room) (record {
+          subst (λ (ds : List Desk). IsKept (gone_on ds)) (sym put_room) (record {
             held = held_on s kept.held busy mid next Step (its_put Step put) step_is_not_done memory later;
-            awaits = writer_of_only s table (stepped (with_room s next store.desks)) (only_then s table old mid only awaits (same_schemas Step put)) by_me
+            awaits = writer_of_only s table (gone_on (with_room s next store.desks)) (only_then s table old mid only awaits (same_schemas Step put)) by_me
                 (ap table_at (desk_here s (λ d. record d { room = next }) store.desks ∙ ap (option_map (λ (d : Desk). record d { room = next })) at)
                 ∙ its_table next);
           })
 
       pub step_shown : TakesBackIn s (length (own s old.past) - 1) (lists_of store)
-          (lists_of (stepped (slice_set store.desks s (record desk { room = next })))) stepped.Went
+          (lists_of (gone_on (slice_set store.desks s (record desk { room = next })))) stepped.Went
       step_shown =
-          subst (λ (ds : List Desk). TakesBackIn s (length (own s old.past) - 1) (lists_of store) (lists_of (stepped ds)) stepped.Went) (sym put_room)
+          subst (λ (ds : List Desk). TakesBackIn s (length (own s old.past) - 1) (lists_of store) (lists_of (gone_on ds)) stepped.Went) (sym put_room)
           (shows_went s (length (own s old.past) - 1) kept.held busy mid next memory later (its_put Step put))
 
     -- It is the last one, and the undo record may go.

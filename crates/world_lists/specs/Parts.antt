@@ -1,12 +1,13 @@
 -- What the parts of a step do to a world.
-use Rattle.std.specs.Prelude.{◌≡◌, ℕ, ◌-◌, Bool, true, false, List}
-use Rattle.row_versions.specs.Chains.{Chains}
+use Rattle.std.specs.Prelude.{◌≡◌, ℕ, ◌-◌, Bool, true, false, List, is_some}
+use Rattle.row_versions.specs.Chains.{Chains, versions_at, newest}
 use Rattle.law_stored_rows.specs.Tables.{Said}
 use Rattle.world.specs.State.{WorldState, Session, Work, IsSession, HasWork, standing_of}
 use Rattle.world.specs.{Sessions.undone_added, Undoing.IsCutBack}
 use Rattle.row_changes.specs.{declared.row_change.RowChange.RowChange, declared.row_change.RowChange.TheVariants.Record}
 use Rattle.row_changes.specs.{declared.row_change.RowChange.TheVariants.Keys, Reached.Reached, Rows.IsChangingRow, Rows.ChangesRow}
-use Rattle.row_changes.specs.{Rows.table_of, Awaited.AwaitsIn}
+use Rattle.row_changes.specs.{Rows.table_of, Awaited.AwaitsIn, Awaited.IsAwaitedAlone, declared.row_edit.RowEdit.RowEdit}
+use Rattle.row_changes.specs.declared.row_edit.RowEdit.TheVariants.{Put, Remove}
 use Rattle.store_api.specs.declared.stepped.Stepped.TheVariants.{Went, Done, Hindered}
 use Rattle.shared_lists.specs.Answers.{Changed}
 use Rattle.shared_lists.specs.declared.answers.ChangePart.TheVariants as part
@@ -49,10 +50,28 @@ doing_now change next (Done part.Record) = Changing next
 doing_now change next (Done part.Keys) = Nothing
 doing_now change next (Hindered why) = given_up change
 
+-- a row that is to be removed from the table is there
+abbrev pub IsThereToRemove : Chains → ℕ → RowEdit → Type 0
+IsThereToRemove chains table (Put row) = Unit {0}
+IsThereToRemove chains table (Remove key) = is_some (newest (versions_at (record { table = table; key = key }) chains)) ≡ true
+
+-- the same of a change whose record has not changed yet
+abbrev pub RemovesRow : Chains → RowChange → Type 0
+RemovesRow chains (Record change key after) = IsThereToRemove chains change.table change.edit
+RemovesRow chains (Keys change) = Unit {0}
+
+-- The change may make its next step, which in memory nothing but want of it hinders: nobody else is awaited, and a row that it removes is
+-- there.
+pub record MayGoOn (s : ℕ) (state : WorldState) (change : RowChange) : Type 0 where
+  pub chains : Chains
+  pub beside : Said
+  pub changing : IsChangingRow s chains beside state change
+  pub removes : RemovesRow chains change
+  pub alone : IsAwaitedAlone s state
+
 -- The session has a change at its desk that may make a step.
 abbrev pub HasChange : ℕ → WorldState → List Desk → Type 0
-HasChange s state desks =
-    (change : RowChange) × (doing_at s desks ≡ Changing change) × (chains : Chains) × (beside : Said) × IsChangingRow s chains beside state change
+HasChange s state desks = (change : RowChange) × (doing_at s desks ≡ Changing change) × MayGoOn s state change
 
 -- The change at the session's desk has made a step, and nothing else has changed at desks.
 abbrev pub StepsAtDesk : ℕ → WorldState → WorldState → List Desk → List Desk → Changed → Type 0

@@ -122,8 +122,13 @@ pub fn newest_rows<W: EngineWorld>(
                 drop(search);
                 return Ok(found);
             }
-            Came::Hindered(Hindrance::Call(Move::NoMemory)) => return Err(give_up(world, session, search, schema)),
-            Came::Hindered(_) => unreachable!(),
+            Came::Hindered(hindrance) => match hindrance {
+                Hindrance::Call(why) => match why {
+                    Move::NoMemory => return Err(give_up(world, session, search, schema)),
+                    _ => unreachable!(),
+                },
+                Hindrance::Malformed => unreachable!(),
+            },
         }
     }
 }

@@ -214,13 +214,18 @@ impl<W: EngineWorld> SharedLists for WorldLists<W> {
                 drop(on);
                 found_rows(self.alloc, found)
             }
-            Came::Hindered(Hindrance::Call(Move::NoMemory)) => {
-                let TableSearch { search, schema, .. } = on;
-                search.give_up(&mut self.world, session, &schema);
-                drop(schema);
-                Stepped::Hindered(NoMemory)
-            }
-            Came::Hindered(_) => unreachable!(),
+            Came::Hindered(hindrance) => match hindrance {
+                Hindrance::Call(why) => match why {
+                    Move::NoMemory => {
+                        let TableSearch { search, schema, .. } = on;
+                        search.give_up(&mut self.world, session, &schema);
+                        drop(schema);
+                        Stepped::Hindered(NoMemory)
+                    }
+                    _ => unreachable!(),
+                },
+                Hindrance::Malformed => unreachable!(),
+            },
         }
     }
 

@@ -17,7 +17,7 @@ ghost use Rattle.law_held_steps.specs.Leaving.{MovesPlaces, LeavesTable};
 ghost use Rattle.law_held_steps.specs.Making.{given_up};
 ghost use Rattle.law_held_steps.specs.Undoing.{TakesBackIn};
 ghost use Rattle.row_changes.specs.Reached as reached;
-ghost use Rattle.world_lists.specs.Parts.{StepsChange, HasChange, StepsAtDesk, doing_now, DropsNewest, is_told, answer_for};
+ghost use Rattle.world_lists.specs.Parts.{StepsChange, HasChange, MayGoOn, StepsAtDesk, doing_now, DropsNewest, is_told, answer_for};
 ghost use Rattle.world_lists.specs.Between.{IsKept, store_of};
 
 use crate::lists::is_short;
@@ -55,23 +55,37 @@ pub fn change_at_desk<W: EngineWorld>(
     };
     let is_told = is_told(change);
     let changed = step_change(alloc, world, session, change);
-    let doing = match changed {
-        Stepped::Went | Stepped::Done(ChangePart::Record) => return changed,
-        Stepped::Done(ChangePart::Keys) => Doing::Nothing,
-        Stepped::Hindered(NoMemory) => given_up(is_told),
-    };
-    drop(std::mem::replace(&mut desk.doing, doing));
+    match left_after(&changed, is_told) {
+        Some(doing) => drop(std::mem::replace(&mut desk.doing, doing)),
+        None => return changed,
+    }
     changed
 }
 
-/// One step of a change. One that is over, or hindered, leaves the indexes of its table, and awaits no keys there.
+/// What a desk has instead of a change that is over or given up.
+fn left_after(changed: &Changed, was_told: bool) -> Option<Doing>
+    ensures over { (change next : RowChange) → was_told ≡ is_told change → IfSome result (λ doing. doing ≡ doing_now change next changed.now) }
+    ensures stays { (change next : RowChange) → IfNone result (doing_now change next changed.now ≡ Doing.Changing next) }
+{
+    match changed {
+        Stepped::Went => None,
+        Stepped::Done(part) => match part {
+            ChangePart::Record => None,
+            ChangePart::Keys => Some(Doing::Nothing),
+        },
+        Stepped::Hindered(NoMemory) => Some(given_up(was_told)),
+    }
+}
+
+/// One step of a change. One that is over, or finds no memory, leaves the indexes of its table, and awaits no keys there. Nothing
+/// else hinders it.
 fn step_change<W: EngineWorld>(
     alloc: Global,
     world: &mut W,
     session: u32,
     change: &mut RowChange,
 ) -> Changed
-    requires { (chains : Chains) × (beside : Said) × IsChangingRow session chains beside (W.state world.old) change.old }
+    requires { MayGoOn session (W.state world.old) change.old }
     ensures { StepsChange session change.old (W.state world.old) (W.state world.new) (doing_now change.old change.new result) result }
 {
     let is_told = is_told(change);
@@ -82,10 +96,13 @@ fn step_change<W: EngineWorld>(
             leave_table(world, session, table);
             Stepped::Done(ChangePart::Keys)
         }
-        Stepped::Hindered(_why) => {
-            leave_table(world, session, table);
-            Stepped::Hindered(NoMemory)
-        }
+        Stepped::Hindered(why) => match why {
+            Move::NoMemory => {
+                leave_table(world, session, table);
+                Stepped::Hindered(NoMemory)
+            }
+            _ => unreachable!(),
+        },
     }
 }
 

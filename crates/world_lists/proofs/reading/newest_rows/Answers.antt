@@ -1,5 +1,6 @@
 use Rattle.row_search.specs.declared.sight.Sight.TheVariants.{Newest}
 use Rattle.law_held_steps.proofs.Stepping.{reading_begins, reading_steps, reading_goes_on, reading_nears, reading_waits, reading_ends}
+use Rattle.world_lists.proofs.Searching.{waits_by}
 use Rattle.world_lists.proofs.reading.newest_rows.Goals as goal
 use Rattle.law_held_steps.proofs.{Stepping.new_search, Places.moves_then}
 
@@ -24,13 +25,13 @@ returns-in-Done-clause-found g c = λ chains tells. (reading_ends _ _ _ _ _ _ (c
 
 pub give_up-requires : goal.give_up-requires
 give_up-requires g c =
-    reading_steps _ _ _ _ _ _ (reading_waits _ _ _ _ _ _ (c.reading.invariant c.requires.0 c.requires.1) c.in-Hindered-NoMemory.ensures
+    reading_steps _ _ _ _ _ _ (reading_waits _ _ _ _ _ _ (c.reading.invariant c.requires.0 c.requires.1) (waits_by c.in-Call.is c.in-Hindered.ensures)
     (g.met.W.EngineWorld.tells
     c.advance.new.world).told) (g.met.W.EngineWorld.tells c.advance.new.world).told
 
-pub returns-in-Hindered-NoMemory-clause-moves : goal.returns-in-Hindered-NoMemory-clause-moves
-returns-in-Hindered-NoMemory-clause-moves g c =
-    moves_then (reading_waits _ _ _ _ _ _ (c.reading.invariant c.requires.0 c.requires.1) c.in-Hindered-NoMemory.ensures (g.met.W.EngineWorld.tells
+pub returns-in-NoMemory-clause-moves : goal.returns-in-NoMemory-clause-moves
+returns-in-NoMemory-clause-moves g c =
+    moves_then (reading_waits _ _ _ _ _ _ (c.reading.invariant c.requires.0 c.requires.1) (waits_by c.in-Call.is c.in-Hindered.ensures) (g.met.W.EngineWorld.tells
     c.advance.new.world).told).moves c.give_up.ensures
 
 pub reading-preserved : goal.reading-preserved

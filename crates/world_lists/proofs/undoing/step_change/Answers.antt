@@ -1,19 +1,33 @@
-use Rattle.std.proofs.Common.{refl, ap}
+use Rattle.std.proofs.Common.{refl, ap, subst}
 use Rattle.row_changes.specs.Reached.{Went, Done, Hindered}
-use Rattle.row_changes.specs.InPlace.{reached_at}
+use Rattle.row_changes.specs.{InPlace.reached_at, Rows.ChangesRow}
 use Rattle.law_held_steps.proofs.Places.{none_moves}
-use Rattle.world_lists.proofs.Changing.{table_left, table_over, gone_by, step_of, answer_over, answer_hindered, lies_there}
+use Rattle.world_lists.proofs.Changing.{its_rows, table_left, table_over, gone_by, step_of, answer_over, answer_hindered, lies_there}
+use Rattle.world_lists.proofs.Hindering.{hindered_for_memory}
 use Rattle.world_lists.proofs.undoing.step_change.Goals as goal
+
+pub advance-requires : goal.advance-requires
+advance-requires g c = its_rows c.requires
+
+pub unreachable-requires : goal.unreachable-requires
+unreachable-requires g c =
+    let may = c.requires in
+    let old = g.W.World.state c.args.world.now in
+    let new = g.W.World.state c.advance.new.world in
+    c.in_default.not-NoMemory (hindered_for_memory c.args.session old new c.args.change.now c.advance.new.self c.in-Hindered.why
+    (g.met.W.EngineWorld.tells c.args.world.now) may
+    (subst (ChangesRow c.args.session may.chains may.beside old new c.args.change.now) (ap (reached_at c.advance.new.self) c.in-Hindered.is)
+    (c.advance.ensures.changes may.chains may.beside may.changing)))
 
 pub leave_table-requires : goal.leave_table-requires
 leave_table-requires g c =
-    table_over c.args.session c.args.change.now c.table_of-table.ensures (g.W.World.state c.args.world.now) c.requires (g.W.World.state c.advance.new.world) _
-    c.advance.ensures.changes (ap (reached_at c.advance.new.self) c.in-Done.is)
+    table_over c.args.session c.args.change.now c.table_of-table.ensures (g.W.World.state c.args.world.now) (its_rows c.requires)
+    (g.W.World.state c.advance.new.world) _ c.advance.ensures.changes (ap (reached_at c.advance.new.self) c.in-Done.is)
 
-pub leave_table-requires-in-Hindered : goal.leave_table-requires-in-Hindered
-leave_table-requires-in-Hindered g c =
-    table_left c.args.session c.args.change.now c.table_of-table.ensures (g.W.World.state c.args.world.now) c.requires (g.W.World.state c.advance.new.world) _
-    c.advance.ensures.changes (ap (reached_at c.advance.new.self) c.in-Hindered.is)
+pub leave_table-requires-in-NoMemory : goal.leave_table-requires-in-NoMemory
+leave_table-requires-in-NoMemory g c =
+    table_left c.args.session c.args.change.now c.table_of-table.ensures (g.W.World.state c.args.world.now) (its_rows c.requires)
+    (g.W.World.state c.advance.new.world) _ c.advance.ensures.changes (ap (reached_at c.advance.new.self) c.in-Hindered.is)
 
 pub returns-in-Went : goal.returns-in-Went
 returns-in-Went g c =
@@ -26,8 +40,8 @@ returns-in-Done g c =
     step_of c.args.change.now Done c.advance.ensures.awaits c.leave_table.ensures.leaves (ap (reached_at c.advance.new.self) c.in-Done.is)
     c.advance.ensures.changes (gone_by c.table_of-table.ensures c.leave_table.ensures.gone) refl (answer_over c.args.change.now)
 
-pub returns-in-Hindered : goal.returns-in-Hindered
-returns-in-Hindered g c =
-    step_of c.args.change.now (Hindered c.advance.new.self c.in-Hindered._why) c.advance.ensures.awaits c.leave_table-in-Hindered.ensures.leaves
+pub returns-in-NoMemory : goal.returns-in-NoMemory
+returns-in-NoMemory g c =
+    step_of c.args.change.now (Hindered c.advance.new.self c.in-Hindered.why) c.advance.ensures.awaits c.leave_table-in-NoMemory.ensures.leaves
     (ap (reached_at c.advance.new.self) c.in-Hindered.is) c.advance.ensures.changes
-    (gone_by c.table_of-table.ensures c.leave_table-in-Hindered.ensures.gone) refl (answer_hindered c.args.change.now c.advance.new.self c.in-Hindered._why)
+    (gone_by c.table_of-table.ensures c.leave_table-in-NoMemory.ensures.gone) refl (answer_hindered c.args.change.now c.advance.new.self c.in-Hindered.why)

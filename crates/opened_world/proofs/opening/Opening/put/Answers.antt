@@ -5,7 +5,7 @@ use Rattle.law_stored_rows.specs.Fitting.{FitsTable}
 use Rattle.list_world.specs.Parts.{world_of}
 use Rattle.list_world.specs.Memory.{in_memory}
 use Rattle.opened_world.specs.declared.opening.PutBad.TheVariants.{RowThere}
-use Rattle.opened_world.proofs.Laying.{its_table, its_keys, keys_changing, laid_row, row_there}
+use Rattle.opened_world.proofs.Laying.{its_table, its_keys, keys_changing, laid_row, nobody_mid, row_there}
 use Rattle.opened_world.proofs.opening.Opening.put.Goals as goal
 
 pub put_record-requires-clause-storable : goal.put_record-requires-clause-storable
@@ -28,8 +28,8 @@ returns-in-Err-clause-there c same =
     (row_there c.self.inside.db c.args.table c.args.row c.table_of-schema.result.now (world_of c.self.inside.world) c.self.invariant
     (in_memory c.self.inside.world).told (ap (λ tables. slice_get tables c.args.table) c.self.invariant.schemas ∙ there) found)
 
-pub enter_keys-requires : goal.enter_keys-requires
-enter_keys-requires c =
+pub enter_keys-requires-clause-keys : goal.enter_keys-requires-clause-keys
+enter_keys-requires-clause-keys c =
     let there = c.table_of-schema.ensures in (
       _,
       keys_changing c.self.inside.db c.args.table c.args.row c.table_of-schema.result.now (world_of c.self.inside.world) (world_of c.put_record.new.world)
@@ -37,6 +37,13 @@ enter_keys-requires c =
           (ap (λ tables. slice_get tables c.args.table) c.self.invariant.schemas ∙ there)
           (c.self.invariant.fits.fitting.tables c.args.table c.table_of-schema.result.now there) c.in-Ok.ensures.ok (in_memory c.put_record.new.world).told,
     )
+
+pub enter_keys-requires-clause-nobody : goal.enter_keys-requires-clause-nobody
+enter_keys-requires-clause-nobody c =
+    let there = c.table_of-schema.ensures in
+    nobody_mid c.self.inside.db c.args.table c.args.row c.table_of-schema.result.now (world_of c.self.inside.world) (world_of c.put_record.new.world)
+    c.in-Ok.key c.self.invariant (ap (λ tables. slice_get tables c.args.table) c.self.invariant.schemas ∙ there)
+    (c.self.invariant.fits.fitting.tables c.args.table c.table_of-schema.result.now there) c.in-Ok.ensures.ok (in_memory c.put_record.new.world).told
 
 pub add_change-requires : goal.add_change-requires
 add_change-requires c =

@@ -1,6 +1,6 @@
 use Rattle.world_lists.proofs.Calls.{still_there}
 use Rattle.desks.specs.declared.desk.Doing.TheVariants.{Nothing}
-use Rattle.world_lists.proofs.Searching.{may_step_now, went_kept, went_seen, went_nears, ended_kept, ended_seen, hindered_kept, hindered_seen}
+use Rattle.world_lists.proofs.Searching.{may_step_now, went_kept, went_seen, went_nears, ended_kept, ended_seen, hindered_kept, hindered_seen, waits_by}
 use Rattle.world_lists.proofs.steps.WorldListsSharedLists.search.Goals as goal
 
 pub advance-requires-clause-searching : goal.advance-requires-clause-searching
@@ -41,14 +41,14 @@ returns-in-Done-clause-searches g c =
     ended_seen c.args.session c.self.invariant c.self.view_is c.in-Searching.ensures.was c.take_up.ensures.as_it_was c.take_up.ensures.anew
     (g.met.W.EngineWorld.tells c.advance.new.world).told c.take_doing.ensures.is c.in-Done.ensures c.found_rows.ensures.rows c.found_rows.ensures.over
 
-pub invariant_of-self-in-Hindered-NoMemory : goal.invariant_of-self-in-Hindered-NoMemory
-invariant_of-self-in-Hindered-NoMemory g c =
+pub invariant_of-self-in-NoMemory : goal.invariant_of-self-in-NoMemory
+invariant_of-self-in-NoMemory g c =
     hindered_kept c.args.session c.self.invariant c.self.view_is c.in-Searching.ensures.was c.take_up.ensures.as_it_was c.take_up.ensures.anew
-    (g.met.W.EngineWorld.tells c.advance.new.world).told c.take_doing.ensures.is c.in-Hindered-NoMemory.ensures c.give_up.ensures
+    (g.met.W.EngineWorld.tells c.advance.new.world).told c.take_doing.ensures.is (waits_by c.in-Call.is c.in-Hindered.ensures) c.give_up.ensures
     (g.met.W.EngineWorld.tells c.give_up.new.world).told
 
-pub returns-in-Hindered-NoMemory-clause-searches : goal.returns-in-Hindered-NoMemory-clause-searches
-returns-in-Hindered-NoMemory-clause-searches g c =
+pub returns-in-NoMemory-clause-searches : goal.returns-in-NoMemory-clause-searches
+returns-in-NoMemory-clause-searches g c =
     λ table plan reading task. hindered_seen c.args.session c.self.invariant c.self.view_is c.in-Searching.ensures.was c.take_up.ensures.as_it_was
-    c.take_up.ensures.anew (g.met.W.EngineWorld.tells c.advance.new.world).told c.take_doing.ensures.is c.in-Hindered-NoMemory.ensures c.give_up.ensures
+    c.take_up.ensures.anew (g.met.W.EngineWorld.tells c.advance.new.world).told c.take_doing.ensures.is (waits_by c.in-Call.is c.in-Hindered.ensures) c.give_up.ensures
     (g.met.W.EngineWorld.tells c.give_up.new.world).told
