@@ -1,6 +1,6 @@
 -- The keys of a table take a row over, step by step.
-use Rattle.std.proofs.Common.{false, ◌≡◌, ◌≢◌, ◌∙◌, ⊎_elim, inr, refl, sym, ap, subst, ℕ, ◌≤◌, List, length, Option, None, Some, slice_get, arith, rules}
-use Rattle.std.specs.Prelude.{All, IsSome}
+use Rattle.std.proofs.Common.{false, ◌≡◌, ◌∙◌, ⊎_elim, inr, sym, ap, subst, ℕ, ◌≤◌, List, length, None, Some, slice_get, arith}
+use Rattle.std.specs.Prelude.{All}
 use Rattle.inno_types.specs.declared.value.Value.{Value}
 use Rattle.inno_types.specs.declared.value.Column.{Column}
 use Rattle.inno_types.specs.declared.value.Schema.{Schema}
@@ -13,11 +13,10 @@ use Rattle.law_stored_rows.proofs.Coding.{short_key, short_value}
 use Rattle.row_codec.specs.Rows.{version_code}
 use Rattle.store_api.specs.declared.moves.Move.TheVariants as moves
 use Rattle.store_api.specs.declared.moves.Move.{Move}
-use Rattle.entries.specs.Calls.{Inserts, IsPutOff, Delays}
-use Rattle.entries.specs.{Pairs.Pair, Index.Index, Index.Paged}
-use Rattle.law_stored_rows.specs.Edits.{clustered_index, key_index}
+use Rattle.entries.specs.Calls.{Inserts}
+use Rattle.law_stored_rows.specs.Edits.{clustered_index}
+use Rattle.law_held_steps.proofs.Hindering.{keys_lack}
 use Rattle.world.specs.{State.WorldState, Memory.IsInMemory}
-use Rattle.world.proofs.Memory.{no_pages}
 use Rattle.world.specs.Stores.{StoreGoes}
 use Rattle.world.proofs.Stores.{store_goes_on}
 use Rattle.world.specs.Indexes.{Changes}
@@ -27,9 +26,9 @@ use Rattle.row_changes.specs.Edits.{IsRowFor}
 use Rattle.row_changes.specs.Told.{HasRows}
 use Rattle.row_changes.proofs.Alone.{alone_over}
 use Rattle.law_stored_rows.specs.Tables.{what_is_there}
-use Rattle.row_changes.specs.{Keys.IsChangingKeys, Keys.ChangesKeys, Keys.HindersKeys, Entries.HindersEntry, Pairs.Hinders, Reached.Reached}
+use Rattle.row_changes.specs.{Keys.IsChangingKeys, Keys.ChangesKeys, Reached.Reached}
 use Rattle.opened_world.specs.Laid.{PutsNewRecord, AwaitsNobody}
-use Rattle.row_changes.specs.Awaited.{AwaitsIn, IsOfTable, IsAwaitedAlone}
+use Rattle.row_changes.specs.Awaited.{AwaitsIn, IsOfTable}
 
 -- the bytes are the key of the row
 pub row_for : (schema : Schema) (row : List Value) (key : List ℕ) → FitsTable schema row → All Has64Bits row
@@ -62,39 +61,6 @@ new_record table schema row old new key value index row_is value_is index_is ins
           (version_code schema (record { row = row; writer = 0; pointer = 0; marked = false })) before after answer) old new moves.Done) index_is
           (subst (λ v. Changes index 0 None (λ before after answer. Inserts 0 key v before after answer) old new moves.Done) value_is inserts);
     }
-
--- ---- what hinders a call of an index in memory
-
-untold : (pairs : Option (List Pair)) → IsSome pairs → pairs ≡ None → ⊥
-untold None told none = absurd (cc)
-untold (Some pairs) told none = absurd (cc)
-
-never_put_off : (why : Paged → Paged → Type 0) (old new : Index) → old.paged ≡ None → IsPutOff why old new → ⊥
-never_put_off why old new none off = no_pages _ old.paged new.paged none off.cause
-
-never_delayed : (actor : ℕ) (old new : Index) (why : Move) → old.paged ≡ None → Delays actor old new why → ⊥
-never_delayed actor old new moves.Failed none broken = no_pages _ old.paged new.paged none broken.cause
-never_delayed actor old new other none off = search (rules, never_put_off)
-
-module _ (old new : WorldState) (memory : IsInMemory old) (alone : IsAwaitedAlone 0 old) where
-  call_lacks : (index : ℕ) (why : Move) → Hinders 0 (old.indexes index) (new.indexes index) why → why ≡ moves.NoMemory
-  call_lacks index moves.Done off = absurd off
-  call_lacks index moves.End off = absurd (untold (old.indexes index).pairs (memory.told.pairs index) off)
-  call_lacks index (moves.At key value) off = absurd (untold (old.indexes index).pairs (memory.told.pairs index) off)
-  call_lacks index (moves.Latch by) off =
-      absurd (⊎_elim (λ kept. kept.held.another (alone index by kept.held.awaited))
-      (never_delayed 0 (old.indexes index) (new.indexes index) (moves.Latch by) (memory.no_page_of_index index)) off)
-  call_lacks index (moves.Full need free) off = absurd (never_put_off _ (old.indexes index) (new.indexes index) (memory.no_page_of_index index) off)
-  call_lacks index moves.TooDeep off = absurd (never_put_off _ (old.indexes index) (new.indexes index) (memory.no_page_of_index index) off)
-  call_lacks index moves.NoMemory off = refl
-  call_lacks index other off = absurd (never_delayed 0 (old.indexes index) (new.indexes index) other (memory.no_page_of_index index) off)
-
-  entry_lacks : (entry : List ℕ) (index : ℕ) (why : Move) → why ≢ moves.End
-      → HindersEntry 0 entry (old.indexes index) (new.indexes index) why → why ≡ moves.NoMemory
-  entry_lacks entry index moves.End there off = absurd (there refl)
-  entry_lacks entry index other there off = call_lacks index other off
-
--- ---- the keys
 
 -- since this change began the keys have come so far
 pub record IsTaking (start : KeysChange) (old now : WorldState) (change : KeysChange) : Type 0 where
@@ -162,9 +128,7 @@ module _ (start : KeysChange) (old mid new : WorldState) (change : KeysChange) (
   taken_later step = store_goes_on old.paged mid.paged new.paged taking.later (step taking.chains taking.holds).0.later
 
   -- nobody was awaited when the change began, so nothing but want of memory hinders its step
-  pub taking_lacks : IsInMemory mid → AwaitsNobody old → (same : KeysChange) (why : Move) → why ≢ moves.End → Steps (Hindered same why)
-      → why ≡ moves.NoMemory
-  taking_lacks memory nobody same why there step =
-      let off : HindersKeys 0 mid new change why = (step taking.chains taking.holds).3 in
-      entry_lacks mid new memory (λ i by is. ⊎_elim (λ was. absurd (nobody i by was)) (λ mine. mine.0) (taking.awaits.each i by is)) off.entry
-      (key_index change.table off.which) why there off.cause
+  pub taking_lacks : IsInMemory mid → AwaitsNobody old → (same : KeysChange) (why : Move) → Steps (Hindered same why) → why ≡ moves.NoMemory
+  taking_lacks memory nobody same why step =
+      keys_lack 0 mid new memory (λ i by is. ⊎_elim (λ was. absurd (nobody i by was)) (λ mine. mine.0) (taking.awaits.each i by is)) change why
+      (step taking.chains taking.holds).3

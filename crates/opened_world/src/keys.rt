@@ -139,7 +139,7 @@ pub fn enter_keys(
             Stepped::Went => {}
             Stepped::Done(()) => return Ok(()),
             Stepped::Hindered(why) => match why {
-                Move::NoMemory | Move::End => return Err(NoMemory),
+                Move::NoMemory => return Err(NoMemory),
                 _ => unreachable!(),
             },
         }

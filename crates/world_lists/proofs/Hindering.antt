@@ -1,37 +1,36 @@
 -- Nothing but want of memory hinders a step of a change in memory where nobody else is awaited: its record is coded, and there where it is to
 -- be removed.
-use Rattle.std.proofs.Common.{◌≡◌, ◌≢◌, ◌⊎◌, inl, inr, ⊎_elim, ℕ, Bool, true, false, List, [], ◌∷◌, Option, Some, None, refl, sym, ap, subst, ◌∙◌, rules}
+use Rattle.std.proofs.Common.{◌≡◌, ◌≢◌, ◌⊎◌, inl, inr, ⊎_elim, ℕ, Bool, true, false, List, [], ◌∷◌, Option, Some, None, refl, sym, ap, subst, ◌∙◌}
 use Rattle.std.proofs.{lemmas.Bool.false≢true, lemmas.Bool.cases_eq}
-use Rattle.std.specs.{Prelude.slice_get, Prelude.is_some, Prelude.IsSome, List.list_any}
+use Rattle.std.specs.{Prelude.slice_get, Prelude.is_some, List.list_any}
 use Rattle.inno_types.specs.{declared.value.Value.Value, declared.value.Column.Column, declared.value.Schema.Schema}
 use Rattle.inno_db.specs.{declared.change.Change.Change}
 use Rattle.inno_model.specs.{Past.own, Past.commits, Past.committed}
-use Rattle.store_api.specs.declared.moves.Move.TheVariants.{At, End, Done, Latch, Full, TooDeep, Failed, NoMemory}
+use Rattle.store_api.specs.declared.moves.Move.TheVariants.{End, NoMemory}
 use Rattle.store_api.specs.{declared.answers.Version.Version as Coded, declared.moves.Move.Move}
 use Rattle.key_codec.specs.{Keys.HasKey, Keys.key_code}
 use Rattle.row_codec.specs.{Rows.IsRecordOf}
-use Rattle.entries.specs.{Pairs.Pair, Pairs.value_of, Index.Index, Index.Paged, Calls.IsPutOff, Calls.Delays}
-use Rattle.row_versions.specs.Chains.{Chains, versions_at, newest, older}
+use Rattle.entries.specs.{Pairs.value_of}
+use Rattle.row_versions.specs.Chains.{Chains, versions_at, newest}
 use Rattle.row_versions.specs.{declared.kept.Kept.Kept, declared.place.Place.Place, declared.version.Version.Version}
 use Rattle.law_past_agreement.specs.{Rows.is_at, Rows.row_opened, Rows.row_seen, Order.created}
 use Rattle.law_past_agreement.proofs.{Rows.row_at-append}
-use Rattle.law_stored_rows.specs.{Edits.clustered_index, Edits.key_index, Tables.Said, Tables.in_table, Records.IsRecordWith, Records.kept_of}
+use Rattle.law_stored_rows.specs.{Edits.clustered_index, Tables.Said, Tables.in_table, Records.IsRecordWith, Records.kept_of}
 use Rattle.law_stored_rows.specs.{Records.row_shown}
 use Rattle.law_stored_rows.proofs.{RowRecords.record_read}
 use Rattle.law_world_agreement.specs.{Agreement.Agrees}
 use Rattle.law_world_agreement.proofs.{Readers.seen_newest}
-use Rattle.world.specs.{State.WorldState, Told.IsTold, Told.pairs_of, Memory.IsInMemory, Undoing.MakesRoom, Undoing.IsPutOff as IsWorldPutOff}
-use Rattle.world.proofs.{Memory.no_pages, Memory.not_delayed}
-use Rattle.row_changes.specs.{Awaited.IsAwaitedAlone, Pairs.Hinders, Told.HasRowsAt, Entries.HindersEntry, Keys.HindersKeys, Reached.Hindered, Edits.FitsEdit}
+use Rattle.world.specs.{State.WorldState, Told.IsTold, Told.pairs_of, Memory.IsInMemory}
+use Rattle.row_changes.specs.{Awaited.IsAwaitedAlone, Told.HasRowsAt, Reached.Hindered, Edits.FitsEdit}
 use Rattle.row_changes.specs.{Edits.HasNoRow, Edits.LacksRow, declared.row_edit.RowEdit.RowEdit, declared.row_edit.RowEdit.TheVariants.Put}
 use Rattle.row_changes.specs.{declared.row_edit.RowEdit.TheVariants.Remove, declared.record_change.RecordChange.RecordChange}
-use Rattle.row_changes.specs.{declared.keys_change.KeysChange.KeysChange, declared.row_change.RowChange.RowChange}
+use Rattle.row_changes.specs.{declared.row_change.RowChange.RowChange}
 use Rattle.row_changes.specs.{declared.row_change.RowChange.TheVariants.Record, declared.row_change.RowChange.TheVariants.Keys, Records.IsTable}
-use Rattle.row_changes.specs.{Records.IsSpoiled, Records.HindersRecord, Rows.IsChangingRow, Rows.ChangesRow, Rows.primary_of}
+use Rattle.row_changes.specs.{Records.IsSpoiled, Records.HindersRecord, Rows.ChangesRow, Rows.primary_of}
 use Rattle.row_changes.proofs.{Sessions.one_found, Telling.tells, Pushed.key_at}
 use Rattle.law_logged_changes.specs.{Logs.IsAloneAt}
 use Rattle.law_held_steps.proofs.Hindering.{call_lacks, room_lacks, keys_lack}
-use Rattle.world_lists.specs.{Parts.IsThereToRemove, Parts.RemovesRow, Parts.MayGoOn}
+use Rattle.world_lists.specs.{Parts.IsThereToRemove, Parts.MayGoOn}
 
 -- ---- the record
 

@@ -14,7 +14,7 @@ unreachable-requires c =
     let mid = world_of c.loop.world in
     let new = world_of c.advance.new.world in
     c.in_default.not-NoMemory (taking_lacks _ (world_of c.args.world.now) mid new c.loop.change c.loop.invariant (in_memory c.loop.world) c.requires.nobody
-    c.advance.new.self c.in-Hindered.why c.in_default.not-End
+    c.advance.new.self c.in-Hindered.why
     (λ chains is. subst (ChangesKeys 0 chains (what_is_there chains) mid new c.loop.change) (ap (reached_at c.advance.new.self) c.in-Hindered.is)
     (c.advance.ensures.changes chains (what_is_there chains) is)))
 
