@@ -1,22 +1,23 @@
 -- A change begins: its edit fits the tables of the history. Each step of it keeps the lists.
-use Rattle.std.proofs.Common.{◌≡◌, ◌≢◌, ℕ, List, Option, Some, None, refl, subst, ◌<◌, true, length, sym, ap, ◌∙◌, arith, ◌+◌, ◌≤◌, ◌^◌, Bool, false, cond, ◌∷◌}
+use Rattle.std.proofs.Common.{◌≡◌, ℕ, List, Option, Some, None, refl, subst, ◌<◌, true, length, sym, ap, ◌∙◌, arith, ◌+◌, ◌≤◌, ◌^◌, Bool, false, cond, ◌∷◌}
 use Rattle.std.proofs.lemmas.Option.{slice_get_within}
 use Rattle.std.specs.Prelude.{slice_get, IsSomeAnd}
 use Rattle.law_stored_rows.specs.{Fitting.IsKeyFor, Fitting.FitsTable, Tables.what_is_there}
 use Rattle.row_changes.specs.Rows.{primary_of, table_of, place_of, row_steps, IsChangingRowAlone, ChangesRowAlone}
 use Rattle.row_changes.specs.Reached.{Went, Done, Hindered, Reached}
+use Rattle.row_changes.proofs.Sessions.{same_versions}
 use Rattle.row_changes.specs.{declared.row_edit.RowEdit.TheVariants.Put, declared.row_edit.RowEdit.TheVariants.Remove, Edits.change_of, Edits.FitsEdit}
 use Rattle.row_changes.specs.{Edits.rows_put, declared.row_change.RowChange.TheVariants.Record, declared.row_change.RowChange.TheVariants.Keys}
 use Rattle.row_changes.specs.{declared.row_edit.RowEdit.RowEdit, declared.record_change.RecordChange.RecordChange, declared.keys_change.KeysChange.KeysChange}
 use Rattle.row_changes.specs.{declared.row_change.RowChange.RowChange}
 use Rattle.law_past_agreement.specs.Order.{created}
-use Rattle.desks.specs.Desks.{Store, desk_at, doing_in, doing_at, started_in, started_at, with_doing, is_quiet_doing, is_undoing, HasRooms}
+use Rattle.desks.specs.Desks.{Store, doing_at, with_doing, is_undoing}
 use Rattle.desks.specs.{Holding.IsHeld, Holding.SearchHeld, Holding.AreFew, Holding.IsLastOf, Holding.IsLastIfTold, declared.desk.Desk.Desk}
 use Rattle.desks.specs.{declared.desk.Doing.Doing, declared.desk.Doing.TheVariants.Nothing, declared.desk.Doing.TheVariants.Changing, Undoing.keys_if}
 use Rattle.row_changes.proofs.Alone.{alone_rows, alone_over, keys_alone}
 use Rattle.law_held_steps.proofs.Keeping.{open_work, open_joined, goes_same, goes_changed, leaves_lists, last_of_kept, keeps}
-use Rattle.law_held_steps.proofs.{Desks.given, Desks.there, Desks.started_still, Desks.rooms_then, Desks.changes_at_a_desk, AnyStep.each, Alone.HoldsAlone}
-use Rattle.law_held_steps.proofs.{Alone.rows_by, Places.search_as, Putting.rests_coded, Putting.others_quiet, Putting.changing_rows, Putting.alone_if}
+use Rattle.law_held_steps.proofs.{Desks.given, Desks.there, Desks.rooms_then, Desks.changes_at_a_desk, AnyStep.each, Alone.HoldsAlone}
+use Rattle.law_held_steps.proofs.{Putting.rests_coded, Putting.held_given, Putting.changing_rows, Putting.alone_if}
 use Rattle.law_found_rows.proofs.FittingChanges.{tables_storable}
 use Rattle.law_world_agreement.specs.Agreement.{Agrees}
 use Rattle.law_logged_changes.proofs.{Listed.begun as begun_row, Entering.goes_on, Entering.place_there, Logging.change_logged, Logging.row_all}
@@ -25,7 +26,7 @@ use Rattle.world.specs.{State.WorldState, Undoing.read_into, Told.IsTold}
 use Rattle.shared_lists.specs.{Fitting.FitsWell, Fitting.FitsThen, Steps.rows_of_change}
 use Rattle.law_held_steps.specs.{Beginning.IsEditable, Beginning.IsKeyOfEdit, Beginning.begun, Leaving.is_searching, Making.doing_after, Making.Comes}
 use Rattle.law_held_steps.specs.{Making.MakesChange}
-use Rattle.inno_model.specs.{Past.IsOpen, Past.own, Past.started, declared.event.Event.TheVariants.Changed}
+use Rattle.inno_model.specs.{Past.IsOpen, Past.own, declared.event.Event.TheVariants.Changed}
 use Rattle.row_versions.specs.Chains.{Chains, versions_at, is_same_place, Pushes}
 use Rattle.row_versions.specs.{declared.place.Place.Place, declared.version.Version.Version}
 use Rattle.law_logged_changes.specs.{GoingOn.KeepsBeside, GoingOn.GoesOnAgreed, GoingOn.IsAloneIn, Logs.LogsAgree}
@@ -96,31 +97,9 @@ module _ {store : Store} (held : IsHeld store) where
         → IsHeld (record store { desks = with_doing s doing store.desks })
     turned told doing within not rows search =
         let was = there s store.desks within in
-        let gives = given s doing store.desks was.1 in
-        let now : Store = record store { desks = with_doing s doing store.desks } in
-        record {
-          chains = held.chains;
-          agrees = held.agrees;
-          fits = held.fits;
-          writes = held.writes;
-          rows = rows_by held.chains state now.desks s (others_quiet s held mine now.desks gives.others) told held.logs gives.here (rows was.0);
-          quiet = each s (λ u. store.writer ≢ Some u → is_quiet_doing (doing_at u now.desks) ≡ true) (λ other. absurd (other mine))
-              (λ u differs other. ap (λ desk. is_quiet_doing (doing_in desk)) (gives.others u differs) ∙ held.quiet u other);
-          searches = each s (λ u. SearchHeld held.chains now u (doing_at u now.desks))
-              (subst (SearchHeld held.chains now s) (sym (ap doing_in gives.here)) search) (λ u differs.
-              subst (λ desk. SearchHeld held.chains now u (doing_in desk)) (sym (gives.others u differs))
-              (search_as held.chains store now.desks u (doing_at u store.desks) (held.searches u)));
-          logs = held.logs;
-          has_room = held.has_room;
-          started = each s (λ u. started u state.past ≡ started_at u now.desks) (held.started s ∙ sym (started_still s doing store.desks))
-              (λ u differs. held.started u ∙ ap started_in (sym (gives.others u differs)));
-          rooms = each s (λ u. (desk : Desk) → desk_at u now.desks ≡ Some desk → HasRooms desk) (rooms_then s doing store.desks (held.rooms s) not)
-              (λ u differs desk at. held.rooms u desk (sym (gives.others u differs) ∙ at));
-          count = gives.count ∙ held.count;
-          few = held.few;
-          cut = held.cut;
-          short = held.short;
-        }
+        let rooms = rooms_then s doing store.desks (held.rooms s) not in
+        held_given s held mine (record { places = λ index. refl; versions = same_versions state.versions; rest = refl }) told told
+        (given s doing store.desks was.1) (rows was.0) held.logs search (rooms _ (given s doing store.desks was.1).here)
 
     pub begins : IsTold state → (table : ℕ) (schema : Schema) (edit : RowEdit) (key : List ℕ) → doing_at s store.desks ≡ Nothing → IsOpen s state.past
         → FitsWell (created state.past) (change_of table edit) → slice_get state.schemas table ≡ Some schema → IsKeyOfEdit schema edit key
