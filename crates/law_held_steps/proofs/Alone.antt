@@ -101,7 +101,7 @@ module _ (chains : Chains) (state : WorldState) (desks : List Desk) (s : ℕ)
         (λ t differs. quiet_row chains (said_beside chains said state desks t) state t (desk_at t desks) (others t differs))
 
     -- its keys lag nowhere
-    none_lags : lags_in state s (doing_at s desks) ≡ None → HasRows chains state → RowHeldAt chains (what_is_there chains) state s (desk_at s desks)
+    pub none_lags : lags_in state s (doing_at s desks) ≡ None → HasRows chains state → RowHeldAt chains (what_is_there chains) state s (desk_at s desks)
         → RowsHeld chains state desks
     none_lags none rows mine = record {
       said = what_is_there chains;
