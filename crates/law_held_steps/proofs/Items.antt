@@ -555,10 +555,9 @@ module _ {store : Store} {new : WorldState} {t : ℕ} {schema : Schema} (held : 
 
   coded : HasRows held.chains new
   coded told' =
-      subst (λ (schemas : List Schema). AreCoded schemas (pairs_of new) new.versions.kept_at held.chains) (sym by.schemas)
-      (subst (λ (pairs : ℕ → List Pair). AreCoded (source.schemas ++ schema ∷ []) pairs new.versions.kept_at held.chains) (sym pairs_are)
-      (subst (λ (v : _). AreCoded (source.schemas ++ schema ∷ []) (pairs_of source) v.kept_at held.chains) (sym versions)
-      (a_table_more source.schemas schema (pairs_of source) source.versions.kept_at held.chains (was told) (its_columns schema storable) no_pairs)))
+      subst (λ (x : List Schema × (ℕ → List Pair) × Versions). AreCoded x.0 x.1 x.2.kept_at held.chains)
+      (sym (λ i. (by.schemas i, pairs_are i, versions i)))
+      (a_table_more source.schemas schema (pairs_of source) source.versions.kept_at held.chains (was told) (its_columns schema storable) no_pairs)
 
   does_make : Does t held.chains held.chains store made
   does_make = record {

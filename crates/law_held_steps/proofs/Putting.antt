@@ -229,12 +229,10 @@ last_if s keep state session work (logged ∷ log) (change ∷ before) has log_i
 
 -- the record that was read is that one
 read_there : (log : List Logged) (logged : Logged) (older : List Logged) (read : Undo) (there : Bool) → log ≡ logged ∷ older
-    → IsRead (newest log) read there → (there ≡ true) × (read ≡ logged.undo)
+    → IsRead (newest log) read there → read ≡ logged.undo
 read_there log logged older read there is reads =
     let found : newest log ≡ Some logged.undo = ap newest is in
-    let some : there ≡ true = reads.0 ∙ ap is_some found in
-    let same : Some logged.undo ≡ Some read = sym found ∙ reads.1 some in
-    (some, cc)
+    some_same read logged.undo (sym (reads.1 (reads.0 ∙ ap is_some found)) ∙ found)
 
 -- its change may be taken back then, whether the row's keys are as the change left them or lag
 module _ (chains : Chains) (state : WorldState) (s : ℕ) (room : WorkRoom) (read : Undo) (agree : LogsAgree state) (whole : IsWhole room)
@@ -291,7 +289,7 @@ module _ (s : ℕ) {store : Store} (held : IsHeld store) where
         last_if s keep old is.0 is.1 is.1.log (own s old.past) is.2 refl refl may.1 (held.logs.each s is.0 is.1 is.2)
 
     module _ (new : WorldState) (read : UndoRoom) (there : Bool) (reads : ReadsLast s s (read_into read) there old new Done) where
-      is_read : (logged : Logged) (place : Place) → IsLast old s logged place → (there ≡ true) × (read_into read ≡ logged.undo)
+      is_read : (logged : Logged) (place : Place) → IsLast old s logged place → read_into read ≡ logged.undo
       is_read logged place last = read_there last.work.log logged last.log (read_into read) there last.log_is (reads.0 last.session last.work last.has_work)
 
       module _ {desk : Desk} (at : desk_at s store.desks ≡ Some desk) (ready : IsReady desk.doing) (memory : IsInMemory new) where
@@ -301,7 +299,7 @@ module _ (s : ℕ) {store : Store} (held : IsHeld store) where
         begin : IsGoingBack held.chains (what_is_there held.chains) old s (read_into read) desk.room
         begin =
             begin_from held.chains old s desk.room (read_into read) held.logs rooms_were.whole (rooms_were.anew (ready_undoes_not desk.doing ready))
-            (λ logged place last. (is_read logged place last).1) (read_into desk.undo) desk.room desk.doing ready
+            is_read (read_into desk.undo) desk.room desk.doing ready
             (subst (HoldsAloneAt held.chains old s) at (rows_mine s held may_write)) has_last
 
         left_rows : LeavesRows old new

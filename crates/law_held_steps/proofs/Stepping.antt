@@ -529,15 +529,11 @@ module _ {store : Store} (table : ℕ) (plan : Plan) (schema : Schema) (held : I
     abbrev only_rows : List (List Value)
     only_rows = map (λ (found : FoundRow). found.row) rows
 
-    seen_by : (by : Plan) → AreRead held.chains table by schema store.world rows → (w : ℕ) → ((u : ℕ) → u ≢ w → own u store.world.past ≡ [])
-        → AreRowsSeen table by store.world.past w (commits store.world.past) only_rows
-    seen_by by are w alone = newest_seen held table by are.readable.there w alone rows are.found are.rise
-
     newest_by : (quiet : Bool) → AreRead held.chains table (plan_read quiet plan) schema store.world rows → (w : ℕ)
         → ((u : ℕ) → u ≢ w → own u store.world.past ≡ [])
         → AreNewestRows table plan store.world.past w only_rows
-    newest_by true are w alone = inl (seen_by plan are w alone)
-    newest_by false are w alone = inr (seen_by whole_index are w alone)
+    newest_by true are w alone = inl (newest_seen held table plan are.readable.there w alone rows are.found are.rise)
+    newest_by false are w alone = inr (newest_seen held table whole_index are.readable.there w alone rows are.found are.rise)
 
     pub are_newest : AreRead held.chains table (plan_read (is_quiet store.writer store.desks) plan) schema store.world rows → (w : ℕ)
         → ((u : ℕ) → u ≢ w → own u store.world.past ≡ []) → AreNewestRows table plan store.world.past w only_rows
