@@ -51,7 +51,7 @@ any_older column value (version ∷ versions) has = more (has_value column value
 module _ (chains : Chains) (state : WorldState) (desks : List Desk) (s : ℕ)
     (others : (t : ℕ) → t ≢ s → is_quiet_doing (doing_at t desks) ≡ true) where
   -- only its keys can lag
-  lags_but : (place : Place) → lags_at place state desks s ≡ false → (t : ℕ) → lags_at place state desks t ≡ false
+  pub lags_but : (place : Place) → lags_at place state desks s ≡ false → (t : ℕ) → lags_at place state desks t ≡ false
   lags_but place mine = each s (λ t. lags_at place state desks t ≡ false) mine (λ t differs. quiet_lags state t desks place (others t differs))
 
   -- where of all places at which its keys don't lag something says what is there, so it does beside the session's own
@@ -101,7 +101,7 @@ module _ (chains : Chains) (state : WorldState) (desks : List Desk) (s : ℕ)
         (λ t differs. quiet_row chains (said_beside chains said state desks t) state t (desk_at t desks) (others t differs))
 
     -- its keys lag nowhere
-    none_lags : lags_in state s (doing_at s desks) ≡ None → HasRows chains state → RowHeldAt chains (what_is_there chains) state s (desk_at s desks)
+    pub none_lags : lags_in state s (doing_at s desks) ≡ None → HasRows chains state → RowHeldAt chains (what_is_there chains) state s (desk_at s desks)
         → RowsHeld chains state desks
     none_lags none rows mine = record {
       said = what_is_there chains;

@@ -139,17 +139,6 @@ lags_as old new s Lagging schemas own_is = λ i. newest_place (schemas i) (own_i
 lags_as old new s Undoing schemas own_is = λ i. newest_place (schemas i) (own_is i)
 lags_as old new s other schemas own_is = refl
 
--- where nobody changes a row, the keys say what is there
-pub none_lag : {chains : Chains} {state : WorldState} {desks : List Desk} → AreCoded state.schemas (pairs_of state) state.versions.kept_at chains
-    → ((s : ℕ) → is_quiet_doing (doing_at s desks) ≡ true) → RowsHeld chains state desks
-none_lag {chains} {state} {desks} coded quiet = record {
-  said = what_is_there chains;
-  coded = coded;
-  each = λ s. quiet_row chains (said_beside chains (what_is_there chains) state desks s) state s (desk_at s desks) (quiet s);
-  lagging = λ s place is. let no = quiet_lags state s desks place (quiet s) in absurd (cc);
-  settled = λ place none which. refl;
-}
-
 -- the session has changed no row, or is as it was
 pub record IsLeft (s : ℕ) (old new : WorldState) (desks now : List Desk) : Type 0 where
   pub session : slice_get new.sessions s ≡ slice_get old.sessions s
@@ -201,11 +190,26 @@ pub record IsOwnPart (s : ℕ) (after : Chains) (new : Store) : Type 0 where
   pub rooms : (desk : Desk) → desk_at s new.desks ≡ Some desk → HasRooms desk
 
 module _ {s : ℕ} {after : Chains} {old new : Store} (held : IsHeld old) (does : Does s held.chains after old new) (mine : IsOwnPart s after new) where
-  past_of : (u : ℕ) → u ≢ s → IsUntouched old.world.past new.world.past u
-  past_of u differs = others_past s u old.world.past new.world.past differs does.adds
-
   was : (u : ℕ) (session : Session) → u ≢ s → IsSession u session new.world → IsSession u session old.world
   was u session differs there = sym (does.sessions u differs) ∙ there
+
+  -- and each other one
+  parts : (u : ℕ) → IsOwnPart u after new
+  parts = each s (λ u. IsOwnPart u after new) mine (λ u differs.
+      let past = others_past s u old.world.past new.world.past differs does.adds in
+      let desk = sym (does.desks u differs) in
+      record {
+        replies = λ session has busy. held.has_room.replies u session (was u session differs has) (ap is_some (sym past.item) ∙ busy);
+        acks = λ session has waits. held.has_room.acks u session (was u session differs has) (ap awaits_ack (sym past.entries) ∙ waits);
+        ends = λ session work has.
+            held.has_room.ends u session work (record { session_is = was u session differs has.session_is; work_is = has.work_is });
+        started = past.count ∙ held.started u ∙ ap started_in desk;
+        opened = λ is. ap is_some past.level_is ∙ held.writes.opened u (does.back u differs is);
+        clean = λ other. past.own_is ∙ held.writes.clean u (λ might. other (does.rights u differs might));
+        quiet = λ other. ap (λ desk. is_quiet_doing (doing_in desk)) (sym desk) ∙ held.quiet u (λ might. other (does.rights u differs might));
+        search = subst (λ desk. SearchHeld after new u (doing_in desk)) desk (search_left s u does differs (doing_at u old.desks) (held.searches u));
+        rooms = λ room there. held.rooms u room (desk ∙ there);
+      })
 
   pub held_after : FitsThen new.world.past → RowsHeld after new.world new.desks → LogsAgree new.world
       → length new.desks ≡ length new.world.names → length new.world.names ≤ 68 → new.cuts ≤ length new.world.past → AreFew after new.world.past
@@ -214,34 +218,14 @@ module _ {s : ℕ} {after : Chains} {old new : Store} (held : IsHeld old) (does 
     chains = after;
     agrees = does.agrees;
     fits = fits;
-    writes = record {
-      opened = each s (λ u. new.writer ≡ Some u → IsOpen u new.world.past) mine.opened
-          (λ u differs is. ap is_some (past_of u differs).level_is ∙ held.writes.opened u (does.back u differs is));
-      clean = each s (λ u. new.writer ≢ Some u → own u new.world.past ≡ []) mine.clean
-          (λ u differs other. (past_of u differs).own_is ∙ held.writes.clean u (λ might. other (does.rights u differs might)));
-    };
+    writes = record { opened = λ u. (parts u).opened; clean = λ u. (parts u).clean };
     rows = rows;
-    quiet = each s (λ u. new.writer ≢ Some u → is_quiet_doing (doing_at u new.desks) ≡ true) mine.quiet (λ u differs other.
-        ap (λ desk. is_quiet_doing (doing_in desk)) (does.desks u differs) ∙ held.quiet u (λ might. other (does.rights u differs might)));
-    searches = each s (λ u. SearchHeld after new u (doing_at u new.desks)) mine.search (λ u differs.
-        subst (λ desk. SearchHeld after new u (doing_in desk)) (sym (does.desks u differs))
-        (search_left s u does differs (doing_at u old.desks) (held.searches u)));
+    quiet = λ u. (parts u).quiet;
+    searches = λ u. (parts u).search;
     logs = logs;
-    has_room = record {
-      replies = each s (λ u. (session : Session) → IsSession u session new.world → is_some (under_way u new.world.past) ≡ true → session.can_reply ≡ true)
-          mine.replies (λ u differs session has busy.
-          held.has_room.replies u session (was u session differs has) (ap is_some (sym (past_of u differs).item) ∙ busy));
-      acks = each s (λ u. (session : Session) → IsSession u session new.world → awaits_ack (of_item u new.world.past) ≡ true → session.can_ack ≡ true)
-          mine.acks (λ u differs session has waits.
-          held.has_room.acks u session (was u session differs has) (ap awaits_ack (sym (past_of u differs).entries) ∙ waits));
-      ends = each s (λ u. (session : Session) (work : Work) → HasWork u session work new.world → work.can_end ≡ true) mine.ends
-          (λ u differs session work has.
-          held.has_room.ends u session work (record { session_is = was u session differs has.session_is; work_is = has.work_is }));
-    };
-    started = each s (λ u. started u new.world.past ≡ started_at u new.desks) mine.started (λ u differs.
-        (past_of u differs).count ∙ held.started u ∙ ap started_in (sym (does.desks u differs)));
-    rooms = each s (λ u. (desk : Desk) → desk_at u new.desks ≡ Some desk → HasRooms desk) mine.rooms
-        (λ u differs desk there. held.rooms u desk (sym (does.desks u differs) ∙ there));
+    has_room = record { replies = λ u. (parts u).replies; acks = λ u. (parts u).acks; ends = λ u. (parts u).ends };
+    started = λ u. (parts u).started;
+    rooms = λ u. (parts u).rooms;
     count = count;
     few = few;
     cut = cut;

@@ -3,7 +3,7 @@
 use Rattle.std.proofs.Common.{◌≡◌, ◌≢◌, ℕ, ◌+◌, ◌<◌, true, Option, Some, None, List, length, refl, sym, ap, ◌∙◌, inl, arith, ◌⊎◌, subst, [], ◌^◌, false, ◌∷◌}
 use Rattle.std.proofs.Common.{inr, eq-eqb, ⊎_elim, Bool, cond, zero, suc, ◌++◌, ◌≤◌}
 use Rattle.std.proofs.lemmas.List.{length-set, set-get_or, length-map, length-append}
-use Rattle.std.proofs.lemmas.Option.{get_or_from_slice_get, slice_get-map, slice_get_within}
+use Rattle.std.proofs.lemmas.Option.{get_or_from_slice_get, slice_get-map, slice_get_within, slice_get_past}
 use Rattle.std.proofs.{lemmas.Bool.Decides.nat_tests, lemmas.Bool.Decides.eqb_tells, lemmas.Bool.false≢true}
 use Rattle.std.specs.Prelude.{slice_get, is_some, option_map, ◌≤◌, slice_set, IsSome, IsTrue}
 use Rattle.inno_model.specs.Past.{own, started, under_way, of_item, awaits_ack, level, IsOpen, IsClosed}
@@ -15,11 +15,11 @@ use Rattle.world.specs.{Told.IsTold, Told.LeavesRows, Told.pairs_in, Told.pairs_
 use Rattle.world.specs.{Sessions.with_save, Endings.IsCommitted, Endings.IsRolledBack}
 use Rattle.law_logged_changes.specs.{Steps.LeavesLog, Steps.HasNoLog, Steps.LeavesLogs, Steps.OfAll, Logs.LogsAgree, Logs.IsLogOf}
 use Rattle.desks.specs.Desks.{desk_at, with_start, doing_at, started_at, is_quiet_doing, HasRooms, doing_in, started_in, IsNewDesk, Store}
-use Rattle.desks.specs.{Holding.SearchHeld, Holding.IsHeld, Holding.IsFresh, declared.desk.Desk.Desk, declared.desk.Doing.TheVariants.Nothing, Leaves.Does}
+use Rattle.desks.specs.{Holding.SearchHeld, Holding.IsHeld, Holding.lags_in, Holding.IsFresh, declared.desk.Desk.Desk, declared.desk.Doing.TheVariants.Nothing, Leaves.Does}
 use Rattle.row_versions.specs.Versions.{Versions, Stays}
 use Rattle.law_logged_changes.proofs.Leaving.{rows_leave, all_left, more_grow}
-use Rattle.law_held_steps.proofs.AnyStep.{some_same, each, others_past, past_grows, quiet_step, held_after, waits_not, none_lag}
-use Rattle.law_held_steps.proofs.{Putting.rests_coded, Desks.desk_elsewhere, Desks.as_many}
+use Rattle.law_held_steps.proofs.AnyStep.{some_same, each, others_past, past_grows, quiet_step, held_after, waits_not, quiet_row}
+use Rattle.law_held_steps.proofs.{Putting.rests_coded, Putting.others_clean, Putting.others_quiet, Alone.none_lags, Desks.desk_elsewhere, Desks.as_many}
 use Rattle.law_world_agreement.proofs.Entries.{started_agrees, ended_agrees, acked_agrees, signal_agrees, unentered_agrees}
 use Rattle.law_world_agreement.proofs.{Opening.set_here, Opening.set_other, Opening.opened_agrees, Opening.viewed_agrees, Ending.one_session_of}
 use Rattle.law_world_agreement.proofs.{Ending.committed_agrees, Ending.rolled_back_agrees, Joining.first_agrees, Joining.joined_agrees, Changing.created_agrees}
@@ -416,8 +416,7 @@ module _ {store : Store} (held : IsHeld store) (t : ℕ) (rests : doing_at t sto
 -- ---- The first world, sessions that join, and tables that are made by who may write.
 
 behind : (desks : List Desk) → desk_at (length desks) desks ≡ None
-behind [] = refl
-behind (desk ∷ desks) = behind desks
+behind desks = slice_get_past desks (length desks) (omega arith)
 
 last_there : {X : Type 0} (xs : List X) (x : X) → slice_get (xs ++ x ∷ []) (length xs) ≡ Some x
 last_there [] x = refl
@@ -478,6 +477,7 @@ pub first_held : (state : WorldState) → IsTold state → IsFresh state → IsH
 first_held state told first =
     let nobody : (s : ℕ) (session : Session) → slice_get state.sessions s ≡ Some session → ⊥
     = λ s session there. let no : None ≡ Some session = sym (ap (λ (sessions : List Session). slice_get sessions s) first.sessions) ∙ there in cc in
+    let logs : LogsAgree state = record { each = λ s session work has. absurd (nobody s session has.session_is) } in
     record {
       chains = first.chains;
       agrees = first_agrees first.chains state (record {
@@ -491,10 +491,10 @@ first_held state told first =
       });
       fits = subst FitsThen (sym first.past) first.fits;
       writes = record { opened = λ s is. absurd (cc); clean = λ s other. ap (own s) first.past };
-      rows = none_lag (first.coded told) (λ s. refl);
+      rows = none_lags first.chains state [] 0 (λ t differs. refl) told logs refl first.coded (record {});
       quiet = λ s other. refl;
       searches = λ s. tt;
-      logs = record { each = λ s session work has. absurd (nobody s session has.session_is) };
+      logs = logs;
       has_room = record {
         replies = λ s session has busy. absurd (nobody s session has);
         acks = λ s session has waits. absurd (nobody s session has);
@@ -540,11 +540,6 @@ module _ {store : Store} {new : WorldState} {t : ℕ} {schema : Schema} (held : 
   pairs_are : pairs_of new ≡ pairs_of source
   pairs_are = λ i index. ap (λ (x : Index). pairs_in x.pairs) (same index) i
 
-  -- nobody changes a row
-  all_rest : (u : ℕ) → is_quiet_doing (doing_at u store.desks) ≡ true
-  all_rest = each t (λ u. is_quiet_doing (doing_at u store.desks) ≡ true) (ap is_quiet_doing rests)
-      (λ u differs. held.quiet u (λ is. differs (some_same u t (sym is ∙ mine))))
-
   was : HasRows held.chains source
   was = rests_coded t held mine rests
 
@@ -560,10 +555,9 @@ module _ {store : Store} {new : WorldState} {t : ℕ} {schema : Schema} (held : 
 
   coded : HasRows held.chains new
   coded told' =
-      subst (λ (schemas : List Schema). AreCoded schemas (pairs_of new) new.versions.kept_at held.chains) (sym by.schemas)
-      (subst (λ (pairs : ℕ → List Pair). AreCoded (source.schemas ++ schema ∷ []) pairs new.versions.kept_at held.chains) (sym pairs_are)
-      (subst (λ (v : _). AreCoded (source.schemas ++ schema ∷ []) (pairs_of source) v.kept_at held.chains) (sym versions)
-      (a_table_more source.schemas schema (pairs_of source) source.versions.kept_at held.chains (was told) (its_columns schema storable) no_pairs)))
+      subst (λ (x : List Schema × (ℕ → List Pair) × Versions). AreCoded x.0 x.1 x.2.kept_at held.chains)
+      (sym (λ i. (by.schemas i, pairs_are i, versions i)))
+      (a_table_more source.schemas schema (pairs_of source) source.versions.kept_at held.chains (was told) (its_columns schema storable) no_pairs)
 
   does_make : Does t held.chains held.chains store made
   does_make = record {
@@ -585,9 +579,6 @@ module _ {store : Store} {new : WorldState} {t : ℕ} {schema : Schema} (held : 
   no_log : (s : ℕ) (session : Session) (work : Work) → HasWork s session work source → own s source.past ≡ [] → work.log ≡ []
   no_log s session work has empty_own = subst (λ changes. IsLogOf source work.log changes) empty_own (held.logs.each s session work has)
 
-  alone : (s : ℕ) → s ≢ t → own s source.past ≡ []
-  alone s differ = held.writes.clean s (λ is. differ (some_same s t (sym is ∙ mine)))
-
   own_now : own t new.past ≡ Create schema ∷ []
   own_now =
       let made : own t (Changed t (Create schema) ∷ source.past) ≡ Create schema ∷ [] = grind (arith, nat_tests, none) in ap (own t) by.past ∙ made
@@ -595,17 +586,16 @@ module _ {store : Store} {new : WorldState} {t : ℕ} {schema : Schema} (held : 
   one_now : (session : Session) (work : Work) → HasWork t session work new → work ≡ by.work_now
   one_now session work has = let is = by.has in let a = is.session_is in let b = is.work_is in let c = has.session_is in let d = has.work_is in cc
 
-  log_now : (s : ℕ) (session : Session) (work : Work) → HasWork s session work new → IsLogOf new work.log (own s new.past)
-  log_now s session work =
-      each t (λ u. HasWork u session work new → IsLogOf new work.log (own u new.past)) (λ has.
-      let log_is : work.log ≡ [] = ap (λ (w : Work). w.log) (one_now session work has) ∙ (log ∙ no_log t by.session by.work by.had none) in
-      subst (IsLogOf new work.log) (sym own_now) log_is) (λ u differ has.
-      let log_is : work.log ≡ [] =
-      no_log u session work (record { session_is = sym (by.others u differ) ∙ has.session_is; work_is = has.work_is }) (alone u differ) in
-      subst (IsLogOf new work.log) (sym ((others_past t u source.past new.past differ adds).own_is ∙ alone u differ)) log_is) s
-
   logs_now : LogsAgree new
-  logs_now = record { each = log_now }
+  logs_now = record {
+    each = λ s session work.
+        each t (λ u. HasWork u session work new → IsLogOf new work.log (own u new.past)) (λ has.
+        let log_is : work.log ≡ [] = ap (λ (w : Work). w.log) (one_now session work has) ∙ (log ∙ no_log t by.session by.work by.had none) in
+        subst (IsLogOf new work.log) (sym own_now) log_is) (λ u differ has.
+        let log_is : work.log ≡ [] =
+        no_log u session work (record { session_is = sym (by.others u differ) ∙ has.session_is; work_is = has.work_is }) (others_clean held mine u differ) in
+        subst (IsLogOf new work.log) (sym ((others_past t u source.past new.past differ adds).own_is ∙ others_clean held mine u differ)) log_is) s;
+  }
 
   pub created_held : IsHeld made
   created_held =
@@ -622,7 +612,8 @@ module _ {store : Store} {new : WorldState} {t : ℕ} {schema : Schema} (held : 
         search = subst (SearchHeld held.chains made t) (sym rests) tt;
         rooms = held.rooms t;
       })
-      (subst FitsThen (sym by.past) ((storable, tt), held.fits)) (none_lag (coded told_now) (λ u. all_rest u)) logs_now
+      (subst FitsThen (sym by.past) ((storable, tt), held.fits)) (none_lags held.chains new store.desks t (others_quiet t held mine store.desks (λ u differs. refl))
+      told_now logs_now (ap (lags_in new t) rests) coded (quiet_row held.chains _ new t (desk_at t store.desks) (ap is_quiet_doing rests))) logs_now
       (held.count ∙ ap length (sym by.names)) (subst (λ (names : List (List ℕ)). length names ≤ 68) (sym by.names) held.few)
       (omega (arith, held.cut, past_grows t source.past new.past adds)) (λ place. omega (arith, held.short place, past_grows t source.past new.past adds))
     where

@@ -162,22 +162,6 @@ pub no_search : (chains : Chains) (store : Store) (s : ℕ) (doing : Doing) → 
 no_search chains store s (Searching on) none = absurd (cc)
 no_search chains store s other none = record {}
 
--- what other desks are is not spoken of
-sight_as : (store : Store) (desks : List Desk) (s : ℕ) (sight : Sight) → SightHolds store s sight → SightHolds (record store { desks = desks }) s sight
-sight_as store desks s (View view reader) is = is
-sight_as store desks s Newest is = is
-
-pub search_as : (chains : Chains) (store : Store) (desks : List Desk) (s : ℕ) (doing : Doing) → SearchHeld chains store s doing
-    → SearchHeld chains (record store { desks = desks }) s doing
-search_as chains store desks s (Searching on) is = record {
-  there = is.there;
-  which = is.which;
-  since = is.since;
-  finds = is.finds;
-  sight = sight_as store desks s on.search.scan.sight is.sight;
-}
-search_as chains store desks s other is = record {}
-
 module _ {s : ℕ} {store : Store} {new : WorldState} (leaves : MovesPlaces s store.world new) where
   pub held_left : IsHeld store → is_searching (doing_at s store.desks) ≡ false → IsTold new → IsHeld (record store { world = new })
   held_left held none told =

@@ -78,22 +78,22 @@ pub record LeavesAll (old new : WorldState) : Type 0 where
   pub versions : Stays old.versions new.versions
   pub rest : ChangesPairsAlone old new
 
-changing_at : (chains : Chains) (state : WorldState) (s : ℕ) (change : RowChange) (desk : Option Desk) → doing_in desk ≡ Changing change
-    → HoldsAloneAt chains state s desk → IsChangingRowAlone s chains state change × IsLastIfTold state s change
-changing_at chains state s change None at rows = (let e : Nothing ≡ Changing change = at in absurd (cc))
-changing_at chains state s change (Some desk) at rows = subst (HoldsAlone chains state s (read_into desk.undo) desk.room) at rows
-
 -- it is being taken back, by the rooms of this desk
 pub record GoesBackAt (chains : Chains) (state : WorldState) (s : ℕ) (desks : List Desk) : Type 0 where
   pub desk : Desk
   pub at : desk_at s desks ≡ Some desk
   pub going : IsGoingBack chains (what_is_there chains) state s (read_into desk.undo) desk.room
 
-back_at : (chains : Chains) (state : WorldState) (s : ℕ) (desks : List Desk) (found : Option Desk) → desk_at s desks ≡ found → doing_in found ≡ Undoing
-    → HoldsAloneAt chains state s found → GoesBackAt chains state s desks
-back_at chains state s desks None found at rows = (let e : Nothing ≡ Undoing = at in absurd (cc))
-back_at chains state s desks (Some desk) found at rows =
-    record { desk = desk; at = found; going = subst (HoldsAlone chains state s (read_into desk.undo) desk.room) at rows }
+-- who has this under way has a desk, and knows this of its row
+at_desk : (chains : Chains) (state : WorldState) (s : ℕ) {doing : Doing} (found : Option Desk) → doing_in found ≡ doing → is_quiet_doing doing ≡ false
+    → HoldsAloneAt chains state s found → (desk : Desk) × (found ≡ Some desk) × HoldsAlone chains state s (read_into desk.undo) desk.room doing
+at_desk chains state s None at busy rows = absurd (let e : true ≡ false = ap is_quiet_doing at ∙ busy in cc)
+at_desk chains state s (Some desk) at busy rows = (desk, refl, subst (HoldsAlone chains state s (read_into desk.undo) desk.room) at rows)
+
+-- who can't but be the writer is it
+is_writer : (s : ℕ) (writer : Option ℕ) → (writer ≢ Some s → ⊥) → writer ≡ Some s
+is_writer s None never = absurd (never (λ is. cc))
+is_writer s (Some w) never = ⊎_elim (λ same. ap Some same) (λ differs. absurd (never (λ is. differs (some_same w s is)))) (cases_eq w s)
 
 module _ (s : ℕ) {store : Store} (held : IsHeld store) where
   -- no other session has more than a search under way
@@ -112,17 +112,12 @@ module _ (s : ℕ) {store : Store} (held : IsHeld store) where
 
   -- who has more than a search under way may write
   pub busy_writes : {doing : Doing} → doing_at s store.desks ≡ doing → is_quiet_doing doing ≡ false → store.writer ≡ Some s
-  busy_writes is busy = go store.writer refl where
-    no : store.writer ≢ Some s → ⊥
-    no other = let still = sym (ap is_quiet_doing is) ∙ held.quiet s other in let e : true ≡ false = sym still ∙ busy in cc
-
-    go : (found : Option ℕ) → store.writer ≡ found → store.writer ≡ Some s
-    go None is_none = absurd (no (λ mine. let e : None ≡ Some s = sym is_none ∙ mine in cc))
-    go (Some w) is_some = ⊎_elim (λ same. is_some ∙ ap Some same) (λ differs. absurd (no (λ mine. differs (some_same w s (sym is_some ∙ mine))))) (cases_eq w s)
+  busy_writes is busy =
+      is_writer s store.writer (λ other. let e : true ≡ false = sym (held.quiet s other) ∙ ap is_quiet_doing is ∙ busy in cc)
 
   pub changing_rows : {change : RowChange} → store.writer ≡ Some s → doing_at s store.desks ≡ Changing change
       → IsChangingRowAlone s held.chains store.world change × IsLastIfTold store.world s change
-  changing_rows {change} mine at = changing_at held.chains store.world s change (desk_at s store.desks) at (rows_mine mine)
+  changing_rows mine at = (at_desk held.chains store.world s (desk_at s store.desks) at refl (rows_mine mine)).2
 
   pub held_given : {new : WorldState} {now : List Desk} {was is : Desk} → store.writer ≡ Some s → LeavesAll store.world new → IsTold store.world → IsTold new
       → IsGiven s was is store.desks now → HoldsAlone held.chains new s (read_into is.undo) is.room is.doing → LogsAgree new
@@ -194,13 +189,6 @@ module _ (chains : Chains) (place : Place) (actor : ℕ) (undo : Undo) (room nex
       ⊎_elim (λ stays. record { places = stays.places; versions = stays.versions; rest = stays.rest })
       (λ puts. record { places = puts.places; versions = puts.versions; rest = puts.rest }) done.changes
 
-  -- a step that was hindered leaves its stage
-  hindered_by : (answer : Move) → answer ≢ Done → answer ≢ Step → PutsBack chains (what_is_there chains) place actor undo room next old new answer
-      → IsHindered chains (what_is_there chains) place actor undo room next old new answer
-  hindered_by Done not_done not_step is = absurd (not_done refl)
-  hindered_by Step not_done not_step is = absurd (not_step refl)
-  hindered_by why not_done not_step is = is
-
   of_hindered : (why : Move) → IsHindered chains (what_is_there chains) place actor undo room next old new why → StaysPutting chains place undo next old new
   of_hindered why is = record { leaves = record { places = is.stays.places; versions = is.stays.versions; rest = is.stays.rest }; putting = is.holds }
 
@@ -218,16 +206,12 @@ module _ (chains : Chains) (place : Place) (actor : ℕ) (undo : Undo) (room nex
 
 -- ---- the newest undo record of who may write
 
-writes_if : (s keep : ℕ) (past : List Event) (writer : Option ℕ) → WriterAgrees past writer → IsUndoable keep (own s past) → writer ≡ Some s
-writes_if s keep past None agrees may = absurd (subst (IsUndoable keep) (agrees.clean s (λ is. cc)) may)
-writes_if s keep past (Some w) agrees may =
-    ⊎_elim (λ same. ap Some same) (λ differs. absurd (subst (IsUndoable keep) (agrees.clean s (λ is. differs (some_same w s is))) may)) (cases_eq w s)
-
-last_of : (s : ℕ) (state : WorldState) (session : Session) (work : Work) (log : List Logged) (change : Change) (before : List Change) → HasWork s session work
-    state → work.log ≡ log → own s state.past ≡ change ∷ before → IsOfRow change → IsLogOf state log (change ∷ before) → HasLast s state
-last_of s state session work log (Create schema) before has log_is own_is of_row stands = absurd of_row
-last_of s state session work [] change before has log_is own_is of_row stands = absurd stands
-last_of s state session work (logged ∷ log) change before has log_is own_is of_row stands = (
+last_if : (s keep : ℕ) (state : WorldState) (session : Session) (work : Work) (log : List Logged) (changes : List Change) → HasWork s session work state
+    → work.log ≡ log → own s state.past ≡ changes → IsUndoable keep changes → IsLogOf state log changes → HasLast s state
+last_if s keep state session work log [] has log_is own_is may stands = absurd may
+last_if s keep state session work log (Create schema ∷ before) has log_is own_is may stands = absurd may.0
+last_if s keep state session work [] (change ∷ before) has log_is own_is may stands = absurd stands
+last_if s keep state session work (logged ∷ log) (change ∷ before) has log_is own_is may stands = (
   logged,
   stands.0.place,
   record {
@@ -243,19 +227,12 @@ last_of s state session work (logged ∷ log) change before has log_is own_is of
   },
 )
 
-last_if : (s keep : ℕ) (state : WorldState) (session : Session) (work : Work) (changes : List Change) → HasWork s session work state
-    → own s state.past ≡ changes → IsUndoable keep changes → IsLogOf state work.log changes → HasLast s state
-last_if s keep state session work [] has own_is may stands = absurd may
-last_if s keep state session work (change ∷ before) has own_is may stands = last_of s state session work work.log change before has refl own_is may.0 stands
-
 -- the record that was read is that one
 read_there : (log : List Logged) (logged : Logged) (older : List Logged) (read : Undo) (there : Bool) → log ≡ logged ∷ older
-    → IsRead (newest log) read there → (there ≡ true) × (read ≡ logged.undo)
+    → IsRead (newest log) read there → read ≡ logged.undo
 read_there log logged older read there is reads =
     let found : newest log ≡ Some logged.undo = ap newest is in
-    let some : there ≡ true = reads.0 ∙ ap is_some found in
-    let same : Some logged.undo ≡ Some read = sym found ∙ reads.1 some in
-    (some, cc)
+    some_same read logged.undo (sym (reads.1 (reads.0 ∙ ap is_some found)) ∙ found)
 
 -- its change may be taken back then, whether the row's keys are as the change left them or lag
 module _ (chains : Chains) (state : WorldState) (s : ℕ) (room : WorkRoom) (read : Undo) (agree : LogsAgree state) (whole : IsWhole room)
@@ -272,33 +249,20 @@ module _ (chains : Chains) (state : WorldState) (s : ℕ) (room : WorkRoom) (rea
         putting = subst (λ (u : Undo). IsPuttingBack chains (what_is_there chains) place u room state) (sym is) putting;
       }
 
-  begin_from : (desk : Option Desk) → IsReady (doing_in desk) → HoldsAloneAt chains state s desk → HasLast s state
+  begin_from : (undo : Undo) (other : WorkRoom) (doing : Doing) → IsReady doing → HoldsAlone chains state s undo other doing → HasLast s state
       → IsGoingBack chains (what_is_there chains) state s read room
-  begin_from desk is rows (logged, place, last) = go desk is rows where
-    settled : HasRows chains state → IsGoingBack chains (what_is_there chains) state s read room
-    settled coded =
-        let log = last_log agree last in
-        going_if logged place last (begins_settled state logged last.log last.change last.before place log last.place_is chains room
-        (rows_beside chains place state coded) whole anew)
-
-    lagging : IsLagging chains (what_is_there chains) state s → IsGoingBack chains (what_is_there chains) state s read room
-    lagging rows =
-        let lag = rows.newest in
-        let last = lag.last in
-        let log = last_log agree last in
-        let tells = tells_of_it state lag.logged last.log last.change last.before lag.place log last.place_is in
-        going_if lag.logged lag.place last (begins_lagging state lag.logged last.log last.change last.before lag.place log last.place_is chains room
-        rows.change rows.changing (sym lag.table_is ∙ tells.table_is) (sym lag.key_is) whole anew)
-
-    by_doing : (undo : Undo) (other : WorkRoom) (doing : Doing) → IsReady doing → HoldsAlone chains state s undo other doing
-        → IsGoingBack chains (what_is_there chains) state s read room
-    by_doing undo other Nothing is rows = settled rows
-    by_doing undo other Lagging is rows = lagging rows
-    by_doing undo other doing is rows = absurd is
-
-    go : (desk : Option Desk) → IsReady (doing_in desk) → HoldsAloneAt chains state s desk → IsGoingBack chains (what_is_there chains) state s read room
-    go None is rows = settled rows
-    go (Some desk) is rows = by_doing (read_into desk.undo) desk.room desk.doing is rows
+  begin_from undo other Nothing is coded (logged, place, last) =
+      let log = last_log agree last in
+      going_if logged place last (begins_settled state logged last.log last.change last.before place log last.place_is chains room
+      (rows_beside chains place state coded) whole anew)
+  begin_from undo other Lagging is rows newest =
+      let lag = rows.newest in
+      let last = lag.last in
+      let log = last_log agree last in
+      let tells = tells_of_it state lag.logged last.log last.change last.before lag.place log last.place_is in
+      going_if lag.logged lag.place last (begins_lagging state lag.logged last.log last.change last.before lag.place log last.place_is chains room
+      rows.change rows.changing (sym lag.table_is ∙ tells.table_is) (sym lag.key_is) whole anew)
+  begin_from undo other doing is rows newest = absurd is
 
 ready_undoes_not : (doing : Doing) → IsReady doing → is_undoing doing ≡ false
 ready_undoes_not Nothing is = refl
@@ -315,24 +279,18 @@ module _ (s : ℕ) {store : Store} (held : IsHeld store) where
 
   -- ---- the record is read
 
-  pub has_joined : s < length store.desks → (s < length old.sessions) × (s < 68)
-  has_joined joined = (omega (arith, joined, held.count, held.agrees.count), omega (arith, joined, held.count, held.few))
-
   module _ (keep : ℕ) (may : MayCome old.past (Undone s keep)) where
     pub may_write : store.writer ≡ Some s
-    may_write = writes_if s keep old.past store.writer held.writes may.1
+    may_write = is_writer s store.writer (λ other. subst (IsUndoable keep) (held.writes.clean s other) may.1)
 
     pub has_last : HasLast s old
     has_last =
         let is = open_work held.agrees s may.0 in
-        last_if s keep old is.0 is.1 (own s old.past) is.2 refl may.1 (held.logs.each s is.0 is.1 is.2)
+        last_if s keep old is.0 is.1 is.1.log (own s old.past) is.2 refl refl may.1 (held.logs.each s is.0 is.1 is.2)
 
     module _ (new : WorldState) (read : UndoRoom) (there : Bool) (reads : ReadsLast s s (read_into read) there old new Done) where
-      is_read : (logged : Logged) (place : Place) → IsLast old s logged place → (there ≡ true) × (read_into read ≡ logged.undo)
+      is_read : (logged : Logged) (place : Place) → IsLast old s logged place → read_into read ≡ logged.undo
       is_read logged place last = read_there last.work.log logged last.log (read_into read) there last.log_is (reads.0 last.session last.work last.has_work)
-
-      pub is_there : there ≡ true
-      is_there = (is_read has_last.0 has_last.1 has_last.2).0
 
       module _ {desk : Desk} (at : desk_at s store.desks ≡ Some desk) (ready : IsReady desk.doing) (memory : IsInMemory new) where
         rooms_were : HasRooms desk
@@ -341,7 +299,7 @@ module _ (s : ℕ) {store : Store} (held : IsHeld store) where
         begin : IsGoingBack held.chains (what_is_there held.chains) old s (read_into read) desk.room
         begin =
             begin_from held.chains old s desk.room (read_into read) held.logs rooms_were.whole (rooms_were.anew (ready_undoes_not desk.doing ready))
-            (λ logged place last. (is_read logged place last).1) (Some desk) ready
+            is_read (read_into desk.undo) desk.room desk.doing ready
             (subst (HoldsAloneAt held.chains old s) at (rows_mine s held may_write)) has_last
 
         left_rows : LeavesRows old new
@@ -378,7 +336,8 @@ module _ (s : ℕ) {store : Store} (held : IsHeld store) where
     mine = busy_writes s held busy refl
 
     pub goes_back : GoesBackAt held.chains old s store.desks
-    goes_back = back_at held.chains old s store.desks (desk_at s store.desks) refl busy (rows_mine s held mine)
+    goes_back =
+        let is = at_desk held.chains old s (desk_at s store.desks) busy refl (rows_mine s held mine) in record { desk = is.0; at = is.1; going = is.2 }
 
     abbrev pub desk : Desk
     desk = goes_back.desk

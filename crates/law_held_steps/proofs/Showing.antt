@@ -8,7 +8,7 @@ use Rattle.std.proofs.{lemmas.List.length-set, lemmas.List.map-set, lemmas.List.
 use Rattle.std.specs.Prelude.{slice_get, slice_set, slice_index_or}
 use Rattle.law_held_steps.specs.Making.{given_up, LeavesLists, AddsNothing, IsNearer, IsEntered}
 use Rattle.law_held_steps.specs.{Undoing.settings_of, Begun.IsBegun, Leaving.MovesPlaces, Leaving.is_searching, TakenUp.IsSearchOf, Beginning.begun}
-use Rattle.law_held_steps.proofs.Desks.{doing_here, desk_elsewhere, busy_at_a_desk, given, there}
+use Rattle.law_held_steps.proofs.Desks.{quiet_undoes_not, doing_here, desk_elsewhere, busy_at_a_desk, given, there}
 use Rattle.law_held_steps.proofs.{Keeping.same_settings, AnyStep.some_same, AnyStep.each}
 use Rattle.inno_types.specs.declared.value.Schema.{Schema}
 use Rattle.row_versions.specs.Versions.{Versions}
@@ -78,10 +78,15 @@ settings_by sessions others t {session} {after} f long there here same elsewhere
     (λ u differ. set_other sessions t u after differ ∙ sym (elsewhere u differ)) s ∙ second)))) ∙ settings_now sessions t after f there same
 
 -- of who takes nothing back, whatever is left of what somebody takes back
+undoes_not : (schemas : List Schema) (left later : ℕ) (doing : Doing) → is_undoing doing ≡ false → shown schemas left doing ≡ shown schemas later doing
+undoes_not schemas left later Undoing none = absurd (cc)
+undoes_not schemas left later Nothing none = refl
+undoes_not schemas left later (Searching on) none = refl
+undoes_not schemas left later (Changing change) none = refl
+undoes_not schemas left later Lagging none = refl
+
 quiet_shown : (schemas : List Schema) (left later : ℕ) (doing : Doing) → is_quiet_doing doing ≡ true → shown schemas left doing ≡ shown schemas later doing
-quiet_shown schemas left later Nothing quiet = refl
-quiet_shown schemas left later (Searching on) quiet = refl
-quiet_shown schemas left later other quiet = absurd (cc)
+quiet_shown schemas left later doing quiet = undoes_not schemas left later doing (quiet_undoes_not doing quiet)
 
 -- ---- one session searches, or has nothing to do, while tables and versions are the same
 
@@ -183,14 +188,7 @@ task_by : (state : WorldState) {schemas : List Schema} (desk : Option Desk) (doi
     → state.schemas ≡ schemas → task_at state desk ≡ shown schemas 0 doing
 task_by state desk doing is not schemas =
     ap (shown state.schemas (left_in state desk)) is ∙ ap (λ (x : List Schema). shown x (left_in state desk) doing) schemas ∙
-    undoes_not _ (left_in state desk) doing not
-  where
-    undoes_not : (x : List Schema) (left : ℕ) (d : Doing) → is_undoing d ≡ false → shown x left d ≡ shown x 0 d
-    undoes_not x left Undoing none = absurd (cc)
-    undoes_not x left Nothing none = refl
-    undoes_not x left (Searching on) none = refl
-    undoes_not x left (Changing change) none = refl
-    undoes_not x left Lagging none = refl
+    undoes_not _ (left_in state desk) 0 doing not
 
 module _ {s : ℕ} {store : Store} {new : WorldState} (held : IsHeld store) (mine : store.writer ≡ Some s) (leaves : LeavesLists store.world new)
     (within : s < length store.desks) where

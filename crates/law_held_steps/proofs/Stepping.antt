@@ -2,10 +2,11 @@
 -- readers by a view don't see that change. A search begins, goes on, ends or is given up.
 use Rattle.std.proofs.Common.{◌≡◌, ◌≢◌, inl, inr, ℕ, ◌<◌, Bool, true, false, cond, List, [], ◌∷◌, ◌++◌, Option, Some, refl, sym, ap, subst, ◌∙◌, arith, length}
 use Rattle.std.proofs.Common.{slice_get, zero, suc, ◌⊎◌, None, eq-eqb, ◌≤◌, map}
-use Rattle.std.proofs.{lemmas.Option.slice_get_past, lemmas.Bool.cases_Bool, lemmas.Bool.cases_lt, lemmas.Bool.false≢true, lemmas.Bool.cases_eq}
+use Rattle.std.proofs.{lemmas.Bool.cases_Bool, lemmas.Bool.cases_lt, lemmas.Bool.false≢true, lemmas.Bool.cases_eq}
 use Rattle.std.proofs.{lemmas.Bool.Decides.nat_tests, lemmas.Bool.Decides.eqb_tells}
 use Rattle.std.specs.Prelude.{is_some, option_map, ◌||◌, ◌≤◌, ◌==◌, ◌-◌, filter, ◌<◌}
 use Rattle.std.specs.List.{list_any}
+use Rattle.inno_model.specs.declared.event.Event.{Event}
 use Rattle.inno_model.specs.Past.{own, IsOpen, view_of, commits, changed}
 use Rattle.law_stored_rows.proofs.Values.{place_itself, same_place}
 use Rattle.undo_apply.specs.{declared.work_room.WorkRoom.WorkRoom}
@@ -18,8 +19,8 @@ use Rattle.desks.specs.{declared.desk.Desk.Desk, declared.desk.Doing.Doing, decl
 use Rattle.law_stored_rows.specs.Tables.{Said, HasItsColumns, in_table, what_is_there, AreCoded}
 use Rattle.law_held_steps.proofs.Places.{none_moves, held_stays, moves_then, moves_in_one, moves_nothing, leaving_moves, moves_leave, moves_told}
 use Rattle.law_held_steps.proofs.Nearing.{IsLess, keys_before, visit_before, keys_anew, steps_nearer, still_nearer, anew_nearer, nearer_in}
-use Rattle.law_held_steps.proofs.{AnyStep.some_same, AnyStep.quiet_lags, Keeping.open_work, Putting.others_clean, Putting.busy_writes}
-use Rattle.law_held_steps.proofs.{Putting.others_quiet, Alone.coded_all, Alone.last_lags}
+use Rattle.law_held_steps.proofs.{AnyStep.some_same, AnyStep.quiet_lags, Keeping.open_work, Putting.others_clean}
+use Rattle.law_held_steps.proofs.{Putting.others_quiet, Alone.coded_all, Alone.last_lags, Alone.lags_but}
 use Rattle.law_found_rows.proofs.Showing.{IsUnseen, shows_coded, shows_lagging, holds_table, shows_clustered}
 use Rattle.law_found_rows.proofs.{Finding.begins, Finding.may_come_anew, Finding.goes_on, Finding.waits_on, Databases.found_by_view, Databases.found_newest}
 use Rattle.row_versions.specs.{Chains.Chains, Chains.versions_at, Chains.sees, declared.place.Place.Place, declared.version.Version.Version}
@@ -40,7 +41,7 @@ use Rattle.law_past_agreement.proofs.Ids.{AreIds, ids_of}
 use Rattle.law_world_agreement.specs.Agreement.{sight_of, Agrees}
 use Rattle.law_world_agreement.proofs.Ending.{work_of}
 use Rattle.store_api.specs.{declared.answers.Undo.Undo, declared.moves.Move.Move}
-use Rattle.inno_types.specs.{declared.value.Value.Value, declared.value.Schema.Schema, Order.IsBelow, declared.stmt.Range.Range, Ranges.is_within}
+use Rattle.inno_types.specs.{declared.value.Value.Value, declared.value.Schema.Schema, Order.IsBelow, Ranges.is_within}
 use Rattle.row_changes.specs.declared.row_change.RowChange.TheVariants.{Record, Keys}
 use Rattle.row_changes.specs.{Told.AreRowsAs}
 use Rattle.law_logged_changes.proofs.{Lags.lags, Leaving.rows_left}
@@ -119,9 +120,6 @@ module _ {chains : Chains} {state : WorldState} (agrees : Agrees chains state) {
 abbrev pub HasSome : Chains → WorldState → Type 0
 HasSome chains state = (said : Said) × AreRowsAs chains said state
 
-rows_of_all : {store : Store} (held : IsHeld store) → HasSome held.chains store.world
-rows_of_all held = (held.rows.said, held.rows.coded)
-
 -- the change by which a session's keys lag at this place
 lags_by : (chains : Chains) (beside : Said) (state : WorldState) (w : ℕ) (undo : Undo) (room : WorkRoom) (doing : Doing) (place : Place)
     → RowHeld chains beside state w undo room doing → is_place place (lags_in state w doing) ≡ true → (logged : Logged) × IsLast state w logged place
@@ -142,29 +140,14 @@ lags_by chains beside state w undo room doing place row is = by doing row is
     by (Searching on) row is = absurd (cc)
     by (Changing (Record change key after)) row is = absurd (cc)
 
--- some session's keys lag at the place, or none's
-lags_below : (place : Place) (state : WorldState) (desks : List Desk) (n : ℕ)
-    → ((s : ℕ) × (lags_at place state desks s ≡ true)) ⊎ ((s : ℕ) → s < n → lags_at place state desks s ≡ false)
-lags_below place state desks zero = inr (λ s less. absurd (omega (arith, less)))
-lags_below place state desks (suc n) = elim (cases_Bool (lags_at place state desks n)) [
-  | inl is ↦ inl (n, is)
-  | inr not ↦ elim (lags_below place state desks n) [
-    | inl some ↦ inl some
-    | inr none ↦ inr (λ s less. elim (cases_eq s n) [
-      | inl same ↦ ap (lags_at place state desks) same ∙ not
-      | inr differs ↦ none s (omega (arith, less, differs))
-    ])
-  ]
-]
-
-who_lags : (place : Place) (state : WorldState) (desks : List Desk)
-    → ((s : ℕ) × (lags_at place state desks s ≡ true)) ⊎ ((s : ℕ) → lags_at place state desks s ≡ false)
-who_lags place state desks = elim (lags_below place state desks (length desks)) [
-  | inl some ↦ inl some
-  | inr none ↦ inr (λ s. elim (cases_lt s (length desks)) [
-    | inl less ↦ none s less
-    | inr beyond ↦ ap (λ desk. is_place place (lags_in state s (doing_in desk))) (slice_get_past desks s beyond)
-  ])
+-- who may write lags at the place, or nobody does
+who_lags : {store : Store} (held : IsHeld store) (place : Place) (writer : Option ℕ) → store.writer ≡ writer
+    → ((w : ℕ) × (store.writer ≡ Some w) × (lags_at place store.world store.desks w ≡ true)) ⊎ ((s : ℕ) → lags_at place store.world store.desks s ≡ false)
+who_lags {store} held place None none =
+    inr (λ s. quiet_lags store.world s store.desks place (held.quiet s (λ may. let no : None ≡ Some s = sym none ∙ may in cc)))
+who_lags {store} held place (Some w) may = elim (cases_Bool (lags_at place store.world store.desks w)) [
+  | inl is ↦ inl (w, may, is)
+  | inr not ↦ inr (lags_but held.chains store.world store.desks w (others_quiet w held may store.desks (λ u differs. refl)) place not)
 ]
 
 -- nobody changes a row, if who may write doesn't
@@ -180,16 +163,16 @@ coded_while_quiet {store} held told is = go store.writer refl
     go (Some w) may = coded_all held.chains store.world store.desks w (others_quiet w held may store.desks (λ u differs. refl)) held.rows
         (sym (ap (λ writer. is_quiet writer store.desks) may) ∙ is) told
 
--- a table whose rows are coded has its columns
-pub columns_of : (chains : Chains) (said : Said) (state : WorldState) (table : ℕ) {schema : Schema} → AreRowsAs chains said state
-    → slice_get state.schemas table ≡ Some schema → HasItsColumns schema
-columns_of chains said state table {schema} coded there =
-    let clustered = coded.clustered.tables table schema there in
+-- a table has its columns
+pub columns_held : {store : Store} (table : ℕ) {schema : Schema} → IsHeld store → IsTold store.world → slice_get store.world.schemas table ≡ Some schema
+    → HasItsColumns schema
+columns_held table {schema} held told there =
+    let clustered = held.rows.coded.clustered.tables table schema there in
     record {
       primary = clustered.primary;
       primary_is = clustered.primary_is;
-      few = coded.keyed.few table schema there;
-      keys = λ which key is. let entries = coded.keyed.keys table which schema key there is in (entries.indexed, entries.indexed_is);
+      few = held.rows.coded.keyed.few table schema there;
+      keys = λ which key is. let entries = held.rows.coded.keyed.keys table which schema key there is in (entries.indexed, entries.indexed_is);
     }
 
 -- ---- a search while others change rows
@@ -203,10 +186,10 @@ module _ {store : Store} (held : IsHeld store) (told : IsTold store.world) (s : 
   unseen (View view reader) holds differs writes last = unseen_by held.agrees last differs holds
   unseen {w} Newest holds differs writes last = absurd (differs (some_same s w (sym holds ∙ writes)))
 
-  lagging_unseen : (w : ℕ) (place : Place) (desk : Option Desk) → desk_at w store.desks ≡ desk → lags_at place store.world store.desks w ≡ true
-      → IsUnseen held.chains held.rows.said scan.sight place
-  lagging_unseen w place None is lags = let no = ap (λ desk. is_place place (lags_in store.world w (doing_in desk))) is in absurd (cc)
-  lagging_unseen w place (Some desk) is lags =
+  lagging_unseen : (w : ℕ) (place : Place) (desk : Option Desk) → desk_at w store.desks ≡ desk → store.writer ≡ Some w
+      → lags_at place store.world store.desks w ≡ true → IsUnseen held.chains held.rows.said scan.sight place
+  lagging_unseen w place None is may lags = let no = ap (λ desk. is_place place (lags_in store.world w (doing_in desk))) is in absurd (cc)
+  lagging_unseen w place (Some desk) is may lags =
       let differs : s ≢ w = λ same. let no =
       quiet_lags store.world w store.desks place (subst (λ u. is_quiet_doing (doing_at u store.desks) ≡ true) same searching) in cc in
       let last = lags_by held.chains (said_beside held.chains held.rows.said store.world store.desks w) store.world w (read_into desk.undo) desk.room
@@ -214,36 +197,23 @@ module _ {store : Store} (held : IsHeld store) (told : IsTold store.world) (s : 
       (subst (RowHeldAt held.chains (said_beside held.chains held.rows.said store.world store.desks w) store.world w) is (held.rows.each w))
       (sym (ap (λ desk. is_place place (lags_in store.world w (doing_in desk))) is) ∙ lags) in
       let by : IsWrittenBy held.chains place (id_of store.world.past w) = written held.agrees last.1 in
-      let busy : is_quiet_doing (doing_at w store.desks) ≡ false = lagging_busy place w lags in
       record {
         version = by.version;
         others = by.others;
         newest_is = by.versions;
         tells = held.rows.lagging w place lags;
-        unseen = ap (sees_by scan.sight) by.writer_is ∙ unseen scan.sight holds differs (busy_writes w held refl busy) last.1;
+        unseen = ap (sees_by scan.sight) by.writer_is ∙ unseen scan.sight holds differs may last.1;
       }
-    where
-      lagging_busy : (place : Place) (w : ℕ) → lags_at place store.world store.desks w ≡ true → is_quiet_doing (doing_at w store.desks) ≡ false
-      lagging_busy place w lags = elim (cases_Bool (is_quiet_doing (doing_at w store.desks))) [
-        | inl quiet ↦ let no = quiet_lags store.world w store.desks place quiet in absurd (cc)
-        | inr busy ↦ busy
-      ]
 
   pub shows_held : ShowsRows schema scan store.world (in_table scan.table held.chains)
   shows_held =
       shows_lagging store.world held.chains held.rows.said told held.rows.coded schema scan there
-      (columns_of held.chains held.rows.said store.world scan.table held.rows.coded there) le (λ place. elim (who_lags place store.world store.desks) [
-        | inl some ↦ inr (lagging_unseen some.0 place (desk_at some.0 store.desks) refl some.1)
+      (columns_held scan.table held told there) le (λ place. elim (who_lags held place store.writer refl) [
+        | inl some ↦ inr (lagging_unseen some.0 place (desk_at some.0 store.desks) refl some.1 some.2)
         | inr none ↦ inl (held.rows.settled place none)
       ])
 
 -- ---- A search that begins, with the view by which it reads; one that is under way goes on, ends or is given up.
-
-pub columns_held : {store : Store} (table : ℕ) {schema : Schema} → IsHeld store → IsTold store.world → slice_get store.world.schemas table ≡ Some schema
-    → HasItsColumns schema
-columns_held {store} table held told there =
-    let rows : HasSome held.chains store.world = rows_of_all held in
-    columns_of held.chains rows.0 store.world table rows.1 there
 
 pub new_search : (table : ℕ) (plan : Plan) (sight : Sight) (search : RowSearch) → search.scan ≡ record {
   table = table;
@@ -380,13 +350,32 @@ may_step {schema} {state} chains {search} told rows few is = record {
 pub rows_on : {s : ℕ} {old new : WorldState} (chains : Chains) → MovesPlaces s old new → IsTold new → HasSome chains old → HasSome chains new
 rows_on {old} {new} chains moves told rows = (rows.0, rows_left old new (moves_leave moves) chains rows.0 told rows.1)
 
-module _ {store : Store} (held : IsHeld store) (told : IsTold store.world) (s : ℕ)
-    (on : TableSearch) (found : List FoundRow) (there : slice_get store.world.schemas on.search.scan.table ≡ Some on.schema) where
+-- rows of a table in a plan's range, as the past has its tables
+module _ {store : Store} (held : IsHeld store) (table : ℕ) (by : Plan) {schema : Schema} (there : slice_get store.world.schemas table ≡ Some schema) (s : ℕ) where
+  abbrev past : List Event
+  past = store.world.past
+
+  abbrev Within : List Value → Bool
+  Within row = is_within by.range (index_key schema by.which row)
+
+  in_range : (n : ℕ) (found : List FoundRow)
+      → map (λ (f : FoundRow). f.row) found ≡ filter Within (rows_of table (changed (with_all_tables past) (seen past s n)))
+      → AreRowsSeen table by past s n (map (λ (f : FoundRow). f.row) found)
+  in_range n found are other is =
+      are ∙ ap (λ (t : Schema). rows_in_range by t (rows_of table (changed (with_all_tables past) (seen past s n))))
+      (some_same schema other (sym there ∙ (ap (λ (tables : List Schema). slice_get tables table) held.agrees.lists.tables ∙ is)))
+
+  newest_seen : ((u : ℕ) → u ≢ s → own u past ≡ []) → (found : List FoundRow)
+      → AreFound schema by.which (rows_seen Newest (in_table table held.chains)) Within found → RiseByKey found
+      → AreRowsSeen table by past s (commits past) (map (λ (f : FoundRow). f.row) found)
+  newest_seen alone found are rise =
+      in_range (commits past) found (found_newest held.chains store.world table schema store.world.versions.kept_at (pairs_of store.world _) held.agrees
+      (held.rows.coded.clustered.tables table schema there) s alone by.which Within found are rise)
+
+module _ {store : Store} (held : IsHeld store) (s : ℕ) (on : TableSearch)
+    (found : List FoundRow) (there : slice_get store.world.schemas on.search.scan.table ≡ Some on.schema) where
   abbrev now : WorldState
   now = store.world
-
-  rows : HasSome held.chains now
-  rows = rows_of_all held
 
   abbrev scan : Scan
   scan = on.search.scan
@@ -394,24 +383,12 @@ module _ {store : Store} (held : IsHeld store) (told : IsTold store.world) (s : 
   abbrev FoundBy : Sight → Type 0
   FoundBy sight = AreFound on.schema scan.which (rows_seen sight (in_table scan.table held.chains)) (lies_in on.schema scan) found
 
-  seen_then : (n : ℕ) → map (λ (f : FoundRow). f.row) found ≡ filter (lies_in on.schema scan) (rows_of scan.table (changed (with_all_tables now.past)
-      (seen now.past s n))) → AreRowsSeen scan.table (plan_of on) now.past s n (map (λ (f : FoundRow). f.row) found)
-  seen_then n are schema is =
-      are ∙ ap (λ (t : Schema). rows_in_range (plan_of on) t (rows_of scan.table (changed (with_all_tables now.past) (seen now.past s n))))
-      (some_same on.schema schema (sym there ∙ (ap (λ (tables : List Schema). slice_get tables scan.table) held.agrees.lists.tables ∙ is)))
-
-  found_in : (sight : Sight) → SightHolds store s sight → FoundBy sight → RiseByKey found
+  pub found_in : (sight : Sight) → SightHolds store s sight → FoundBy sight → RiseByKey found
       → AreFoundBy (reading_of sight) scan.table (plan_of on) now.past s (map (λ (f : FoundRow). f.row) found)
-  found_in (View view reader) is are rise = λ n at. seen_then n (found_by_view held.chains now scan.table on.schema now.versions.kept_at (pairs_of now
-      _) held.agrees (rows.1.clustered.tables scan.table on.schema there) s n is.session is.work is.seen is.has_work is.view_is at scan.which (lies_in on.schema
+  found_in (View view reader) is are rise = λ n at. in_range held scan.table (plan_of on) there s n found (found_by_view held.chains now scan.table on.schema now.versions.kept_at (pairs_of now
+      _) held.agrees (held.rows.coded.clustered.tables scan.table on.schema there) s n is.session is.work is.seen is.has_work is.view_is at scan.which (lies_in on.schema
       scan) found (subst (λ (v : ReadSight). FoundBy (View v is.work.id)) is.same (subst (λ (r : ℕ). FoundBy (View view r)) is.reader_is are)) rise)
-  found_in Newest is are rise =
-      seen_then (commits now.past) (found_newest held.chains now scan.table on.schema now.versions.kept_at (pairs_of now _) held.agrees
-      (rows.1.clustered.tables scan.table on.schema there) s (others_clean held is) scan.which (lies_in on.schema scan) found are rise)
-
-  pub found_then : SightHolds store s scan.sight → FoundBy scan.sight → RiseByKey found
-      → AreFoundBy (reading_of scan.sight) scan.table (plan_of on) now.past s (map (λ (f : FoundRow). f.row) found)
-  found_then = found_in scan.sight
+  found_in Newest is are rise = newest_seen held scan.table (plan_of on) there s (others_clean held is) found are rise
 
 fewer : (long was since cuts : ℕ) → long ≡ was → since ≤ cuts → cuts ≤ was → since ≢ cuts → long - cuts < was - since
 fewer long was since cuts same le cut later = omega (arith, same, le, cut, later)
@@ -434,11 +411,8 @@ module _ (s : ℕ) {store : Store} {on : TableSearch} (held : IsHeld store) (is 
   search_held : IsSearchHeld held.chains store s on
   search_held = subst (SearchHeld held.chains store s) is (held.searches s)
 
-  some_rows : IsTold old → HasSome held.chains old
-  some_rows told = rows_of_all held
-
-  short : (place : Place) → length (versions_at place held.chains) ≤ most_versions
-  short = few_held held
+  some_rows : HasSome held.chains old
+  some_rows = (held.rows.said, held.rows.coded)
 
   -- it is given up, or over
   pub over : (new : WorldState) → MovesPlaces s old new → IsTold new → IsHeld (then_does new Nothing)
@@ -449,7 +423,7 @@ module _ (s : ℕ) {store : Store} {on : TableSearch} (held : IsHeld store) (is 
     taken_up = takes_up search search_held taken
 
     pub steps : IsTold old → MayStep s on.schema old search
-    steps told = may_step held.chains told (some_rows told) short taken_up.0.searching
+    steps told = may_step held.chains told some_rows (few_held held) taken_up.0.searching
 
     sight_taken : SightHolds store s search.scan.sight
     sight_taken = subst (λ (scan : Scan). SightHolds store s scan.sight) (sym taken_up.1) search_held.sight
@@ -512,13 +486,13 @@ module _ (s : ℕ) {store : Store} {on : TableSearch} (held : IsHeld store) (is 
           × RiseByKey found) taken_up.1 (ends.found (in_table search.scan.table held.chains) taken_up.0.finds) in (
             over new moves told,
             moves,
-            found_then held (moves_told moves told) s on found search_held.there search_held.sight are.0 are.1,
+            found_in held s on found search_held.there on.search.scan.sight search_held.sight are.0 are.1,
           )
 
       pub waited : {same : RowSearch} {why : Move} → Waits s on.schema old new search same why → MayStep s on.schema new same × MovesPlaces s old new
       waited waits =
           let moves : MovesPlaces s old new = moves_nothing waits.unchanged in (
-            may_step held.chains told (rows_on held.chains moves told (some_rows (moves_told moves told))) short waits.holds,
+            may_step held.chains told (rows_on held.chains moves told some_rows) (few_held held) waits.holds,
             moves,
           )
 
@@ -532,27 +506,21 @@ module _ (s : ℕ) {store : Store} {on : TableSearch} (held : IsHeld store) (is 
 
 module _ {store : Store} (table : ℕ) (plan : Plan) (schema : Schema) (held : IsHeld store) where
   module _ (told : IsTold store.world) (there : slice_get store.world.schemas table ≡ Some schema) (le : plan.which ≤ length schema.keys) where
-    tells_by : (quiet : Bool) → is_quiet store.writer store.desks ≡ quiet → TellsTable held.chains table (plan_read quiet plan) schema store.world
-    tells_by true is = record {
+    tells_with : (by : Plan) (said : Said) → by.which ≤ length schema.keys → AreRowsAs held.chains said store.world
+        → (said ≡ what_is_there held.chains) ⊎ (by.which ≡ 0) → TellsTable held.chains table by schema store.world
+    tells_with by said within coded reason = record {
       there = there;
       columns = columns_held table held told there;
-      which = le;
-      said = what_is_there held.chains;
-      coded = coded_while_quiet held told is;
-      tells = inl refl;
+      which = within;
+      said = said;
+      coded = coded;
+      tells = reason;
       short = few_held held;
     }
-    tells_by false is =
-        let rows : HasSome held.chains store.world = rows_of_all held in
-        record {
-          there = there;
-          columns = columns_held table held told there;
-          which = omega arith;
-          said = rows.0;
-          coded = rows.1;
-          tells = inr refl;
-          short = few_held held;
-        }
+
+    tells_by : (quiet : Bool) → is_quiet store.writer store.desks ≡ quiet → TellsTable held.chains table (plan_read quiet plan) schema store.world
+    tells_by true is = tells_with plan (what_is_there held.chains) le (coded_while_quiet held told is) (inl refl)
+    tells_by false is = tells_with whole_index held.rows.said (omega arith) held.rows.coded (inr refl)
 
     pub tells_held : TellsTable held.chains table (plan_read (is_quiet store.writer store.desks) plan) schema store.world
     tells_held = tells_by (is_quiet store.writer store.desks) refl
@@ -561,21 +529,11 @@ module _ {store : Store} (table : ℕ) (plan : Plan) (schema : Schema) (held : I
     abbrev only_rows : List (List Value)
     only_rows = map (λ (found : FoundRow). found.row) rows
 
-    seen_by : (by : Plan) → AreRead held.chains table by schema store.world rows → (w : ℕ) → ((u : ℕ) → u ≢ w → own u store.world.past ≡ [])
-        → AreRowsSeen table by store.world.past w (commits store.world.past) only_rows
-    seen_by by are w alone other is =
-        found_newest held.chains store.world table schema store.world.versions.kept_at (pairs_of store.world _) held.agrees
-        (are.readable.coded.clustered.tables table
-        schema are.readable.there) w alone by.which (λ row. is_within by.range (index_key schema by.which row)) rows are.found are.rise
-        ∙ ap (λ (t : Schema).
-        rows_in_range by t (rows_of table (changed (with_all_tables store.world.past) (seen store.world.past w (commits store.world.past)))))
-        (some_same schema other (sym are.readable.there ∙ (ap (λ (tables : List Schema). slice_get tables table) held.agrees.lists.tables ∙ is)))
-
     newest_by : (quiet : Bool) → AreRead held.chains table (plan_read quiet plan) schema store.world rows → (w : ℕ)
         → ((u : ℕ) → u ≢ w → own u store.world.past ≡ [])
         → AreNewestRows table plan store.world.past w only_rows
-    newest_by true are w alone = inl (seen_by plan are w alone)
-    newest_by false are w alone = inr (seen_by whole_index are w alone)
+    newest_by true are w alone = inl (newest_seen held table plan are.readable.there w alone rows are.found are.rise)
+    newest_by false are w alone = inr (newest_seen held table whole_index are.readable.there w alone rows are.found are.rise)
 
     pub are_newest : AreRead held.chains table (plan_read (is_quiet store.writer store.desks) plan) schema store.world rows → (w : ℕ)
         → ((u : ℕ) → u ≢ w → own u store.world.past ≡ []) → AreNewestRows table plan store.world.past w only_rows
@@ -604,10 +562,8 @@ module _ (chains : Chains) (s table : ℕ) (plan : Plan) (schema : Schema) where
       → AreFound schema scan.which (rows_seen scan.sight (in_table scan.table chains)) (lies_in schema scan) rows
       → AreFound schema plan.which (rows_seen Newest (in_table table chains)) (λ row. is_within plan.range (index_key schema plan.which row)) rows
   in_plan scan rows is are =
-      subst (λ (which : ℕ). AreFound schema which (rows_seen Newest (in_table table chains)) (λ row. is_within plan.range (index_key schema which row)) rows)
-      is.which_is (subst (λ (range : Range). AreFound schema scan.which (rows_seen Newest (in_table table chains)) (λ row. is_within range (index_key schema
-      scan.which row)) rows) is.range_is (subst (λ (sight : Sight). AreFound schema scan.which (rows_seen sight (in_table table chains)) (lies_in schema scan)
-      rows) is.sight_is (subst (λ (n : ℕ). AreFound schema scan.which (rows_seen scan.sight (in_table n chains)) (lies_in schema scan) rows) is.table_is are)))
+      subst (λ (s : Scan). AreFound schema s.which (rows_seen s.sight (in_table s.table chains)) (lies_in schema s) rows) (λ i. record scan
+      { table = is.table_is i; which = is.which_is i; range = is.range_is i; sight = is.sight_is i }) are
 
   module _ (first : WorldState) where
     pub reading_steps : {state : WorldState} {search : RowSearch} → IsReadingNewest chains s table plan schema first state search → IsTold state
