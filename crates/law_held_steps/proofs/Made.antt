@@ -24,7 +24,7 @@ use Rattle.law_logged_changes.proofs.{Listed.begun as begun_row, Entering.goes_o
 use Rattle.inno_types.specs.{declared.value.Schema.Schema, declared.value.Value.Value}
 use Rattle.world.specs.{State.WorldState, Undoing.read_into, Told.IsTold}
 use Rattle.shared_lists.specs.{Fitting.FitsWell, Fitting.FitsThen, Steps.rows_of_change}
-use Rattle.law_held_steps.specs.{Beginning.IsEditable, Beginning.IsKeyOfEdit, Beginning.begun, Leaving.is_searching, Making.doing_after, Making.Comes}
+use Rattle.law_held_steps.specs.{Making.IsEditable, Making.IsKeyOfEdit, Making.begun, Leaving.is_searching, Making.doing_after, Making.Comes}
 use Rattle.law_held_steps.specs.{Making.MakesChange}
 use Rattle.inno_model.specs.{Past.IsOpen, Past.own, declared.event.Event.TheVariants.Changed}
 use Rattle.row_versions.specs.Chains.{Chains, versions_at, is_same_place, Pushes}

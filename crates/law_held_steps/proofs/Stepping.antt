@@ -32,7 +32,7 @@ use Rattle.row_search.specs.{Searches.BeginsWithNothing, Searches.MayBegin, Sear
 use Rattle.row_search.specs.{Steps.Waits, Steps.Ends, declared.scan.Scan.Scan, Sights.sees_by, Sights.rows_seen, Tables.ShowsRows, Tables.most_versions}
 use Rattle.row_search.specs.{declared.sight.Sight.Sight, declared.sight.Sight.TheVariants.View, declared.sight.Sight.TheVariants.Newest}
 use Rattle.row_search.specs.{declared.search.RowSearch.RowSearch, declared.found.FoundRow.FoundRow, FoundRows.AreFound, FoundRows.RiseByKey, Ranges.lies_in}
-use Rattle.law_held_steps.specs.{Begun.IsNewSearch, Begun.IsBegun, Begun.HasView, Begun.IsScanOf, TakenUp.IsTakenUp, TakenUp.MayStep, TakenUp.plan_of}
+use Rattle.law_held_steps.specs.{Begun.IsNewSearch, Begun.IsBegun, Begun.HasView, Begun.IsScanOf, Begun.IsTakenUp, Begun.MayStep, Begun.plan_of}
 use Rattle.law_held_steps.specs.{Newest.plan_read, Newest.TellsTable, Newest.IsReadingNewest, Newest.AreRead, Newest.left_in, Leaving.MovesPlaces}
 use Rattle.shared_lists.specs.{Steps.AreRowsSeen, Steps.AreFoundBy, Steps.rows_in_range, Steps.AreNewestRows, State.counted}
 use Rattle.inno_db.specs.{declared.change.Change.Change, Database.rows_of}

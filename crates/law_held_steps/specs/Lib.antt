@@ -1,7 +1,5 @@
-pub mod Beginning
 pub mod Making
 pub mod Leaving
 pub mod Undoing
 pub mod Begun
-pub mod TakenUp
 pub mod Newest

@@ -1,14 +1,18 @@
--- What a step of a change makes of a store.
-use Rattle.std.specs.Prelude.{◌≡◌, ℕ, ◌+◌, ◌<◌, ◌∷◌, map, slice_get, Some, None}
-use Rattle.inno_db.specs.declared.change.Change.{Change}
-use Rattle.inno_model.specs.declared.event.Event.TheVariants.{Changed}
-use Rattle.world.specs.State.{WorldState, Session}
+-- What a change of a row needs to know before it begins, and what a step of it makes of a store.
+use Rattle.std.specs.Prelude.{◌≡◌, ℕ, ◌+◌, ◌<◌, ◌∷◌, map, slice_get, Some, None, List, length}
+use Rattle.row_changes.specs.Reached.{Reached, Went, Done, Hindered}
+use Rattle.row_changes.specs.Rows.{row_steps, table_of, row_after, primary_of}
+use Rattle.desks.specs.declared.desk.Doing.TheVariants.{Nothing, Changing, Lagging}
+use Rattle.inno_db.specs.{declared.change.Change.Change}
+use Rattle.inno_model.specs.{declared.event.Event.TheVariants.Changed}
+use Rattle.world.specs.{State.WorldState, State.Session}
 use Rattle.row_changes.specs.{declared.row_change.RowChange.RowChange, declared.row_change.RowChange.TheVariants.Record}
-use Rattle.row_changes.specs.{declared.row_change.RowChange.TheVariants.Keys, Reached.Reached, Reached.Went}
-use Rattle.row_changes.specs.{Reached.Done, Reached.Hindered, Rows.row_steps, Rows.table_of}
-use Rattle.shared_lists.specs.Steps.{rows_of_change}
-use Rattle.desks.specs.{Desks.Store, declared.desk.Doing.Doing, declared.desk.Doing.TheVariants.Nothing, declared.desk.Doing.TheVariants.Changing}
-use Rattle.desks.specs.{declared.desk.Doing.TheVariants.Lagging, Desks.with_doing, Shown.change_in, Undoing.keys_if, Holding.IsHeld}
+use Rattle.row_changes.specs.{declared.row_change.RowChange.TheVariants.Keys, declared.record_change.RecordStage.TheVariants.Enter}
+use Rattle.row_changes.specs.{declared.row_edit.RowEdit.RowEdit}
+use Rattle.shared_lists.specs.{Steps.rows_of_change}
+use Rattle.desks.specs.{Desks.Store, Desks.with_doing, declared.desk.Doing.Doing, Shown.change_in, Undoing.keys_if, Holding.IsHeld}
+use Rattle.inno_types.specs.{declared.value.Column.Column, declared.value.Schema.Schema}
+use Rattle.key_codec.specs.{Keys.IsOfKind, Keys.key_code}
 
 -- what is left of a change that is given up: one that the history tells is to be taken back; one that it doesn't tell was
 -- never made
@@ -69,3 +73,22 @@ pub record MakesChange (s : ℕ) (store : Store) (new : WorldState) (change : Ro
   pub held : IsHeld (made_to s store new change reached)
   pub leaves : LeavesLists store.world new
   pub comes : Comes s store.world new change reached
+
+-- ---- What a change of a row needs to know before it begins, and what it is then.
+
+-- The table is there, and its primary column, of whose kind the row's key is.
+pub record IsEditable (state : WorldState) (table : ℕ) (edit : RowEdit) : Type 0 where
+  pub within : table < length state.schemas
+  pub schema : Schema
+  pub there : slice_get state.schemas table ≡ Some schema
+  pub column : Column
+  pub primary : slice_get schema.columns schema.primary ≡ Some column
+  pub of_kind : IsOfKind column.kind (primary_of schema edit)
+
+-- the bytes are the key of the row
+abbrev pub IsKeyOfEdit : Schema → RowEdit → List ℕ → Type 0
+IsKeyOfEdit schema edit key = (column : Column) → slice_get schema.columns schema.primary ≡ Some column → key ≡ key_code column.kind (primary_of schema edit)
+
+-- a change that has done nothing yet
+abbrev pub begun : ℕ → RowEdit → List ℕ → RowChange
+begun table edit key = Record (record { table = table; edit = edit; key = key; stage = Enter }) key (row_after edit)

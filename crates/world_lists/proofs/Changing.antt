@@ -2,43 +2,165 @@
 -- or was hindered, and a change that is given up.
 use Rattle.store_api.specs.declared.stepped.Stepped.TheVariants as stepped
 use Rattle.shared_lists.specs.declared.answers.ChangePart.TheVariants as part
-use Rattle.std.proofs.Common.{◌≡◌, ℕ, zero, suc, ◌+◌, ◌<◌, ◌^◌, false, true, List, ◌∷◌, length, Option, Some, refl, sym, ap, subst, ◌∙◌, arith, []}
-use Rattle.std.proofs.lemmas.Bool.{false≢true}
+use Rattle.std.proofs.Common.{◌≡◌, ℕ, zero, suc, ◌+◌, ◌<◌, ◌^◌, false, true, List, ◌∷◌, length, Option, Some, refl, sym, ap, subst, ◌∙◌, arith, [], ◌≢◌, ◌⊎◌}
+use Rattle.std.proofs.Common.{inl, inr, ⊎_elim, Bool, None}
 use Rattle.std.specs.Prelude.{slice_get, slice_index_or, slice_set, get_or, is_some}
-use Rattle.inno_db.specs.declared.change.Change.{Change}
-use Rattle.row_versions.specs.{Chains.Chains, declared.place.Place.Place}
-use Rattle.law_stored_rows.specs.Tables.{Said, what_is_there}
-use Rattle.law_past_agreement.specs.Order.{created}
-use Rattle.key_codec.specs.Keys.{IsOfKind}
-use Rattle.row_changes.proofs.Changing.{lacks_memory}
-use Rattle.law_logged_changes.proofs.Leaving.{left_told}
+use Rattle.row_versions.specs.Chains.{Chains, versions_at, newest}
+use Rattle.law_stored_rows.specs.Tables.{Said, what_is_there, in_table}
+use Rattle.key_codec.specs.Keys.{IsOfKind, HasKey, key_code}
 use Rattle.shared_lists.specs.Tasks.{Task, Idle, asked, left_by, is_changing, steps_left}
-use Rattle.shared_lists.specs.{Fitting.FitsWell, Fitting.RemovesOne, Answers.Changed, State.Lists, State.Turns, State.task_of, Steps.Changes}
-use Rattle.shared_lists.specs.Steps.{rows_entered}
+use Rattle.shared_lists.specs.State.{Lists, Turns, task_of}
 use Rattle.desks.specs.declared.desk.Doing.TheVariants.{Nothing, Searching, Changing, Lagging, Undoing}
-use Rattle.desks.specs.Desks.{desk_at, doing_at, with_doing, doing_in}
-use Rattle.desks.specs.{declared.desk.Desk.Desk, declared.desk.Doing.Doing, Desks.Store, Shown.lists_of, Shown.shown, Undoing.left_in, Holding.IsHeld}
+use Rattle.desks.specs.Desks.{desk_at, doing_at, with_doing, doing_in, Store}
 use Rattle.desks.proofs.Showing.{task_is, desk_read, given_at}
 use Rattle.law_held_steps.proofs.Showing.{begun_turns, begun_task, went_shown, entered_shown, done_shown, given_up_shown, rows_shown, left_shown}
 use Rattle.law_held_steps.proofs.Made.{can_be_keyed, begins, change_made}
-use Rattle.law_held_steps.proofs.{Putting.changing_rows, Putting.alone_if, Desks.doing_here, Desks.changes_at_a_desk, Places.held_left}
-use Rattle.world_lists.specs.Between.{IsKept, AwaitsWriter}
 use Rattle.world_lists.specs.Parts.{StepsChange, StepsAtDesk, HasChange, IsThereToRemove, RemovesRow, MayGoOn, LeavesIfOver, doing_now, is_told, answer_for}
-use Rattle.inno_types.specs.{declared.value.Column.Column, declared.value.Schema.Schema}
-use Rattle.inno_model.specs.{Past.IsOpen, declared.event.Event.Event}
-use Rattle.store_api.specs.{declared.moves.Move.Move, declared.moves.Move.TheVariants.NoMemory}
-use Rattle.world.specs.{State.WorldState, Told.IsTold}
-use Rattle.row_changes.specs.declared.row_change.RowChange.TheVariants.{Record, Keys}
-use Rattle.row_changes.specs.declared.row_edit.RowEdit.TheVariants.{Put, Remove}
-use Rattle.row_changes.specs.Reached.{Went, Done, Hindered}
+use Rattle.inno_model.specs.Past.{IsOpen, own, commits, committed}
+use Rattle.row_changes.specs.Reached.{Went, Done, Hindered, Reached}
 use Rattle.row_changes.specs.Rows.{IsChangingRow, ChangesRow, table_of, primary_of}
-use Rattle.row_changes.specs.{Awaited.AwaitsIn, declared.row_edit.RowEdit.RowEdit, declared.row_change.RowChange.RowChange, Reached.Reached}
-use Rattle.row_changes.specs.{Edits.change_of, Records.IsTable}
-use Rattle.law_held_steps.specs.Making.{doing_after, made_to, Comes, LeavesLists, MakesChange}
-use Rattle.law_held_steps.specs.{Beginning.IsEditable, Beginning.IsKeyOfEdit, Beginning.begun, Leaving.is_searching, Leaving.MovesPlaces, Leaving.LeavesTable}
-use Rattle.world_lists.proofs.Hindering.{newest_seen}
+use Rattle.row_changes.specs.Edits.{change_of, FitsEdit, HasNoRow, LacksRow}
+use Rattle.row_changes.specs.Records.{IsTable, IsSpoiled, HindersRecord}
+use Rattle.law_held_steps.specs.Making.{doing_after, made_to, Comes, LeavesLists, MakesChange, IsEditable, IsKeyOfEdit, begun}
+use Rattle.law_held_steps.specs.Leaving.{is_searching, MovesPlaces, LeavesTable}
 use Rattle.world_lists.proofs.Calls.{kept_beside, awaits_alone, same_no_more, change_awaits, only_mine, rests, table_by, past_here, at_rest, at_desk}
 use Rattle.world_lists.proofs.Calls.{writer_now}
+use Rattle.law_past_agreement.specs.Rows.{is_at, row_opened, row_seen}
+use Rattle.law_stored_rows.specs.Records.{IsRecordWith, kept_of, row_shown}
+use Rattle.law_held_steps.proofs.Hindering.{call_lacks, room_lacks, keys_lack}
+use Rattle.std.proofs.{lemmas.Bool.false≢true, lemmas.Bool.cases_eq}
+use Rattle.inno_db.specs.{declared.change.Change.Change}
+use Rattle.row_versions.specs.{declared.place.Place.Place, declared.kept.Kept.Kept, declared.version.Version.Version}
+use Rattle.law_past_agreement.specs.{Order.created}
+use Rattle.row_changes.proofs.{Changing.lacks_memory, Sessions.one_found, Telling.tells, Pushed.key_at}
+use Rattle.law_logged_changes.proofs.{Leaving.left_told}
+use Rattle.shared_lists.specs.{Fitting.FitsWell, Fitting.RemovesOne, Answers.Changed, Steps.Changes, Steps.rows_entered}
+use Rattle.desks.specs.{declared.desk.Desk.Desk, declared.desk.Doing.Doing, Shown.lists_of, Shown.shown, Undoing.left_in, Holding.IsHeld}
+use Rattle.law_held_steps.proofs.{Putting.changing_rows, Putting.alone_if, Desks.doing_here, Desks.changes_at_a_desk, Places.held_left}
+use Rattle.world_lists.specs.{Between.IsKept, Between.AwaitsWriter}
+use Rattle.inno_types.specs.{declared.value.Column.Column, declared.value.Schema.Schema, declared.value.Value.Value}
+use Rattle.inno_model.specs.{declared.event.Event.Event}
+use Rattle.store_api.specs.{declared.moves.Move.Move, declared.moves.Move.TheVariants.NoMemory, declared.moves.Move.TheVariants.End}
+use Rattle.store_api.specs.{declared.answers.Version.Version as Coded}
+use Rattle.world.specs.{State.WorldState, Told.IsTold, Told.pairs_of, Memory.IsInMemory}
+use Rattle.row_changes.specs.{declared.row_change.RowChange.TheVariants.Record, declared.row_change.RowChange.TheVariants.Keys}
+use Rattle.row_changes.specs.{declared.row_edit.RowEdit.TheVariants.Put, declared.row_edit.RowEdit.TheVariants.Remove, Awaited.AwaitsIn}
+use Rattle.row_changes.specs.{Awaited.IsAwaitedAlone, declared.row_edit.RowEdit.RowEdit, declared.row_change.RowChange.RowChange, Told.HasRowsAt}
+use Rattle.row_changes.specs.{declared.record_change.RecordChange.RecordChange}
+use Rattle.std.specs.{List.list_any}
+use Rattle.row_codec.specs.{Rows.IsRecordOf}
+use Rattle.entries.specs.{Pairs.value_of}
+use Rattle.law_past_agreement.proofs.{Rows.row_at-append}
+use Rattle.law_stored_rows.specs.{Edits.clustered_index}
+use Rattle.law_stored_rows.proofs.{RowRecords.record_read}
+use Rattle.law_world_agreement.specs.{Agreement.Agrees}
+use Rattle.law_world_agreement.proofs.{Readers.seen_newest}
+use Rattle.law_logged_changes.specs.{Logs.IsAloneAt}
+
+-- ---- Nothing but want of memory hinders a step in memory where nobody else is awaited: the record is coded, and there where it is to be removed.
+
+no_row : (row : Option (List Value)) → row ≡ None → is_some row ≡ true → ⊥
+no_row None none is = absurd (false≢true is)
+no_row (Some row) none is = absurd (cc)
+
+module _ (schema : Schema) (key : List ℕ) (kept : ℕ → Option Kept) where
+  -- it is one of the table's
+  decodes : (found : Option (List ℕ)) (versions : List Version) (bytes : List ℕ) → IsRecordWith schema key kept found versions → found ≡ Some bytes
+      → (coded : Coded) × IsRecordOf schema coded key bytes
+  decodes found [] bytes is at = absurd (subst (λ (f : Option (List ℕ)). IsRecordWith schema key kept f []) at is)
+  decodes found (version ∷ rest) bytes is at =
+      let there = subst (λ (f : Option (List ℕ)). IsRecordWith schema key kept f (version ∷ rest)) at is in (there.0, there.1.record_is)
+
+  -- and shows a row where its newest version has one
+  shows_row : (found : Option (List ℕ)) (versions : List Version) → IsRecordWith schema key kept found versions → HasNoRow schema key found
+      → is_some (newest versions) ≡ true → ⊥
+  shows_row None [] is none row = no_row None refl row
+  shows_row None (version ∷ rest) is none row = absurd is
+  shows_row (Some bytes) versions is none row =
+      let read = ap newest (record_read schema key bytes kept versions none.0 is none.1).0 in
+      no_row (newest versions) (read ∙ ap (λ marked. row_shown marked none.0.row) none.2) row
+
+-- the coded rows of a place, whose key has this record
+module _ (chains : Chains) (beside : Said) (state : WorldState) (told : IsTold state) (table : ℕ) (schema : Schema) (edit : RowEdit) (key : List ℕ)
+    (there : slice_get state.schemas table ≡ Some schema) (fits : FitsEdit schema edit key) (rows : HasRowsAt chains beside table key state) where
+  abbrev index : ℕ
+  index = clustered_index table
+
+  abbrev versions : List Version
+  versions = in_table table chains (primary_of schema edit)
+
+  record_is : IsRecordWith schema key (kept_of state.versions.kept_at table key) (value_of key (pairs_of state index)) versions
+  record_is =
+      let value = primary_of schema edit in
+      let at = key_at schema edit key fits in
+      let are = (rows schema value there at told).1.clustered.tables table schema there in
+      let one : at.column ≡ are.primary = one_found at.column are.primary at.primary are.primary_is in
+      subst (λ (k : List ℕ). IsRecordWith schema k (kept_of state.versions.kept_at table k) (value_of k (pairs_of state index)) versions)
+      (sym (at.spelled ∙ ap (λ (column : Column). key_code column.kind value) one))
+      (are.records value (subst (λ (column : Column). HasKey column.kind value) one at.has_key))
+
+  never_spoiled : IsSpoiled schema key (state.indexes index) → ⊥
+  never_spoiled spoiled =
+      let bad = tells (λ pairs. (bytes : List ℕ) × (value_of key pairs ≡ Some bytes) × ((coded : Coded) → IsRecordOf schema coded key bytes → ⊥))
+      (state.indexes index).pairs spoiled (told.pairs index) in
+      let is = decodes schema key (kept_of state.versions.kept_at table key) (value_of key (pairs_of state index)) versions bad.0 record_is bad.1 in
+      bad.2 is.0 is.1
+
+  never_lacks : (which : RowEdit) (why : Move) → edit ≡ which → IsThereToRemove chains table which → LacksRow which schema key (state.indexes index) why → ⊥
+  never_lacks (Put row) why is has lacks = absurd lacks
+  never_lacks (Remove value) End is has lacks =
+      shows_row schema key (kept_of state.versions.kept_at table key) (value_of key (pairs_of state index)) versions record_is
+      (tells (λ pairs. HasNoRow schema key (value_of key pairs)) (state.indexes index).pairs lacks (told.pairs index))
+      (subst (λ (e : RowEdit). is_some (newest (in_table table chains (primary_of schema e))) ≡ true) (sym is) has)
+  never_lacks (Remove value) other is has lacks = absurd lacks
+
+-- ---- a step
+
+module _ (s : ℕ) (chains : Chains) (beside : Said) (old new : WorldState) (memory : IsInMemory old) (alone : IsAwaitedAlone s old) where
+  record_lacks : (change : RecordChange) (schema : Schema) (why : Move) → IsTable change.table schema old → FitsEdit schema change.edit change.key
+      → HasRowsAt chains beside change.table change.key old → IsThereToRemove chains change.table change.edit → HindersRecord s change schema old new why
+      → why ≡ NoMemory
+  record_lacks change schema why is fits rows has (inl call) = call_lacks s old new memory alone (clustered_index change.table) why call
+  record_lacks change schema why is fits rows has (inr (inl room)) = room_lacks s old new memory _ why room.0 room.1
+  record_lacks change schema why is fits rows has (inr (inr (inl spoiled))) =
+      absurd (never_spoiled chains beside old memory.told change.table schema change.edit change.key is.there fits rows spoiled)
+  record_lacks change schema why is fits rows has (inr (inr (inr lacks))) =
+      absurd (never_lacks chains beside old memory.told change.table schema change.edit change.key is.there fits rows change.edit why refl has lacks)
+
+-- a step of a change that may go on is hindered for want of memory alone
+pub hindered_for_memory : (s : ℕ) (old new : WorldState) (change same : RowChange) (why : Move) → IsInMemory old → (may : MayGoOn s old change)
+    → ChangesRow s may.chains may.beside old new change (Hindered same why) → why ≡ NoMemory
+hindered_for_memory s old new (Record change key after) same why memory may made =
+    let is = may.changing.0 in
+    let off = made.2 in
+    let one = one_found is.schema off.1 is.table.there off.2.there in
+    record_lacks s may.chains may.beside old new memory may.alone change off.1 why off.2
+    (subst (λ (schema : Schema). FitsEdit schema change.edit change.key) one is.fits) may.changing.1 may.removes off.3
+hindered_for_memory s old new (Keys change) same why memory may made =
+    keys_lack s old new memory may.alone change why made.2.1
+
+-- ---- the newest row of a place is the one that the session sees, where no other has changes of it
+
+module _ (chains : Chains) (state : WorldState) (agrees : Agrees chains state) (s : ℕ) (place : Place) (alone : IsAloneAt place s state) where
+  abbrev at : Change → Bool
+  at = is_at (created state.past) place
+
+  abbrev unless_own : ℕ → Option (List Value)
+  unless_own t = row_seen state.past t (commits state.past) place
+
+  -- who has no changes of it sees what is committed
+  sees_committed : (t u : ℕ) → list_any at (own t state.past) ≡ false → list_any at (own u state.past) ≡ false → unless_own t ≡ unless_own u
+  sees_committed t u none also =
+      let below = committed (commits state.past) state.past in
+      let opened = row_opened state.past place in
+      row_at-append opened at (own t state.past) below none ∙ sym (row_at-append opened at (own u state.past) below also)
+
+  pub newest_seen : newest (versions_at place chains) ≡ row_seen state.past s (commits state.past) place
+  newest_seen =
+      let by = seen_newest chains state agrees place in
+      by.2 ∙ ⊎_elim (λ same. ap unless_own same)
+      (λ differs. sees_committed by.0 s (subst (λ (tables : List Schema). list_any (is_at tables place) (own by.0 state.past) ≡ false) agrees.lists.tables
+      (alone by.0 differs)) (by.1 s (λ same. differs (sym same)))) (cases_eq by.0 s)
 
 -- ---- the table of a change
 
@@ -430,3 +552,6 @@ module _ (s : ℕ) {store : Store} {lists : Lists} (kept : IsKept store) (view :
 
 pub none_entered : (new old : ℕ) → new ≡ old + 0 → new ≡ old
 none_entered new old same = omega (arith, same)
+
+-- ---- Nothing but want of memory hinders a step of a change in memory where nobody else is awaited: its record is coded, and there where it is to
+-- be removed.

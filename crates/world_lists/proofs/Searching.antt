@@ -15,7 +15,7 @@ use Rattle.sql_plan.specs.declared.choice.Plan.{Plan}
 use Rattle.shared_lists.specs.State.{State, Lists, Places, task_of, places_before, counted, Turns, Stays, writer_without}
 use Rattle.shared_lists.specs.{declared.answers.Reading.Reading, Answers.Searched, Steps.AreFoundBy, Steps.Searches, Steps.AreNewestRows}
 use Rattle.desks.proofs.Showing.{task_is, places_are}
-use Rattle.law_held_steps.specs.TakenUp.{ComesAnew, IsTakenUp, MayStep, IsSearchOf, plan_of}
+use Rattle.law_held_steps.specs.Begun.{ComesAnew, IsTakenUp, MayStep, IsSearchOf, plan_of}
 use Rattle.law_held_steps.specs.{Begun.HasView, Begun.IsBegun, Begun.IsNewSearch, Leaving.MovesPlaces, Newest.plan_read, Newest.TellsTable, Newest.AreRead}
 use Rattle.law_held_steps.proofs.Stepping.{has_view, begun, steps, went, nears, ended, waited, given_up, tells_held, are_newest}
 use Rattle.law_held_steps.proofs.Showing.{turns_now, turns_to_search, search_shown, has_desk, searches_on, seen_stay}

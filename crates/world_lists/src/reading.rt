@@ -9,7 +9,7 @@ ghost use Rattle.desks.specs.Holding.{IsOwnView};
 ghost use Rattle.law_held_steps.specs.Begun.{HasView};
 ghost use Rattle.law_held_steps.specs.Leaving.{MovesPlaces};
 ghost use Rattle.law_held_steps.specs.Newest.{TellsTable, AreRead};
-ghost use Rattle.law_held_steps.specs.TakenUp.{MayStep, ComesAnew};
+ghost use Rattle.law_held_steps.specs.Begun.{MayStep, ComesAnew};
 
 use desks::{Desk, Doing};
 use inno_types::{Ids, Rows, Schema};
