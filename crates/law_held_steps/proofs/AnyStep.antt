@@ -11,10 +11,10 @@ use Rattle.inno_model.proofs.Untouched.{IsUntouched, untouched}
 use Rattle.store_api.specs.declared.answers.Undo.{Undo}
 use Rattle.law_past_agreement.specs.Rows.{place_in, is_place}
 use Rattle.world.specs.State.{WorldState, Session, Work, Logged, IsSession, HasWork}
-use Rattle.world.specs.{Told.IsTold, Told.LeavesRows, Told.pairs_of, Undoing.read_into}
+use Rattle.world.specs.{Told.IsTold, Told.LeavesRows, Undoing.read_into}
 use Rattle.law_world_agreement.specs.Agreement.{Agrees}
 use Rattle.undo_apply.proofs.Goes.{others_leave}
-use Rattle.law_stored_rows.specs.Tables.{Said, AreCoded, what_is_there}
+use Rattle.law_stored_rows.specs.Tables.{Said}
 use Rattle.shared_lists.specs.Fitting.{FitsThen}
 use Rattle.law_found_rows.specs.Pasts.{AddsAtMostOne}
 use Rattle.law_found_rows.proofs.Seen.{other_of}

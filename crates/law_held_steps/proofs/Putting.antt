@@ -8,7 +8,7 @@ use Rattle.std.proofs.{lemmas.Bool.cases_eq, lemmas.Bool.Decides.nat_tests, lemm
 use Rattle.world.specs.State.{WorldState, Logged, Session, Work, HasWork, IsSession, standing_of}
 use Rattle.world.specs.{Undoing.read_into, Undoing.ReadsLast, Undoing.newest, Undoing.IsRead, Undoing.HoldsRecord, Undoing.IsCutBack, Told.IsTold}
 use Rattle.world.specs.{Told.pairs_of, Told.TellsTogether, Told.LeavesRows, declared.undo_room.UndoRoom.UndoRoom, Memory.IsInMemory, Sessions.undone_added}
-use Rattle.desks.specs.Holding.{IsLast, IsLastIfTold, IsLagging, IsGoingBack, SearchHeld, IsHeld, WriterAgrees}
+use Rattle.desks.specs.Holding.{IsLast, IsLastIfTold, IsGoingBack, SearchHeld, IsHeld}
 use Rattle.law_held_steps.proofs.Alone.{HoldsAlone, HoldsAloneAt, held_alone, coded_all, rows_by}
 use Rattle.desks.specs.Undoing.{left_at, keys_if, undo_left_in, most_versions, left_in}
 use Rattle.desks.specs.declared.desk.Doing.TheVariants.{Nothing, Changing, Lagging, Undoing}

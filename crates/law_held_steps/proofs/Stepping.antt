@@ -1,8 +1,8 @@
 -- Searches in a held store. It shows its rows to each that is under way: where keys lag behind the newest change of a session, other
 -- readers by a view don't see that change. A search begins, goes on, ends or is given up.
 use Rattle.std.proofs.Common.{◌≡◌, ◌≢◌, inl, inr, ℕ, ◌<◌, Bool, true, false, cond, List, [], ◌∷◌, ◌++◌, Option, Some, refl, sym, ap, subst, ◌∙◌, arith, length}
-use Rattle.std.proofs.Common.{slice_get, zero, suc, ◌⊎◌, None, eq-eqb, ◌≤◌, map}
-use Rattle.std.proofs.{lemmas.Bool.cases_Bool, lemmas.Bool.cases_lt, lemmas.Bool.false≢true, lemmas.Bool.cases_eq}
+use Rattle.std.proofs.Common.{slice_get, ◌⊎◌, None, eq-eqb, ◌≤◌, map}
+use Rattle.std.proofs.{lemmas.Bool.cases_Bool, lemmas.Bool.cases_lt, lemmas.Bool.false≢true}
 use Rattle.std.proofs.{lemmas.Bool.Decides.nat_tests, lemmas.Bool.Decides.eqb_tells}
 use Rattle.std.specs.Prelude.{is_some, option_map, ◌||◌, ◌≤◌, ◌==◌, ◌-◌, filter, ◌<◌}
 use Rattle.std.specs.List.{list_any}
