@@ -15,7 +15,8 @@ use Rattle.world.specs.{Told.IsTold, Told.LeavesRows, Told.pairs_in, Told.pairs_
 use Rattle.world.specs.{Sessions.with_save, Endings.IsCommitted, Endings.IsRolledBack}
 use Rattle.law_logged_changes.specs.{Steps.LeavesLog, Steps.HasNoLog, Steps.LeavesLogs, Steps.OfAll, Logs.LogsAgree, Logs.IsLogOf}
 use Rattle.desks.specs.Desks.{desk_at, with_start, doing_at, started_at, is_quiet_doing, HasRooms, doing_in, started_in, IsNewDesk, Store}
-use Rattle.desks.specs.{Holding.SearchHeld, Holding.IsHeld, Holding.lags_in, Holding.IsFresh, declared.desk.Desk.Desk, declared.desk.Doing.TheVariants.Nothing, Leaves.Does}
+use Rattle.desks.specs.{Holding.SearchHeld, Holding.IsHeld, Holding.lags_in, Holding.IsFresh}
+use Rattle.desks.specs.{declared.desk.Desk.Desk, declared.desk.Doing.TheVariants.Nothing, Leaves.Does}
 use Rattle.row_versions.specs.Versions.{Versions, Stays}
 use Rattle.law_logged_changes.proofs.Leaving.{rows_leave, all_left, more_grow}
 use Rattle.law_held_steps.proofs.AnyStep.{some_same, each, others_past, past_grows, quiet_step, held_after, waits_not, quiet_row}
@@ -612,7 +613,8 @@ module _ {store : Store} {new : WorldState} {t : ℕ} {schema : Schema} (held : 
         search = subst (SearchHeld held.chains made t) (sym rests) tt;
         rooms = held.rooms t;
       })
-      (subst FitsThen (sym by.past) ((storable, tt), held.fits)) (none_lags held.chains new store.desks t (others_quiet t held mine store.desks (λ u differs. refl))
+      (subst FitsThen (sym by.past) ((storable, tt), held.fits)) (none_lags held.chains new store.desks t (others_quiet t held mine store.desks
+      (λ u differs. refl))
       told_now logs_now (ap (lags_in new t) rests) coded (quiet_row held.chains _ new t (desk_at t store.desks) (ap is_quiet_doing rests))) logs_now
       (held.count ∙ ap length (sym by.names)) (subst (λ (names : List (List ℕ)). length names ≤ 68) (sym by.names) held.few)
       (omega (arith, held.cut, past_grows t source.past new.past adds)) (λ place. omega (arith, held.short place, past_grows t source.past new.past adds))

@@ -351,7 +351,8 @@ pub rows_on : {s : ℕ} {old new : WorldState} (chains : Chains) → MovesPlaces
 rows_on {old} {new} chains moves told rows = (rows.0, rows_left old new (moves_leave moves) chains rows.0 told rows.1)
 
 -- rows of a table in a plan's range, as the past has its tables
-module _ {store : Store} (held : IsHeld store) (table : ℕ) (by : Plan) {schema : Schema} (there : slice_get store.world.schemas table ≡ Some schema) (s : ℕ) where
+module _ {store : Store} (held : IsHeld store) (table : ℕ) (by : Plan) {schema : Schema}
+    (there : slice_get store.world.schemas table ≡ Some schema) (s : ℕ) where
   abbrev past : List Event
   past = store.world.past
 
@@ -385,8 +386,9 @@ module _ {store : Store} (held : IsHeld store) (s : ℕ) (on : TableSearch)
 
   pub found_in : (sight : Sight) → SightHolds store s sight → FoundBy sight → RiseByKey found
       → AreFoundBy (reading_of sight) scan.table (plan_of on) now.past s (map (λ (f : FoundRow). f.row) found)
-  found_in (View view reader) is are rise = λ n at. in_range held scan.table (plan_of on) there s n found (found_by_view held.chains now scan.table on.schema now.versions.kept_at (pairs_of now
-      _) held.agrees (held.rows.coded.clustered.tables scan.table on.schema there) s n is.session is.work is.seen is.has_work is.view_is at scan.which (lies_in on.schema
+  found_in (View view reader) is are rise = λ n at. in_range held scan.table (plan_of on) there s n found (found_by_view held.chains now scan.table
+      on.schema now.versions.kept_at (pairs_of now _) held.agrees (held.rows.coded.clustered.tables scan.table on.schema there) s n is.session is.work
+      is.seen is.has_work is.view_is at scan.which (lies_in on.schema
       scan) found (subst (λ (v : ReadSight). FoundBy (View v is.work.id)) is.same (subst (λ (r : ℕ). FoundBy (View view r)) is.reader_is are)) rise)
   found_in Newest is are rise = newest_seen held scan.table (plan_of on) there s (others_clean held is) found are rise
 
