@@ -1,34 +1,38 @@
 -- What holds of the lists after a step of one session, whatever step it is. What the others have is said here once: their
 -- desks, searches, rooms and rows.
 use Rattle.std.proofs.Common.{◌≡◌, ◌≢◌, ◌⊎◌, ⊎_elim, inl, inr, ℕ, ◌==◌, Bool, false, cond, eq-eqb, ◌≤◌, true, List, ◌∷◌, length, Option, Some, None, refl, sym}
-use Rattle.std.proofs.Common.{ap}
-use Rattle.std.proofs.Common.{[], subst, ◌∙◌, arith}
+use Rattle.std.proofs.Common.{ap, [], subst, ◌∙◌, arith, ◌||◌, zero, suc, ◌<◌, option_map}
 use Rattle.std.proofs.lemmas.Bool.{cases_eq, false≢true}
-use Rattle.std.specs.Prelude.{slice_get, is_some}
-use Rattle.inno_types.specs.declared.value.Schema.{Schema}
-use Rattle.inno_model.specs.{declared.event.Event.Event, Past.own, Past.started, Past.under_way, Past.of_item, Past.awaits_ack, Past.level, Past.IsOpen}
+use Rattle.inno_model.specs.{Past.own, Past.started, Past.under_way, Past.of_item, Past.awaits_ack, Past.level, Past.IsOpen, declared.event.Event.Event}
+use Rattle.world.specs.State.{WorldState, Session, Work, Logged, IsSession, HasWork}
+use Rattle.world.specs.{Told.IsTold, Told.LeavesRows, Undoing.read_into}
+use Rattle.law_stored_rows.specs.{Tables.Said, Tables.what_is_there, Tables.TellsOfOlder, Entries.has_value}
+use Rattle.desks.specs.declared.desk.Doing.TheVariants.{Nothing, Searching, Changing, Lagging, Undoing}
+use Rattle.desks.specs.Holding.{AreFew, IsLast, IsLastIfTold, RowHeld, RowHeldAt, RowsHeld, SearchHeld, IsHeld, newest_place, lags_in, lags_at, said_beside}
+use Rattle.desks.specs.Holding.{IsLastOf, IsLagging, IsGoingBack}
+use Rattle.desks.specs.Desks.{Store, desk_at, doing_in, doing_at, started_in, started_at, is_quiet_doing, HasRooms, with_desk, with_doing, is_undoing}
+use Rattle.desks.specs.{declared.desk.Desk.Desk, declared.desk.Doing.Doing, Leaves.Does}
+use Rattle.row_versions.specs.{Chains.Chains, Chains.versions_at, Chains.older, Versions.Stays, declared.place.Place.Place, declared.version.Version.Version}
+use Rattle.law_logged_changes.proofs.Leaving.{work_beside, agrees_beside, rows_left, change_left}
+use Rattle.law_logged_changes.proofs.{Beginning.tells_of_it, Beginning.keys_place, Lags.lags, Lags.lags_while}
+use Rattle.std.specs.{Prelude.slice_get, Prelude.is_some, List.list_any}
+use Rattle.inno_types.specs.{declared.value.Schema.Schema, declared.value.Value.Value}
 use Rattle.inno_model.proofs.Untouched.{IsUntouched, untouched}
 use Rattle.store_api.specs.declared.answers.Undo.{Undo}
 use Rattle.law_past_agreement.specs.Rows.{place_in, is_place}
-use Rattle.world.specs.State.{WorldState, Session, Work, Logged, IsSession, HasWork}
-use Rattle.world.specs.{Told.IsTold, Told.LeavesRows, Undoing.read_into}
 use Rattle.law_world_agreement.specs.Agreement.{Agrees}
-use Rattle.undo_apply.proofs.Goes.{others_leave}
-use Rattle.law_stored_rows.specs.Tables.{Said}
+use Rattle.undo_apply.proofs.{Goes.others_leave, Taken.whole_yet}
 use Rattle.shared_lists.specs.Fitting.{FitsThen}
 use Rattle.law_found_rows.specs.Pasts.{AddsAtMostOne}
 use Rattle.law_found_rows.proofs.Seen.{other_of}
-use Rattle.desks.specs.declared.desk.Doing.TheVariants.{Nothing, Searching, Changing, Lagging, Undoing}
-use Rattle.desks.specs.Holding.{AreFew, IsLast, IsLastIfTold, RowHeld, RowHeldAt, RowsHeld, SearchHeld, IsHeld, newest_place, lags_in, lags_at, said_beside}
-use Rattle.desks.specs.Desks.{Store, desk_at, doing_in, doing_at, started_in, started_at, is_quiet_doing, HasRooms}
-use Rattle.desks.specs.{declared.desk.Desk.Desk, declared.desk.Doing.Doing, Leaves.Does}
 use Rattle.desks.proofs.Leaving.{search_left}
-use Rattle.row_versions.specs.{Versions.Stays, declared.place.Place.Place, Chains.Chains, Chains.versions_at}
 use Rattle.row_changes.specs.declared.row_change.RowChange.TheVariants.{Record, Keys}
-use Rattle.row_changes.specs.declared.row_change.RowChange.{RowChange}
-use Rattle.undo_apply.specs.declared.work_room.WorkRoom.{WorkRoom}
-use Rattle.law_logged_changes.specs.{Logs.IsLogOf, Logs.LogsAgree, Steps.ChangesPairsAlone}
-use Rattle.law_logged_changes.proofs.Leaving.{work_beside, agrees_beside, rows_left, change_left}
+use Rattle.row_changes.specs.Told.{HasRows, AreRowsAs}
+use Rattle.row_changes.specs.{declared.row_change.RowChange.RowChange, declared.keys_change.KeysChange.KeysChange, Rows.IsChangingRowAlone, Keys.IsChangingKeys}
+use Rattle.undo_apply.specs.{declared.work_room.WorkRoom.WorkRoom, Stages.IsPuttingBack, Told.rows_of}
+use Rattle.law_logged_changes.specs.{Logs.IsLogOf, Logs.LogsAgree, Steps.ChangesPairsAlone, Lagging.LagsAt}
+use Rattle.law_stored_rows.proofs.Values.{same_place}
+use Rattle.row_changes.proofs.Alone.{alone_rows}
 
 pub some_same : {X : Type 0} (a b : X) → Some a ≡ Some b → a ≡ b
 some_same a b same = cc
@@ -288,3 +292,271 @@ module _ (s : ℕ) {store : Store} (held : IsHeld store) {new : WorldState} (now
         rooms = rooms;
       }) (subst FitsThen (sym past) held.fits) rows logs (count ∙ held.count ∙ ap length (sym names)) (subst (λ (n : List (List ℕ)). length n ≤ 68) (sym names)
       held.few) (subst (λ (h : List Event). store.cuts ≤ length h) (sym past) held.cut) (subst (AreFew held.chains) (sym past) held.short)
+
+-- ---- What a session knows of its row that is alone at work, as the plain lock has it: of all other places the keys say what is there. It is what
+-- is held of the rows of all sessions, and the other way round.
+
+abbrev pub HoldsAlone : Chains → WorldState → ℕ → Undo → WorkRoom → Doing → Type 0
+HoldsAlone chains state s undo room (Changing change) = IsChangingRowAlone s chains state change × IsLastIfTold state s change
+HoldsAlone chains state s undo room Lagging = IsLagging chains (what_is_there chains) state s
+HoldsAlone chains state s undo room Undoing = IsGoingBack chains (what_is_there chains) state s undo room
+HoldsAlone chains state s undo room quiet = HasRows chains state
+
+abbrev pub HoldsAloneAt : Chains → WorldState → ℕ → Option Desk → Type 0
+HoldsAloneAt chains state s None = HasRows chains state
+HoldsAloneAt chains state s (Some desk) = HoldsAlone chains state s (read_into desk.undo) desk.room desk.doing
+
+pub last_lags : {state : WorldState} {s : ℕ} {logged : Logged} {place : Place} → IsLast state s logged place
+    → newest_place state.schemas (own s state.past) ≡ Some place
+last_lags {state} last = ap (newest_place state.schemas) last.own_is ∙ last.place_is
+
+-- of older versions tells whoever tells of all
+any_older : (column : ℕ) (value : Value) (versions : List Version)
+    → list_any (λ (version : Version). has_value column value version.row) (older versions) ≡ true
+    → list_any (λ (version : Version). has_value column value version.row) versions ≡ true
+any_older column value [] has = has
+any_older column value (version ∷ versions) has = more (has_value column value version.row) has
+  where
+    more : (b : Bool) {c : Bool} → c ≡ true → b || c ≡ true
+    more true is = refl
+    more false is = is
+
+module _ (chains : Chains) (state : WorldState) (desks : List Desk) (s : ℕ)
+    (others : (t : ℕ) → t ≢ s → is_quiet_doing (doing_at t desks) ≡ true) where
+  -- only its keys can lag
+  pub lags_but : (place : Place) → lags_at place state desks s ≡ false → (t : ℕ) → lags_at place state desks t ≡ false
+  lags_but place mine = each s (λ t. lags_at place state desks t ≡ false) mine (λ t differs. quiet_lags state t desks place (others t differs))
+
+  -- where of all places at which its keys don't lag something says what is there, so it does beside the session's own
+  settled_beside : (said : Said) → ((place : Place) → lags_at place state desks s ≡ false → (which : ℕ) → said place.table which place.key
+      ≡ versions_at place chains) → said_beside chains said state desks s ≡ what_is_there chains
+  settled_beside said settled = λ i table which key. let place : Place = record { table = table; key = key } in
+      by place which (lags_at place state desks s) refl i
+    where
+      by : (place : Place) (which : ℕ) (b : Bool) → lags_at place state desks s ≡ b
+          → cond b (versions_at place chains) (said place.table which place.key) ≡ versions_at place chains
+      by place which true is = refl
+      by place which false is = settled place is which
+
+  -- ---- from what is held of all rows
+
+  module _ (rows : RowsHeld chains state desks) where
+    pub coded_all : is_quiet_doing (doing_at s desks) ≡ true → HasRows chains state
+    coded_all quiet told = subst (λ said. AreRowsAs chains said state) all rows.coded
+      where
+        all : rows.said ≡ what_is_there chains
+        all = λ i table which key. let place : Place = record { table = table; key = key } in
+            rows.settled place (lags_but place (quiet_lags state s desks place quiet)) which i
+
+    pub held_alone : HoldsAloneAt chains state s (desk_at s desks)
+    held_alone = go (desk_at s desks) refl (subst (λ beside. RowHeldAt chains beside state s (desk_at s desks))
+        (settled_beside rows.said (λ place not which. rows.settled place (lags_but place not) which)) (rows.each s))
+      where
+        by : (undo : Undo) (room : WorkRoom) (doing : Doing) → doing_at s desks ≡ doing → RowHeld chains (what_is_there chains) state s undo room doing
+            → HoldsAlone chains state s undo room doing
+        by undo room Nothing is row = coded_all (ap is_quiet_doing is)
+        by undo room (Searching on) is row = coded_all (ap is_quiet_doing is)
+        by undo room (Changing change) is row = row
+        by undo room Lagging is row = row
+        by undo room Undoing is row = row
+
+        go : (desk : Option Desk) → desk_at s desks ≡ desk → RowHeldAt chains (what_is_there chains) state s desk → HoldsAloneAt chains state s desk
+        go None is row = coded_all (ap (λ desk. is_quiet_doing (doing_in desk)) is)
+        go (Some desk) is row = by (read_into desk.undo) desk.room desk.doing (ap doing_in is) row
+
+  -- ---- and back
+
+  module _ (told : IsTold state) (logs : LogsAgree state) where
+    each_row : (said : Said) → said_beside chains said state desks s ≡ what_is_there chains → RowHeldAt chains (what_is_there chains) state s (desk_at s desks)
+        → (t : ℕ) → RowHeldAt chains (said_beside chains said state desks t) state t (desk_at t desks)
+    each_row said same mine = each s (λ t. RowHeldAt chains (said_beside chains said state desks t) state t (desk_at t desks))
+        (subst (λ beside. RowHeldAt chains beside state s (desk_at s desks)) (sym same) mine)
+        (λ t differs. quiet_row chains (said_beside chains said state desks t) state t (desk_at t desks) (others t differs))
+
+    -- its keys lag nowhere
+    pub none_lags : lags_in state s (doing_at s desks) ≡ None → HasRows chains state → RowHeldAt chains (what_is_there chains) state s (desk_at s desks)
+        → RowsHeld chains state desks
+    none_lags none rows mine = record {
+      said = what_is_there chains;
+      coded = rows told;
+      each = each_row (what_is_there chains) (settled_beside (what_is_there chains) (λ place not which. refl)) mine;
+      lagging = λ t place is. let no = lags_but place (ap (is_place place) none) t in absurd (cc);
+      settled = λ place none which. refl;
+    }
+
+    -- or at one place
+    one_lags : {place : Place} → lags_in state s (doing_at s desks) ≡ Some place → LagsAt place chains (what_is_there chains) state
+        → RowHeldAt chains (what_is_there chains) state s (desk_at s desks) → RowsHeld chains state desks
+    one_lags {place} at lag mine = record {
+      said = lag.said;
+      coded = lag.coded;
+      each = each_row lag.said (settled_beside lag.said elsewhere) mine;
+      lagging = λ t other. each s (λ t. lags_at other state desks t ≡ true → TellsOfOlder other chains lag.said) (λ is.
+          subst (λ (p : Place). TellsOfOlder p chains lag.said) (same_place place other (sym (ap (is_place other) at) ∙ is)) lag.older)
+          (λ t differs is. let no = quiet_lags state t desks other (others t differs) in absurd (cc)) t;
+      settled = λ other none. elsewhere other (none s);
+    } where
+      elsewhere : (other : Place) → lags_at other state desks s ≡ false → (which : ℕ) → lag.said other.table which other.key ≡ versions_at other chains
+      elsewhere other not which = lag.lag other.table which other.key (sym (ap (is_place other) at) ∙ not)
+
+    keys_lag : {change : KeysChange} (newest : IsLastOf state s change) → IsChangingKeys chains (what_is_there chains) state change
+        → LagsAt newest.place chains (what_is_there chains) state
+    keys_lag {change} newest p =
+        let last = newest.last in
+        let tells = tells_of_it state newest.logged last.log last.change last.before newest.place (last_log logs last) last.place_is in
+        let at = keys_place chains state tells change p (sym newest.table_is ∙ tells.table_is) (sym newest.key_is) in
+        let so = p.rows told in
+        subst (λ (place : Place). LagsAt place chains (what_is_there chains) state) at (record {
+          said = so.0;
+          coded = so.1;
+          lag = so.2.lag;
+          older = lags change.put change.before p.pushed.version p.pushed.versions so.2;
+        })
+
+    back_lags : {undo : Undo} {room : WorkRoom} {place : Place} → IsPuttingBack chains (what_is_there chains) place undo room state
+        → LagsAt place chains (what_is_there chains) state
+    back_lags {undo} {room} {place} putting = elim (lags_while chains (what_is_there chains) place undo room state putting told) [
+      | inl lag ↦ lag
+      | inr back ↦ record {
+        said = what_is_there chains;
+        coded = whole_yet chains place undo (rows_of state) back;
+        lag = λ table which value apart. refl;
+        older = λ which column value. any_older column value (versions_at place chains);
+      }
+    ]
+
+    pub rows_by : {desk : Desk} → desk_at s desks ≡ Some desk → HoldsAlone chains state s (read_into desk.undo) desk.room desk.doing
+        → RowsHeld chains state desks
+    rows_by {desk} is alone = by desk.doing refl alone
+      where
+        mine : {doing : Doing} → desk.doing ≡ doing → RowHeld chains (what_is_there chains) state s (read_into desk.undo) desk.room doing
+            → RowHeldAt chains (what_is_there chains) state s (desk_at s desks)
+        mine at row = subst (RowHeldAt chains (what_is_there chains) state s) (sym is)
+            (subst (RowHeld chains (what_is_there chains) state s (read_into desk.undo) desk.room) (sym at) row)
+
+        lags_is : {doing : Doing} → desk.doing ≡ doing → lags_in state s (doing_at s desks) ≡ lags_in state s doing
+        lags_is at = ap (λ (d : Doing). lags_in state s d) (ap doing_in is ∙ at)
+
+        by : (doing : Doing) → desk.doing ≡ doing → HoldsAlone chains state s (read_into desk.undo) desk.room doing → RowsHeld chains state desks
+        by Nothing at rows = none_lags (lags_is at) rows (mine at (record {}))
+        by (Searching on) at rows = none_lags (lags_is at) rows (mine at (record {}))
+        by (Changing (Record change key after)) at rows = none_lags (lags_is at) (alone_rows s chains state change key after rows.0) (mine at rows)
+        by (Changing (Keys change)) at rows = one_lags (lags_is at ∙ last_lags rows.1.last) (keys_lag rows.1 rows.0) (mine at rows)
+        by Lagging at rows = one_lags (lags_is at ∙ last_lags rows.newest.last) (keys_lag rows.newest rows.changing) (mine at rows)
+        by Undoing at rows = one_lags (lags_is at ∙ last_lags rows.last) (back_lags rows.putting) (mine at rows)
+
+-- ---- Desks of which one is another.
+
+pub desk_here : (s : ℕ) (change : Desk → Desk) (desks : List Desk) → desk_at s (with_desk s change desks) ≡ option_map change (desk_at s desks)
+desk_here s change [] = refl
+desk_here zero change (desk ∷ desks) = refl
+desk_here (suc s) change (desk ∷ desks) = desk_here s change desks
+
+pub desk_elsewhere : (s u : ℕ) (change : Desk → Desk) (desks : List Desk) → u ≢ s → desk_at u (with_desk s change desks) ≡ desk_at u desks
+desk_elsewhere s u change [] differs = refl
+desk_elsewhere zero zero change (desk ∷ desks) differs = absurd (differs refl)
+desk_elsewhere zero (suc u) change (desk ∷ desks) differs = refl
+desk_elsewhere (suc s) zero change (desk ∷ desks) differs = refl
+desk_elsewhere (suc s) (suc u) change (desk ∷ desks) differs = desk_elsewhere s u change desks (λ same. differs (ap suc same))
+
+pub as_many : (s : ℕ) (change : Desk → Desk) (desks : List Desk) → length (with_desk s change desks) ≡ length desks
+as_many s change [] = refl
+as_many zero change (desk ∷ desks) = refl
+as_many (suc s) change (desk ∷ desks) = ap suc (as_many s change desks)
+
+-- ---- one has something else to do
+
+pub doing_here : (s : ℕ) (doing : Doing) (desks : List Desk) → s < length desks → doing_at s (with_doing s doing desks) ≡ doing
+doing_here s doing [] within = absurd (omega (arith, within))
+doing_here zero doing (desk ∷ desks) within = refl
+doing_here (suc s) doing (desk ∷ desks) within = doing_here s doing desks (omega (arith, within))
+
+-- a desk that isn't there has nothing
+pub doing_mine : (s : ℕ) (doing : Doing) (desks : List Desk)
+    → (doing_at s (with_doing s doing desks) ≡ doing) ⊎ (doing_at s (with_doing s doing desks) ≡ Nothing)
+doing_mine s doing [] = inr refl
+doing_mine zero doing (desk ∷ desks) = inl refl
+doing_mine (suc s) doing (desk ∷ desks) = doing_mine s doing desks
+
+-- each has started what it had
+pub started_still : (s : ℕ) (doing : Doing) (desks : List Desk) → started_at s (with_doing s doing desks) ≡ started_at s desks
+started_still s doing [] = refl
+started_still zero doing (desk ∷ desks) = refl
+started_still (suc s) doing (desk ∷ desks) = started_still s doing desks
+
+-- what was given before is forgotten
+pub doing_twice : (s : ℕ) (first second : Doing) (desks : List Desk) → with_doing s second (with_doing s first desks) ≡ with_doing s second desks
+doing_twice s first second [] = refl
+doing_twice zero first second (desk ∷ desks) = refl
+doing_twice (suc s) first second (desk ∷ desks) = ap (λ ds. desk ∷ ds) (doing_twice s first second desks)
+
+pub doing_stays : (s : ℕ) (doing : Doing) (desks : List Desk) → doing_at s desks ≡ doing → with_doing s doing desks ≡ desks
+doing_stays s doing [] is = refl
+doing_stays zero doing (desk ∷ desks) is = ap (λ (d : Doing). record desk { doing = d } ∷ desks) (sym is)
+doing_stays (suc s) doing (desk ∷ desks) is = ap (λ ds. desk ∷ ds) (doing_stays s doing desks is)
+
+-- who has something under way has a desk
+pub busy_at_a_desk : (s : ℕ) (desks : List Desk) → (doing_at s desks ≢ Nothing) → s < length desks
+busy_at_a_desk s [] busy = absurd (busy refl)
+busy_at_a_desk zero (desk ∷ desks) busy = omega arith
+busy_at_a_desk (suc s) (desk ∷ desks) busy = let below = busy_at_a_desk s desks busy in omega arith
+
+pub changes_at_a_desk : (s : ℕ) {change : RowChange} (desks : List Desk) → doing_at s desks ≡ Changing change → s < length desks
+changes_at_a_desk s {change} desks is = busy_at_a_desk s desks (λ none. let e : Changing change ≡ Nothing = sym is ∙ none in cc)
+
+pub there : (s : ℕ) (desks : List Desk) → s < length desks → (desk : Desk) × (desk_at s desks ≡ Some desk)
+there s [] within = absurd (omega (arith, within))
+there zero (desk ∷ desks) within = (desk, refl)
+there (suc s) (desk ∷ desks) within = there s desks (omega (arith, within))
+
+-- ---- rooms
+
+-- who takes nothing back has the rooms that it had
+pub rooms_given : (desk : Desk) (doing : Doing) → HasRooms desk → is_undoing desk.doing ≡ false → HasRooms (record desk { doing = doing })
+rooms_given desk doing has not = record { record_room = has.record_room; whole = has.whole; anew = λ is. has.anew not }
+
+pub rooms_then : (s : ℕ) (doing : Doing) (desks : List Desk) → ((desk : Desk) → desk_at s desks ≡ Some desk → HasRooms desk)
+    → is_undoing (doing_at s desks) ≡ false → (desk : Desk) → desk_at s (with_doing s doing desks) ≡ Some desk → HasRooms desk
+rooms_then s doing [] rooms not desk at = rooms desk at
+rooms_then zero doing (first ∷ desks) rooms not desk at =
+    let same : record first { doing = doing } ≡ desk = (let e : Some (record first { doing = doing }) ≡ Some desk = at in cc) in
+    subst HasRooms same (rooms_given first doing (rooms first refl) not)
+rooms_then (suc s) doing (first ∷ desks) rooms not desk at = rooms_then s doing desks rooms not desk at
+
+pub quiet_undoes_not : (doing : Doing) → is_quiet_doing doing ≡ true → is_undoing doing ≡ false
+quiet_undoes_not Undoing is = absurd (cc)
+quiet_undoes_not other is = refl
+
+-- ---- one session's desk was this, and is that now
+
+pub record IsGiven (s : ℕ) (was now : Desk) (old new : List Desk) : Type 0 where
+  pub before : desk_at s old ≡ Some was
+  pub here : desk_at s new ≡ Some now
+  pub others : (t : ℕ) → t ≢ s → desk_at t new ≡ desk_at t old
+  pub started : now.started ≡ was.started
+  pub count : length new ≡ length old
+
+pub is_given : (s : ℕ) (change : Desk → Desk) {was : Desk} (desks : List Desk) → desk_at s desks ≡ Some was → (change was).started ≡ was.started
+    → IsGiven s was (change was) desks (with_desk s change desks)
+is_given s change desks at same = record {
+  before = at;
+  here = desk_here s change desks ∙ ap (option_map change) at;
+  others = λ t differs. desk_elsewhere s t change desks differs;
+  started = same;
+  count = as_many s change desks;
+}
+
+pub given_then : {s : ℕ} {first second third : Desk} {old mid new : List Desk} → IsGiven s first second old mid → IsGiven s second third mid new
+    → IsGiven s first third old new
+given_then one two = record {
+  before = one.before;
+  here = two.here;
+  others = λ t differs. two.others t differs ∙ one.others t differs;
+  started = two.started ∙ one.started;
+  count = two.count ∙ one.count;
+}
+
+-- it has something else to do
+pub given : (s : ℕ) (doing : Doing) {desk : Desk} (desks : List Desk) → desk_at s desks ≡ Some desk
+    → IsGiven s desk (record desk { doing = doing }) desks (with_doing s doing desks)
+given s doing desks at = is_given s (λ (desk : Desk). record desk { doing = doing }) desks at refl

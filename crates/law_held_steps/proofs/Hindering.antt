@@ -2,7 +2,7 @@
 -- a change's keys.
 use Rattle.std.proofs.Common.{◌≡◌, ◌≢◌, ◌⊎◌, ⊎_elim, ℕ, List, Option, Some, None, refl, rules}
 use Rattle.std.specs.Prelude.{IsSome}
-use Rattle.store_api.specs.declared.moves.Move.TheVariants.{At, End, Done, Latch, Full, TooDeep, Failed, NoMemory}
+use Rattle.store_api.specs.declared.moves.Move.TheVariants.{Done, Latch, Full, Failed, NoMemory}
 use Rattle.store_api.specs.declared.moves.Move.{Move}
 use Rattle.entries.specs.{Pairs.Pair, Index.Index, Index.Paged, Calls.IsPutOff, Calls.Delays}
 use Rattle.law_stored_rows.specs.Edits.{key_index}
@@ -25,16 +25,17 @@ never_delayed actor old new other none off = search rules
 module _ (s : ℕ) (old new : WorldState) (memory : IsInMemory old) where
   -- a call of an index
   pub call_lacks : IsAwaitedAlone s old → (index : ℕ) (why : Move) → Hinders s (old.indexes index) (new.indexes index) why → why ≡ NoMemory
-  call_lacks alone index Done off = absurd off
-  call_lacks alone index End off = absurd (untold (old.indexes index).pairs (memory.told.pairs index) off)
-  call_lacks alone index (At key value) off = absurd (untold (old.indexes index).pairs (memory.told.pairs index) off)
   call_lacks alone index (Latch by) off =
       absurd (⊎_elim (λ kept. kept.held.another (alone index by kept.held.awaited))
       (never_delayed s (old.indexes index) (new.indexes index) (Latch by) (memory.no_page_of_index index)) off)
-  call_lacks alone index (Full need free) off = absurd (never_put_off _ (old.indexes index) (new.indexes index) (memory.no_page_of_index index) off)
-  call_lacks alone index TooDeep off = absurd (never_put_off _ (old.indexes index) (new.indexes index) (memory.no_page_of_index index) off)
   call_lacks alone index NoMemory off = refl
-  call_lacks alone index other off = absurd (never_delayed s (old.indexes index) (new.indexes index) other (memory.no_page_of_index index) off)
+  call_lacks alone index other off =
+      absurd (search (
+        rules,
+        never_put_off,
+        never_delayed s (old.indexes index) (new.indexes index) other (memory.no_page_of_index index),
+        untold (old.indexes index).pairs (memory.told.pairs index),
+      ))
 
   -- room for an undo record
   pub room_lacks : (bytes : ℕ) (why : Move) → why ≢ Done → MakesRoom s bytes old new why → why ≡ NoMemory

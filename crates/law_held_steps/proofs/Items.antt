@@ -20,7 +20,7 @@ use Rattle.desks.specs.{declared.desk.Desk.Desk, declared.desk.Doing.TheVariants
 use Rattle.row_versions.specs.Versions.{Versions, Stays}
 use Rattle.law_logged_changes.proofs.Leaving.{rows_leave, all_left, more_grow}
 use Rattle.law_held_steps.proofs.AnyStep.{some_same, each, others_past, past_grows, quiet_step, held_after, waits_not, quiet_row}
-use Rattle.law_held_steps.proofs.{Putting.rests_coded, Putting.others_clean, Putting.others_quiet, Alone.none_lags, Desks.desk_elsewhere, Desks.as_many}
+use Rattle.law_held_steps.proofs.{Putting.rests_coded, Putting.others_clean, Putting.others_quiet, AnyStep.none_lags, AnyStep.desk_elsewhere, AnyStep.as_many}
 use Rattle.law_world_agreement.proofs.Entries.{started_agrees, ended_agrees, acked_agrees, signal_agrees, unentered_agrees}
 use Rattle.law_world_agreement.proofs.{Opening.set_here, Opening.set_other, Opening.opened_agrees, Opening.viewed_agrees, Ending.one_session_of}
 use Rattle.law_world_agreement.proofs.{Ending.committed_agrees, Ending.rolled_back_agrees, Joining.first_agrees, Joining.joined_agrees, Changing.created_agrees}

@@ -23,9 +23,8 @@ use Rattle.law_world_agreement.proofs.{Settled.slot_if, Settled.slot_at, Opening
 use Rattle.row_changes.proofs.{Sessions.one_session, Ids.one_work}
 use Rattle.law_logged_changes.specs.{GoingOn.StaysOpen, GoingOn.KeepsBeside, Logs.LogsAgree}
 use Rattle.law_held_steps.specs.{Making.LeavesLists, Leaving.is_searching}
-use Rattle.law_held_steps.proofs.{AnyStep.each, AnyStep.waits_not, AnyStep.past_grows, AnyStep.held_after, AnyStep.some_same, Alone.HoldsAlone, Alone.rows_by}
-use Rattle.law_held_steps.proofs.{Desks.IsGiven, Desks.given}
-use Rattle.law_held_steps.proofs.{Desks.there, Desks.started_still, Desks.rooms_then, Places.no_search}
+use Rattle.law_held_steps.proofs.{AnyStep.each, AnyStep.waits_not, AnyStep.past_grows, AnyStep.held_after, AnyStep.some_same, AnyStep.HoldsAlone}
+use Rattle.law_held_steps.proofs.{AnyStep.rows_by, AnyStep.IsGiven, AnyStep.given, AnyStep.there, AnyStep.started_still, AnyStep.rooms_then, Places.no_search}
 
 -- it has started or ended no item, and no commit of its own waits for its acknowledgement that didn't
 pub record GoesOnBy (s : ℕ) (old new : List Event) : Type 0 where

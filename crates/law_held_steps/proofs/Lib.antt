@@ -1,6 +1,4 @@
-pub mod Desks
 pub mod AnyStep
-pub mod Alone
 pub mod Made
 pub mod Keeping
 pub mod Showing
@@ -8,5 +6,4 @@ pub mod Items
 pub mod Putting
 pub mod Places
 pub mod Stepping
-pub mod Nearing
 pub mod Hindering

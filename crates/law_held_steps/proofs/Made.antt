@@ -5,27 +5,26 @@ use Rattle.std.specs.Prelude.{slice_get, IsSomeAnd}
 use Rattle.law_stored_rows.specs.{Fitting.IsKeyFor, Fitting.FitsTable, Tables.what_is_there}
 use Rattle.row_changes.specs.Rows.{primary_of, table_of, place_of, row_steps, IsChangingRowAlone, ChangesRowAlone}
 use Rattle.row_changes.specs.Reached.{Went, Done, Hindered, Reached}
-use Rattle.row_changes.proofs.Sessions.{same_versions}
 use Rattle.row_changes.specs.{declared.row_edit.RowEdit.TheVariants.Put, declared.row_edit.RowEdit.TheVariants.Remove, Edits.change_of, Edits.FitsEdit}
 use Rattle.row_changes.specs.{Edits.rows_put, declared.row_change.RowChange.TheVariants.Record, declared.row_change.RowChange.TheVariants.Keys}
 use Rattle.row_changes.specs.{declared.row_edit.RowEdit.RowEdit, declared.record_change.RecordChange.RecordChange, declared.keys_change.KeysChange.KeysChange}
 use Rattle.row_changes.specs.{declared.row_change.RowChange.RowChange}
+use Rattle.row_changes.proofs.{Sessions.same_versions, Alone.alone_rows, Alone.alone_over, Alone.keys_alone}
 use Rattle.law_past_agreement.specs.Order.{created}
-use Rattle.desks.specs.Desks.{Store, doing_at, with_doing, is_undoing}
-use Rattle.desks.specs.{Holding.IsHeld, Holding.SearchHeld, Holding.AreFew, Holding.IsLastOf, Holding.IsLastIfTold, declared.desk.Desk.Desk}
-use Rattle.desks.specs.{declared.desk.Doing.Doing, declared.desk.Doing.TheVariants.Nothing, declared.desk.Doing.TheVariants.Changing, Undoing.keys_if}
-use Rattle.row_changes.proofs.Alone.{alone_rows, alone_over, keys_alone}
+use Rattle.desks.specs.Holding.{IsHeld, SearchHeld, AreFew, IsLastOf, IsLastIfTold}
+use Rattle.desks.specs.{Desks.Store, Desks.doing_at, Desks.with_doing, Desks.is_undoing, declared.desk.Desk.Desk, declared.desk.Doing.Doing}
+use Rattle.desks.specs.{declared.desk.Doing.TheVariants.Nothing, declared.desk.Doing.TheVariants.Changing, Undoing.keys_if}
 use Rattle.law_held_steps.proofs.Keeping.{open_work, open_joined, goes_same, goes_changed, leaves_lists, last_of_kept, keeps}
-use Rattle.law_held_steps.proofs.{Desks.given, Desks.there, Desks.rooms_then, Desks.changes_at_a_desk, AnyStep.each, Alone.HoldsAlone}
-use Rattle.law_held_steps.proofs.{Putting.rests_coded, Putting.held_given, Putting.changing_rows, Putting.alone_if}
+use Rattle.law_held_steps.proofs.AnyStep.{given, there, rooms_then, changes_at_a_desk, each, HoldsAlone}
+use Rattle.law_held_steps.proofs.Putting.{rests_coded, held_given, changing_rows, alone_if}
 use Rattle.law_found_rows.proofs.FittingChanges.{tables_storable}
 use Rattle.law_world_agreement.specs.Agreement.{Agrees}
 use Rattle.law_logged_changes.proofs.{Listed.begun as begun_row, Entering.goes_on, Entering.place_there, Logging.change_logged, Logging.row_all}
 use Rattle.inno_types.specs.{declared.value.Schema.Schema, declared.value.Value.Value}
 use Rattle.world.specs.{State.WorldState, Undoing.read_into, Told.IsTold}
 use Rattle.shared_lists.specs.{Fitting.FitsWell, Fitting.FitsThen, Steps.rows_of_change}
-use Rattle.law_held_steps.specs.{Making.IsEditable, Making.IsKeyOfEdit, Making.begun, Leaving.is_searching, Making.doing_after, Making.Comes}
-use Rattle.law_held_steps.specs.{Making.MakesChange}
+use Rattle.law_held_steps.specs.Making.{IsEditable, IsKeyOfEdit, begun, doing_after, Comes, MakesChange}
+use Rattle.law_held_steps.specs.Leaving.{is_searching}
 use Rattle.inno_model.specs.{Past.IsOpen, Past.own, declared.event.Event.TheVariants.Changed}
 use Rattle.row_versions.specs.Chains.{Chains, versions_at, is_same_place, Pushes}
 use Rattle.row_versions.specs.{declared.place.Place.Place, declared.version.Version.Version}

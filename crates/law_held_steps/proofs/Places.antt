@@ -3,17 +3,16 @@ use Rattle.std.proofs.Common.{◌≡◌, ◌≢◌, ◌⊎◌, ⊎_elim, inr, �
 use Rattle.std.proofs.Common.{arith}
 use Rattle.std.proofs.{lemmas.Bool.Decides.eqb_tells, lemmas.Bool.cases_eq}
 use Rattle.std.specs.Prelude.{◌==◌, if◌then◌else◌, slice_get, List}
-use Rattle.law_held_steps.proofs.AnyStep.{each, quiet_step, does_beside, held_beside, rows_stay}
-use Rattle.law_held_steps.proofs.Desks.{desk_elsewhere, started_still, doing_mine, as_many, doing_stays, rooms_then, quiet_undoes_not}
+use Rattle.law_held_steps.proofs.AnyStep.{each, quiet_step, does_beside, held_beside, rows_stay, desk_elsewhere, started_still, doing_mine, as_many}
+use Rattle.law_held_steps.proofs.AnyStep.{doing_stays, rooms_then, quiet_undoes_not}
 use Rattle.law_logged_changes.proofs.Leaving.{logs_beside, own_beside, agrees_beside, left_told, rows_leave, all_left}
-use Rattle.desks.specs.Desks.{desk_at, doing_at, with_doing, is_quiet_doing, Store}
-use Rattle.desks.specs.Holding.{SearchHeld, IsHeld}
+use Rattle.desks.specs.{Desks.desk_at, Desks.doing_at, Desks.with_doing, Desks.is_quiet_doing, Desks.Store, Holding.SearchHeld, Holding.IsHeld}
 use Rattle.desks.specs.{declared.desk.Desk.Desk, declared.desk.Doing.Doing, declared.desk.Doing.TheVariants.Nothing, declared.desk.Doing.TheVariants.Searching}
 use Rattle.law_held_steps.specs.Leaving.{MovesPlaces, LeavesTable, is_searching}
 use Rattle.row_versions.specs.{Versions.Versions, Versions.Stays, Chains.Chains}
 use Rattle.row_changes.proofs.Sessions.{same_pairs, same_versions}
 use Rattle.world.proofs.Stores.{store_stays, store_goes_on}
-use Rattle.row_search.specs.{Steps.OnlyMoves}
+use Rattle.row_search.specs.Steps.{OnlyMoves}
 use Rattle.entries.specs.{Pairs.Pair, Index.AreKept, Calls.Leaves, Calls.released}
 use Rattle.world.specs.{State.WorldState, State.index_of, Told.IsTold, Told.LeavesRows, Indexes.Calls, Undoing.IsUnchanged}
 use Rattle.inno_types.specs.declared.value.Schema.{Schema}

@@ -9,7 +9,7 @@ use Rattle.world.specs.State.{WorldState, Logged, Session, Work, HasWork, IsSess
 use Rattle.world.specs.{Undoing.read_into, Undoing.ReadsLast, Undoing.newest, Undoing.IsRead, Undoing.HoldsRecord, Undoing.IsCutBack, Told.IsTold}
 use Rattle.world.specs.{Told.pairs_of, Told.TellsTogether, Told.LeavesRows, declared.undo_room.UndoRoom.UndoRoom, Memory.IsInMemory, Sessions.undone_added}
 use Rattle.desks.specs.Holding.{IsLast, IsLastIfTold, IsGoingBack, SearchHeld, IsHeld}
-use Rattle.law_held_steps.proofs.Alone.{HoldsAlone, HoldsAloneAt, held_alone, coded_all, rows_by}
+use Rattle.law_held_steps.proofs.AnyStep.{HoldsAlone, HoldsAloneAt, held_alone, coded_all, rows_by}
 use Rattle.desks.specs.Undoing.{left_at, keys_if, undo_left_in, most_versions, left_in}
 use Rattle.desks.specs.declared.desk.Doing.TheVariants.{Nothing, Changing, Lagging, Undoing}
 use Rattle.desks.specs.Desks.{desk_at, doing_in, doing_at, started_in, is_quiet_doing, is_undoing, with_read, with_room, HasRooms, with_doing, Store}
@@ -19,13 +19,13 @@ use Rattle.law_logged_changes.proofs.Leaving.{cut_left, cut_again, has_rows_left
 use Rattle.law_logged_changes.proofs.Beginning.{tells_of_it, begins_settled, begins_lagging}
 use Rattle.law_logged_changes.proofs.{TakenBack.taken as taken_back, TakenBack.to_cut_by_history, Cutting.rows_as_cut, Cutting.has_cut}
 use Rattle.law_held_steps.proofs.AnyStep.{some_same, last_left, row_left, held_beside, last_log, waits_not, held_after}
-use Rattle.law_held_steps.proofs.{Desks.IsGiven, Desks.is_given, Desks.given_then, Keeping.open_work, Showing.settings_same, Showing.shows_now}
+use Rattle.law_held_steps.proofs.{AnyStep.IsGiven, AnyStep.is_given, AnyStep.given_then, Keeping.open_work, Showing.settings_same, Showing.shows_now}
 use Rattle.undo_apply.specs.Stages.{Stops, StopsAt, IsPuttingBack, GoesOn, IsHindered, IsDone, PutsBack, StageHolds, WalksOn}
 use Rattle.undo_apply.specs.Standing.{versions_before, HasWalked, IsTakenBack, said_but}
 use Rattle.undo_apply.specs.{declared.work_room.Stage.Stage, Rooms.IsWhole, Rooms.steps_left, declared.work_room.WorkRoom.WorkRoom}
 use Rattle.undo_apply.specs.{declared.work_room.Stage.TheVariants.Walk, declared.work_room.Stage.TheVariants.Find, Told.rows_of}
 use Rattle.undo_apply.proofs.{Taken.as_all, Hindrances.never_hindered, Telling.leaves_told, Columns.few_keys}
-use Rattle.law_held_steps.specs.Undoing.{HasPutBack, HasLast, IsReady, TakesBackIn}
+use Rattle.law_held_steps.specs.Making.{HasPutBack, HasLast, IsReady, TakesBackIn}
 use Rattle.row_versions.specs.Chains.{Chains, older, versions_at, with_versions, is_same_place, Pops}
 use Rattle.row_versions.specs.{declared.place.Place.Place, declared.version.Version.Version, declared.kept.Kept.Kept, Versions.Stays}
 use Rattle.law_past_agreement.specs.{Order.IsOfRow, Order.IsUndoable, Order.MayCome, Rows.place_in, Rows.is_at}

@@ -7,8 +7,8 @@ use Rattle.std.proofs.Common.{None, arith}
 use Rattle.std.proofs.{lemmas.List.length-set, lemmas.List.map-set, lemmas.List.set-get_or, lemmas.Bool.true≢false}
 use Rattle.std.specs.Prelude.{slice_get, slice_set, slice_index_or}
 use Rattle.law_held_steps.specs.Making.{given_up, LeavesLists, AddsNothing, IsNearer, IsEntered}
-use Rattle.law_held_steps.specs.{Undoing.settings_of, Begun.IsBegun, Leaving.MovesPlaces, Leaving.is_searching, Begun.IsSearchOf, Making.begun}
-use Rattle.law_held_steps.proofs.Desks.{quiet_undoes_not, doing_here, desk_elsewhere, busy_at_a_desk, given, there}
+use Rattle.law_held_steps.specs.{Making.settings_of, Begun.IsBegun, Leaving.MovesPlaces, Leaving.is_searching, Begun.IsSearchOf, Making.begun}
+use Rattle.law_held_steps.proofs.AnyStep.{quiet_undoes_not, doing_here, desk_elsewhere, busy_at_a_desk, given, there}
 use Rattle.law_held_steps.proofs.{Keeping.same_settings, AnyStep.some_same, AnyStep.each}
 use Rattle.inno_types.specs.declared.value.Schema.{Schema}
 use Rattle.row_versions.specs.Versions.{Versions}

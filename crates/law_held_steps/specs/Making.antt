@@ -2,17 +2,21 @@
 use Rattle.std.specs.Prelude.{◌≡◌, ℕ, ◌+◌, ◌<◌, ◌∷◌, map, slice_get, Some, None, List, length}
 use Rattle.row_changes.specs.Reached.{Reached, Went, Done, Hindered}
 use Rattle.row_changes.specs.Rows.{row_steps, table_of, row_after, primary_of}
+use Rattle.row_changes.specs.declared.row_change.RowChange.TheVariants.{Record, Keys}
+use Rattle.row_changes.specs.{declared.row_change.RowChange.RowChange, declared.record_change.RecordStage.TheVariants.Enter, declared.row_edit.RowEdit.RowEdit}
 use Rattle.desks.specs.declared.desk.Doing.TheVariants.{Nothing, Changing, Lagging}
-use Rattle.inno_db.specs.{declared.change.Change.Change}
-use Rattle.inno_model.specs.{declared.event.Event.TheVariants.Changed}
-use Rattle.world.specs.{State.WorldState, State.Session}
-use Rattle.row_changes.specs.{declared.row_change.RowChange.RowChange, declared.row_change.RowChange.TheVariants.Record}
-use Rattle.row_changes.specs.{declared.row_change.RowChange.TheVariants.Keys, declared.record_change.RecordStage.TheVariants.Enter}
-use Rattle.row_changes.specs.{declared.row_edit.RowEdit.RowEdit}
-use Rattle.shared_lists.specs.{Steps.rows_of_change}
-use Rattle.desks.specs.{Desks.Store, Desks.with_doing, declared.desk.Doing.Doing, Shown.change_in, Undoing.keys_if, Holding.IsHeld}
+use Rattle.desks.specs.{Desks.Store, Desks.with_doing, declared.desk.Doing.Doing, Shown.change_in, Undoing.keys_if, Holding.IsHeld, Holding.IsLast}
+use Rattle.world.specs.State.{WorldState, Session, Logged}
+use Rattle.inno_db.specs.declared.change.Change.{Change}
+use Rattle.inno_model.specs.declared.event.Event.TheVariants.{Changed}
+use Rattle.shared_lists.specs.{Steps.rows_of_change, Steps.TakesBack, State.Lists, Answers.Undone}
 use Rattle.inno_types.specs.{declared.value.Column.Column, declared.value.Schema.Schema}
-use Rattle.key_codec.specs.{Keys.IsOfKind, Keys.key_code}
+use Rattle.key_codec.specs.Keys.{IsOfKind, key_code}
+use Rattle.store_api.specs.{declared.answers.Undo.Undo, declared.moves.Move.Move}
+use Rattle.row_versions.specs.{declared.place.Place.Place, Chains.Chains}
+use Rattle.law_stored_rows.specs.Tables.{Said}
+use Rattle.undo_apply.specs.{declared.work_room.WorkRoom.WorkRoom, Stages.IsPuttingBack, Stages.PutsBack}
+use Rattle.sql_history.specs.Settings.{Setting}
 
 -- what is left of a change that is given up: one that the history tells is to be taken back; one that it doesn't tell was
 -- never made
@@ -92,3 +96,33 @@ IsKeyOfEdit schema edit key = (column : Column) → slice_get schema.columns sch
 -- a change that has done nothing yet
 abbrev pub begun : ℕ → RowEdit → List ℕ → RowChange
 begun table edit key = Record (record { table = table; edit = edit; key = key; stage = Enter }) key (row_after edit)
+
+-- ---- Which sessions may take their newest change back, what the world answers them, and what callers see of it.
+
+-- the session's newest change is one of a row, and its undo record is the newest of its log
+abbrev pub HasLast : ℕ → WorldState → Type 0
+HasLast s state = (logged : Logged) × (place : Place) × IsLast state s logged place
+
+-- it has nothing under way, or a change that was given up
+abbrev pub IsReady : Doing → Type 0
+IsReady Nothing = Unit {0}
+IsReady Lagging = Unit {0}
+IsReady other = ⊥
+
+-- what a step of putting back answered, whichever rows and place there were, and whatever keys said beside it
+abbrev pub HasPutBack : ℕ → Undo → WorkRoom → WorkRoom → WorldState → WorldState → Move → Type 0
+HasPutBack s undo room next old new answer =
+    (chains : Chains) (beside : Said) (place : Place) → IsPuttingBack chains beside place undo room old
+    → PutsBack chains beside place s undo room next old new answer
+
+-- ---- what callers see
+
+-- One step, by its answer. What sessions have set and the count of rows are as they were.
+pub record TakesBackIn (s keep : ℕ) (old new : Lists) (answer : Undone) : Type 0 where
+  pub takes : TakesBack s keep old.state new.state answer
+  pub settings : new.settings ≡ old.settings
+  pub rows : new.rows ≡ old.rows
+
+-- what its sessions have set
+abbrev pub settings_of : List Session → List Setting
+settings_of sessions = map (λ (session : Session). session.setting) sessions

@@ -15,16 +15,15 @@ use Rattle.shared_lists.specs.{State.Lists, State.task_of, State.writer_without,
 use Rattle.desks.specs.Desks.{Store, desk_at, doing_at, started_in, with_desk, with_doing, with_start, doing_in}
 use Rattle.desks.specs.declared.desk.Doing.TheVariants.{Nothing, Changing}
 use Rattle.desks.specs.{declared.desk.Desk.Desk, Shown.lists_of, Holding.IsHeld, declared.desk.Doing.Doing}
-use Rattle.row_changes.specs.Rows.{IsChangingRow, ChangesRow, table_of}
-use Rattle.row_changes.specs.{Records.IsListed, declared.row_change.RowChange.RowChange, declared.row_change.RowChange.TheVariants.Record}
-use Rattle.row_changes.specs.{declared.row_change.RowChange.TheVariants.Keys, Reached.Reached, Awaited.AwaitsIn}
-use Rattle.row_changes.specs.Awaited.{IsOfTable, IsAwaitedAlone}
+use Rattle.row_changes.specs.{Rows.IsChangingRow, Rows.ChangesRow, Rows.table_of, Records.IsListed, declared.row_change.RowChange.RowChange}
+use Rattle.row_changes.specs.{declared.row_change.RowChange.TheVariants.Record, declared.row_change.RowChange.TheVariants.Keys, Reached.Reached}
+use Rattle.row_changes.specs.{Awaited.AwaitsIn, Awaited.IsOfTable, Awaited.IsAwaitedAlone}
 use Rattle.inno_types.specs.{declared.reply.Item.Item, declared.value.Schema.Schema}
 use Rattle.sql_history.specs.Settings.{Setting, at_first}
 use Rattle.store_api.specs.declared.answers.Standing.{Standing}
 use Rattle.law_logged_changes.proofs.Listed.{listed_of}
 use Rattle.law_world_agreement.specs.Agreement.{sight_of, work_at}
-use Rattle.law_held_steps.proofs.{Showing.rests_of, Showing.setting_at, Keeping.open_work, AnyStep.some_same, Desks.as_many, Desks.desk_elsewhere}
+use Rattle.law_held_steps.proofs.{Showing.rests_of, Showing.setting_at, Keeping.open_work, AnyStep.some_same, AnyStep.as_many, AnyStep.desk_elsewhere}
 use Rattle.law_world_agreement.proofs.{Opening.idle_of, Ending.work_of}
 use Rattle.desks.proofs.Showing.{desk_read, set_at}
 use Rattle.entries.specs.Index.{Index}

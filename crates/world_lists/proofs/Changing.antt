@@ -4,58 +4,50 @@ use Rattle.store_api.specs.declared.stepped.Stepped.TheVariants as stepped
 use Rattle.shared_lists.specs.declared.answers.ChangePart.TheVariants as part
 use Rattle.std.proofs.Common.{◌≡◌, ℕ, zero, suc, ◌+◌, ◌<◌, ◌^◌, false, true, List, ◌∷◌, length, Option, Some, refl, sym, ap, subst, ◌∙◌, arith, [], ◌≢◌, ◌⊎◌}
 use Rattle.std.proofs.Common.{inl, inr, ⊎_elim, Bool, None}
-use Rattle.std.specs.Prelude.{slice_get, slice_index_or, slice_set, get_or, is_some}
+use Rattle.std.proofs.lemmas.Bool.{false≢true, cases_eq}
+use Rattle.std.specs.{Prelude.slice_get, Prelude.slice_index_or, Prelude.slice_set, Prelude.get_or, Prelude.is_some, List.list_any}
 use Rattle.row_versions.specs.Chains.{Chains, versions_at, newest}
-use Rattle.law_stored_rows.specs.Tables.{Said, what_is_there, in_table}
+use Rattle.row_versions.specs.{declared.place.Place.Place, declared.kept.Kept.Kept, declared.version.Version.Version}
+use Rattle.law_stored_rows.specs.{Tables.Said, Tables.what_is_there, Tables.in_table, Records.IsRecordWith, Records.kept_of, Records.row_shown}
+use Rattle.law_stored_rows.specs.{Edits.clustered_index}
 use Rattle.key_codec.specs.Keys.{IsOfKind, HasKey, key_code}
-use Rattle.shared_lists.specs.Tasks.{Task, Idle, asked, left_by, is_changing, steps_left}
-use Rattle.shared_lists.specs.State.{Lists, Turns, task_of}
+use Rattle.shared_lists.specs.{Tasks.Task, Tasks.Idle, Tasks.asked, Tasks.left_by, Tasks.is_changing, Tasks.steps_left, State.Lists, State.Turns, State.task_of}
+use Rattle.shared_lists.specs.{Fitting.FitsWell, Fitting.RemovesOne, Answers.Changed, Steps.Changes, Steps.rows_entered}
 use Rattle.desks.specs.declared.desk.Doing.TheVariants.{Nothing, Searching, Changing, Lagging, Undoing}
 use Rattle.desks.specs.Desks.{desk_at, doing_at, with_doing, doing_in, Store}
+use Rattle.desks.specs.{declared.desk.Desk.Desk, declared.desk.Doing.Doing, Shown.lists_of, Shown.shown, Undoing.left_in, Holding.IsHeld}
 use Rattle.desks.proofs.Showing.{task_is, desk_read, given_at}
 use Rattle.law_held_steps.proofs.Showing.{begun_turns, begun_task, went_shown, entered_shown, done_shown, given_up_shown, rows_shown, left_shown}
-use Rattle.law_held_steps.proofs.Made.{can_be_keyed, begins, change_made}
+use Rattle.law_held_steps.proofs.{Made.can_be_keyed, Made.begins, Made.change_made, Hindering.call_lacks, Hindering.room_lacks, Hindering.keys_lack}
+use Rattle.law_held_steps.proofs.{Putting.changing_rows, Putting.alone_if, AnyStep.doing_here, AnyStep.changes_at_a_desk, Places.held_left}
 use Rattle.world_lists.specs.Parts.{StepsChange, StepsAtDesk, HasChange, IsThereToRemove, RemovesRow, MayGoOn, LeavesIfOver, doing_now, is_told, answer_for}
-use Rattle.inno_model.specs.Past.{IsOpen, own, commits, committed}
-use Rattle.row_changes.specs.Reached.{Went, Done, Hindered, Reached}
-use Rattle.row_changes.specs.Rows.{IsChangingRow, ChangesRow, table_of, primary_of}
-use Rattle.row_changes.specs.Edits.{change_of, FitsEdit, HasNoRow, LacksRow}
-use Rattle.row_changes.specs.Records.{IsTable, IsSpoiled, HindersRecord}
+use Rattle.world_lists.specs.Between.{IsKept, AwaitsWriter}
+use Rattle.inno_model.specs.{Past.IsOpen, Past.own, Past.commits, Past.committed, declared.event.Event.Event}
+use Rattle.row_changes.specs.{Reached.Went, Reached.Done, Reached.Hindered, Reached.Reached, Rows.IsChangingRow, Rows.ChangesRow, Rows.table_of}
+use Rattle.row_changes.specs.{Rows.primary_of, Edits.change_of, Edits.FitsEdit, Edits.HasNoRow, Edits.LacksRow, Records.IsTable, Records.IsSpoiled}
+use Rattle.row_changes.specs.{Records.HindersRecord, declared.row_change.RowChange.TheVariants.Record, declared.row_change.RowChange.TheVariants.Keys}
+use Rattle.row_changes.specs.{declared.row_edit.RowEdit.TheVariants.Put, declared.row_edit.RowEdit.TheVariants.Remove, Awaited.AwaitsIn, Awaited.IsAwaitedAlone}
+use Rattle.row_changes.specs.{declared.row_edit.RowEdit.RowEdit, declared.row_change.RowChange.RowChange, Told.HasRowsAt}
+use Rattle.row_changes.specs.{declared.record_change.RecordChange.RecordChange}
 use Rattle.law_held_steps.specs.Making.{doing_after, made_to, Comes, LeavesLists, MakesChange, IsEditable, IsKeyOfEdit, begun}
 use Rattle.law_held_steps.specs.Leaving.{is_searching, MovesPlaces, LeavesTable}
 use Rattle.world_lists.proofs.Calls.{kept_beside, awaits_alone, same_no_more, change_awaits, only_mine, rests, table_by, past_here, at_rest, at_desk}
 use Rattle.world_lists.proofs.Calls.{writer_now}
-use Rattle.law_past_agreement.specs.Rows.{is_at, row_opened, row_seen}
-use Rattle.law_stored_rows.specs.Records.{IsRecordWith, kept_of, row_shown}
-use Rattle.law_held_steps.proofs.Hindering.{call_lacks, room_lacks, keys_lack}
-use Rattle.std.proofs.{lemmas.Bool.false≢true, lemmas.Bool.cases_eq}
-use Rattle.inno_db.specs.{declared.change.Change.Change}
-use Rattle.row_versions.specs.{declared.place.Place.Place, declared.kept.Kept.Kept, declared.version.Version.Version}
-use Rattle.law_past_agreement.specs.{Order.created}
+use Rattle.law_past_agreement.specs.{Rows.is_at, Rows.row_opened, Rows.row_seen, Order.created}
+use Rattle.inno_db.specs.declared.change.Change.{Change}
 use Rattle.row_changes.proofs.{Changing.lacks_memory, Sessions.one_found, Telling.tells, Pushed.key_at}
-use Rattle.law_logged_changes.proofs.{Leaving.left_told}
-use Rattle.shared_lists.specs.{Fitting.FitsWell, Fitting.RemovesOne, Answers.Changed, Steps.Changes, Steps.rows_entered}
-use Rattle.desks.specs.{declared.desk.Desk.Desk, declared.desk.Doing.Doing, Shown.lists_of, Shown.shown, Undoing.left_in, Holding.IsHeld}
-use Rattle.law_held_steps.proofs.{Putting.changing_rows, Putting.alone_if, Desks.doing_here, Desks.changes_at_a_desk, Places.held_left}
-use Rattle.world_lists.specs.{Between.IsKept, Between.AwaitsWriter}
+use Rattle.law_logged_changes.proofs.Leaving.{left_told}
 use Rattle.inno_types.specs.{declared.value.Column.Column, declared.value.Schema.Schema, declared.value.Value.Value}
-use Rattle.inno_model.specs.{declared.event.Event.Event}
-use Rattle.store_api.specs.{declared.moves.Move.Move, declared.moves.Move.TheVariants.NoMemory, declared.moves.Move.TheVariants.End}
-use Rattle.store_api.specs.{declared.answers.Version.Version as Coded}
+use Rattle.store_api.specs.declared.moves.Move.TheVariants.{NoMemory, End}
+use Rattle.store_api.specs.{declared.moves.Move.Move, declared.answers.Version.Version as Coded}
 use Rattle.world.specs.{State.WorldState, Told.IsTold, Told.pairs_of, Memory.IsInMemory}
-use Rattle.row_changes.specs.{declared.row_change.RowChange.TheVariants.Record, declared.row_change.RowChange.TheVariants.Keys}
-use Rattle.row_changes.specs.{declared.row_edit.RowEdit.TheVariants.Put, declared.row_edit.RowEdit.TheVariants.Remove, Awaited.AwaitsIn}
-use Rattle.row_changes.specs.{Awaited.IsAwaitedAlone, declared.row_edit.RowEdit.RowEdit, declared.row_change.RowChange.RowChange, Told.HasRowsAt}
-use Rattle.row_changes.specs.{declared.record_change.RecordChange.RecordChange}
-use Rattle.std.specs.{List.list_any}
-use Rattle.row_codec.specs.{Rows.IsRecordOf}
-use Rattle.entries.specs.{Pairs.value_of}
-use Rattle.law_past_agreement.proofs.{Rows.row_at-append}
-use Rattle.law_stored_rows.specs.{Edits.clustered_index}
-use Rattle.law_stored_rows.proofs.{RowRecords.record_read}
-use Rattle.law_world_agreement.specs.{Agreement.Agrees}
-use Rattle.law_world_agreement.proofs.{Readers.seen_newest}
-use Rattle.law_logged_changes.specs.{Logs.IsAloneAt}
+use Rattle.row_codec.specs.Rows.{IsRecordOf}
+use Rattle.entries.specs.Pairs.{value_of}
+use Rattle.law_past_agreement.proofs.Rows.{row_at-append}
+use Rattle.law_stored_rows.proofs.RowRecords.{record_read}
+use Rattle.law_world_agreement.specs.Agreement.{Agrees}
+use Rattle.law_world_agreement.proofs.Readers.{seen_newest}
+use Rattle.law_logged_changes.specs.Logs.{IsAloneAt}
 
 -- ---- Nothing but want of memory hinders a step in memory where nobody else is awaited: the record is coded, and there where it is to be removed.
 

@@ -24,7 +24,7 @@ use Rattle.desks.specs.{Shown.lists_of, Shown.shown, Shown.task_at, declared.des
 use Rattle.row_changes.specs.{Records.IsListed, Records.id_for, Records.txns_with_id, Entering.GivesId}
 use Rattle.law_past_agreement.specs.Order.{MayCome}
 use Rattle.store_api.specs.declared.answers.Standing.{Standing}
-use Rattle.law_held_steps.specs.Undoing.{settings_of}
+use Rattle.law_held_steps.specs.Making.{settings_of}
 use Rattle.world_lists.specs.Between.{IsKept, table_at}
 use Rattle.inno_types.specs.{declared.lock.Level.Level, declared.reply.Item.Item, declared.reply.Reply.Reply, declared.stmt.Stmt.Stmt}
 use Rattle.inno_types.specs.{declared.value.Schema.Schema}

@@ -16,11 +16,11 @@ use Rattle.shared_lists.specs.State.{State, Lists, Places, task_of, places_befor
 use Rattle.shared_lists.specs.{declared.answers.Reading.Reading, Answers.Searched, Steps.AreFoundBy, Steps.Searches, Steps.AreNewestRows}
 use Rattle.desks.proofs.Showing.{task_is, places_are}
 use Rattle.law_held_steps.specs.Begun.{ComesAnew, IsTakenUp, MayStep, IsSearchOf, plan_of}
-use Rattle.law_held_steps.specs.{Begun.HasView, Begun.IsBegun, Begun.IsNewSearch, Leaving.MovesPlaces, Newest.plan_read, Newest.TellsTable, Newest.AreRead}
+use Rattle.law_held_steps.specs.{Begun.HasView, Begun.IsBegun, Begun.IsNewSearch, Leaving.MovesPlaces, Begun.plan_read, Begun.TellsTable, Begun.AreRead}
 use Rattle.law_held_steps.proofs.Stepping.{has_view, begun, steps, went, nears, ended, waited, given_up, tells_held, are_newest}
 use Rattle.law_held_steps.proofs.Showing.{turns_now, turns_to_search, search_shown, has_desk, searches_on, seen_stay}
 use Rattle.law_held_steps.proofs.Places.{moves_in_one, leaving_moves, moves_then, held_idle}
-use Rattle.law_held_steps.proofs.{Keeping.open_joined, Desks.doing_twice, Desks.doing_here}
+use Rattle.law_held_steps.proofs.{Keeping.open_joined, AnyStep.doing_twice, AnyStep.doing_here}
 use Rattle.world_lists.specs.Between.{IsKept}
 use Rattle.read_view.specs.Sight.{Sight as ReadSight}
 use Rattle.inno_types.specs.{Order.IsBelow, declared.value.Value.Value, declared.value.Schema.Schema}

@@ -20,7 +20,7 @@ use Rattle.desks.proofs.Showing.{task_is, desk_read, set_at}
 use Rattle.law_held_steps.proofs.Putting.{mine, asks_for, goes_back, going, held_on, rest_beside, goes_or_is_done, held_begun, may_write, desk as own_desk}
 use Rattle.law_held_steps.proofs.Putting.{undo as own_undo, room as own_room, own_number, has_logged, may_add, held_then, ready_if, shows_begun, shows_went}
 use Rattle.law_held_steps.proofs.Putting.{shows_undone}
-use Rattle.law_held_steps.proofs.{Desks.desk_here, Desks.doing_mine, Places.held_left, Places.moves_told, Showing.left_shown, AnyStep.some_same}
+use Rattle.law_held_steps.proofs.{AnyStep.desk_here, AnyStep.doing_mine, Places.held_left, Places.moves_told, Showing.left_shown, AnyStep.some_same}
 use Rattle.world_lists.specs.{Between.IsKept, Between.AwaitsOnly, Between.table_in, Between.table_at, Parts.DropsNewest}
 use Rattle.world_lists.proofs.Calls.{only_mine, only_then, only_left, awaits_none, awaits_of_nobody, writer_of_only, rests, past_here, at_desk, with_both}
 use Rattle.world_lists.proofs.Changing.{HasTable}
@@ -29,7 +29,7 @@ use Rattle.store_api.specs.{declared.moves.Move.Move, declared.moves.Move.TheVar
 use Rattle.row_versions.specs.{Chains.Chains, declared.place.Place.Place}
 use Rattle.undo_apply.specs.{declared.work_room.WorkRoom.WorkRoom, Stages.IsPuttingBack}
 use Rattle.shared_lists.specs.{Tasks.MayTakeBack, State.Lists, State.task_of}
-use Rattle.law_held_steps.specs.{Leaving.MovesPlaces, Leaving.LeavesTable, Leaving.is_searching, Undoing.IsReady, Undoing.HasPutBack, Undoing.TakesBackIn}
+use Rattle.law_held_steps.specs.{Leaving.MovesPlaces, Leaving.LeavesTable, Leaving.is_searching, Making.IsReady, Making.HasPutBack, Making.TakesBackIn}
 
 ready_rests : (undone : ℕ) (doing : Doing) → IsReady doing → table_in undone doing ≡ None
 ready_rests undone Nothing ready = refl

@@ -8,7 +8,7 @@ ghost use Rattle.desks.specs.Desks.{is_quiet};
 ghost use Rattle.desks.specs.Holding.{IsOwnView};
 ghost use Rattle.law_held_steps.specs.Begun.{HasView};
 ghost use Rattle.law_held_steps.specs.Leaving.{MovesPlaces};
-ghost use Rattle.law_held_steps.specs.Newest.{TellsTable, AreRead};
+ghost use Rattle.law_held_steps.specs.Begun.{TellsTable, AreRead};
 ghost use Rattle.law_held_steps.specs.Begun.{MayStep, ComesAnew};
 
 use desks::{Desk, Doing};

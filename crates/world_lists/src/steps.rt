@@ -281,7 +281,7 @@ impl<W: EngineWorld> WorldLists<W> {
     ghost use Rattle.law_past_agreement.specs.Order.{MayCome};
     ghost use Rattle.shared_lists.specs.Tasks.{Undoing, MayTakeBack};
     ghost use Rattle.shared_lists.specs.State.{task_of};
-    ghost use Rattle.law_held_steps.specs.Undoing.{TakesBackIn};
+    ghost use Rattle.law_held_steps.specs.Making.{TakesBackIn};
 
     /// Reads the undo record of the session's newest change.
     fn read_record(&mut self, session: u32) -> Undone
@@ -323,7 +323,7 @@ ghost use Rattle.std.specs.Prelude.{◌≡◌, ◌≢◌, ◌-◌, ◌<◌, ◌^
 ghost use Rattle.txn_table.specs.Txns.{is_there, id_at};
 ghost use Rattle.world.specs.Sessions.{identified};
 ghost use Rattle.shared_lists.specs.State.{writer_without};
-ghost use Rattle.law_held_steps.specs.Newest.{plan_read};
+ghost use Rattle.law_held_steps.specs.Begun.{plan_read};
 
 /// Gives the transaction its id, where it has none.
 fn give_first_id<W: EngineWorld>(world: &mut W, txn: u64, id: u64)

@@ -15,7 +15,7 @@ ghost use Rattle.desks.specs.Desks.{doing_at};
 ghost use Rattle.desks.specs.Shown.{lists_of};
 ghost use Rattle.law_held_steps.specs.Leaving.{MovesPlaces, LeavesTable};
 ghost use Rattle.law_held_steps.specs.Making.{given_up};
-ghost use Rattle.law_held_steps.specs.Undoing.{TakesBackIn};
+ghost use Rattle.law_held_steps.specs.Making.{TakesBackIn};
 ghost use Rattle.row_changes.specs.Reached as reached;
 ghost use Rattle.world_lists.specs.Parts.{StepsChange, HasChange, MayGoOn, StepsAtDesk, doing_now, DropsNewest, is_told, answer_for};
 ghost use Rattle.world_lists.specs.Between.{IsKept, store_of};

@@ -31,7 +31,8 @@ give_up-requires g c =
 
 pub returns-in-NoMemory-clause-moves : goal.returns-in-NoMemory-clause-moves
 returns-in-NoMemory-clause-moves g c =
-    moves_then (reading_waits _ _ _ _ _ _ (c.reading.invariant c.requires.0 c.requires.1) (waits_by c.in-Call.is c.in-Hindered.ensures) (g.met.W.EngineWorld.tells
+    moves_then (reading_waits _ _ _ _ _ _ (c.reading.invariant c.requires.0 c.requires.1) (waits_by c.in-Call.is c.in-Hindered.ensures)
+    (g.met.W.EngineWorld.tells
     c.advance.new.world).told).moves c.give_up.ensures
 
 pub reading-preserved : goal.reading-preserved

@@ -1,5 +1,5 @@
 use Rattle.row_versions.specs.Chains.{Chains}
-use Rattle.law_held_steps.specs.Newest.{TellsTable, IsReadingNewest, left_in}
+use Rattle.law_held_steps.specs.Begun.{TellsTable, IsReadingNewest, left_in}
 use Rattle.world_lists.proofs.reading.newest_rows.Given as goal
 
 -- as far as the search has come, whatever rows the world told when it began

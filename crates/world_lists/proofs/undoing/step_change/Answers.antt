@@ -1,10 +1,8 @@
-use Rattle.std.proofs.Common.{refl, ap, subst}
-use Rattle.row_changes.specs.Reached.{Went, Done, Hindered}
-use Rattle.row_changes.specs.{InPlace.reached_at, Rows.ChangesRow}
-use Rattle.law_held_steps.proofs.Places.{none_moves}
-use Rattle.world_lists.proofs.Changing.{its_rows, table_left, table_over, gone_by, step_of, answer_over, answer_hindered, lies_there}
-use Rattle.world_lists.proofs.Changing.{hindered_for_memory}
 use Rattle.world_lists.proofs.undoing.step_change.Goals as goal
+use Rattle.std.proofs.Common.{refl, ap, subst}
+use Rattle.row_changes.specs.{Reached.Went, Reached.Done, Reached.Hindered, InPlace.reached_at, Rows.ChangesRow}
+use Rattle.law_held_steps.proofs.Places.{none_moves}
+use Rattle.world_lists.proofs.Changing.{its_rows, table_left, table_over, gone_by, step_of, answer_over, answer_hindered, lies_there, hindered_for_memory}
 
 pub advance-requires : goal.advance-requires
 advance-requires g c = its_rows c.requires

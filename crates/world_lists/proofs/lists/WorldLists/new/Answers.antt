@@ -2,7 +2,7 @@ use Rattle.std.proofs.Common.{List, None, refl, sym, ap, subst}
 use Rattle.law_held_steps.proofs.Items.{first_held}
 use Rattle.world_lists.specs.Between.{store_of}
 use Rattle.world_lists.proofs.Calls.{awaits_of_nobody}
-use Rattle.law_held_steps.specs.Undoing.{settings_of}
+use Rattle.law_held_steps.specs.Making.{settings_of}
 use Rattle.world_lists.proofs.lists.WorldLists.new.Goals as goal
 use Rattle.desks.specs.{declared.desk.Desk.Desk, Holding.IsHeld}
 

@@ -2,7 +2,7 @@ use Rattle.std.proofs.Common.{length, ◌-◌, subst}
 use Rattle.inno_model.specs.Past.{own}
 use Rattle.shared_lists.specs.State.{Lists}
 use Rattle.desks.specs.Shown.{lists_of}
-use Rattle.law_held_steps.specs.Undoing.{TakesBackIn}
+use Rattle.law_held_steps.specs.Making.{TakesBackIn}
 use Rattle.world_lists.specs.Between.{store_of}
 use Rattle.world_lists.proofs.TakingBack.{is_busy}
 use Rattle.world_lists.proofs.lists.WorldLists.take_back.Goals as goal

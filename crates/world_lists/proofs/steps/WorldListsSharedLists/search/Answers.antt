@@ -50,5 +50,6 @@ invariant_of-self-in-NoMemory g c =
 pub returns-in-NoMemory-clause-searches : goal.returns-in-NoMemory-clause-searches
 returns-in-NoMemory-clause-searches g c =
     λ table plan reading task. hindered_seen c.args.session c.self.invariant c.self.view_is c.in-Searching.ensures.was c.take_up.ensures.as_it_was
-    c.take_up.ensures.anew (g.met.W.EngineWorld.tells c.advance.new.world).told c.take_doing.ensures.is (waits_by c.in-Call.is c.in-Hindered.ensures) c.give_up.ensures
+    c.take_up.ensures.anew (g.met.W.EngineWorld.tells c.advance.new.world).told c.take_doing.ensures.is (waits_by c.in-Call.is c.in-Hindered.ensures)
+    c.give_up.ensures
     (g.met.W.EngineWorld.tells c.give_up.new.world).told
