@@ -6,7 +6,6 @@ use Rattle.store_api.specs.declared.visits.Visit.{Visit}
 use Rattle.store_api.specs.declared.visits.Visit.TheVariants.{Failed, Again, Bad}
 use Rattle.row_versions.specs.declared.answers.ChainBad.{ChainBad}
 use Rattle.row_versions.specs.declared.answers.ChainBad.TheVariants.{Visit as Unseen, NoMemory}
-use Rattle.row_versions.specs.declared.kept.Kept.{Kept}
 use Rattle.row_versions.specs.Versions.{Paged, Versions, Stays}
 
 -- a page isn't shown, by a cause that only versions in pages have

@@ -1,6 +1,5 @@
 -- What contracts see of versions that are kept by roll pointers.
-use Rattle.std.specs.Prelude.{◌≡◌, ℕ, zero, suc, ◌≤◌, Bool, true, ◌==◌, ◌||◌, IsTrue, List, length, slice_get, Option, None, Some, is_some}
-use Rattle.std.specs.List.{AllByRecursion}
+use Rattle.std.specs.Prelude.{◌≡◌, ℕ, ◌≤◌, Bool, ◌==◌, ◌||◌, IsTrue, length, Option, None, Some, is_some}
 use Rattle.row_versions.specs.declared.kept.Kept.{Kept}
 
 -- What versions show that are kept in pages: what answers about pages rest on.
@@ -39,19 +38,6 @@ pub record Stays (old new : Versions) : Type 0 where
   pub told : IsTrue new.told → IsTrue old.told
   pub kept : IsTrue new.told → new.kept_at ≡ old.kept_at
 
--- ---- versions in a list
-
--- the first one has the pointer 1
-abbrev pub kept_in : List Kept → ℕ → Option Kept
-kept_in all zero = None
-kept_in all (suc place) = slice_get all place
-
-abbrev pub listed : List Kept → Versions
-listed all = record { told = true; kept_at = kept_in all; paged = None }
-
 -- an encoded version has at most 1,024 bytes
 abbrev pub IsShort : Kept → Type 0
 IsShort kept = length kept.bytes ≤ 1024
-
-abbrev pub AreShort : List Kept → Type 0
-AreShort all = AllByRecursion IsShort all
