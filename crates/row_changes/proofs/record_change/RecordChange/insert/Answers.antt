@@ -1,3 +1,5 @@
+use Rattle.std.proofs.Common.{arith}
+use Rattle.std.proofs.lemmas.Grind.{pieces}
 use Rattle.std.proofs.Common.{ap, ◌∙◌, Some}
 use Rattle.row_changes.specs.{declared.record_change.RecordStage.TheVariants.Insert, Records.row_found, Records.record_steps}
 use Rattle.row_changes.proofs.Awaited.{entered_awaits, insert_with_here}
@@ -50,3 +52,6 @@ returns-in-Done-clause-awaits g c =
     entered_awaits c.args.s (clustered_index c.args.self.now.table) _ (g.W.World.state c.args.world.now) _ _ _ _ may.0 may.1 call
     (insert_with_here (Some c.in-Ok-undo_of_new.undo) c.args.s c.args.self.now.key _ _ _ c.insert.result (stage_at _ _ _ p Insert c.requires.stage).2 call.here)
     ((rw c.take_edit.ensures at c.enter.ensures) may.0 may.1 may.2)
+
+pub insert-requires-clause-index : goal.insert-requires-clause-index
+insert-requires-clause-index g c = search (pieces, arith) depth 5 fits 300
