@@ -1,3 +1,5 @@
+use Rattle.std.proofs.Common.{arith}
+use Rattle.std.proofs.lemmas.Grind.{common_steps}
 use Rattle.std.proofs.Common.{◌∙◌, List, length, ap, sym}
 use Rattle.std.specs.Prelude.{slice_index_or}
 use Rattle.inno_types.specs.declared.value.Column.{Column}
@@ -32,3 +34,6 @@ pub returns-in-None-clause-ok : goal.returns-in-None-clause-ok
 returns-in-None-clause-ok c = λ version has is.
     let columns = c.as_slice-columns.ensures in
     absurd (c.in-None.ensures (head_code version.marked version.writer version.pointer) version.row (length-head_code version.marked version.writer version.pointer) (rw columns is.fits) (rw columns is.value_is))
+
+pub returns-then-place-schema-clause-ok : goal.returns-then-place-schema-clause-ok
+returns-then-place-schema-clause-ok c = grind (arith, common_steps) steps 2000000

@@ -1,0 +1,9 @@
+use Rattle.std.proofs.Common.{arith}
+use Rattle.std.proofs.lemmas.Grind.{common_steps}
+use Rattle.commit_log.proofs.drafts.Drafts.cut.Goals as goal
+
+pub invariant_of-self : goal.invariant_of-self
+invariant_of-self c = grind (arith, common_steps) steps 2000000
+
+pub returns-clause-promised : goal.returns-clause-promised
+returns-clause-promised c = grind (arith, common_steps) steps 2000000
