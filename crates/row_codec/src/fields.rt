@@ -78,11 +78,15 @@ fn text_of(alloc: Global, bytes: &[u8], size: u8) -> Result<Value, RowBad>
     ensures shape { result ≡ Err RowBad.Shape → (text : List ℕ) → length text ≤ size
         → bytes.now ≡ length text ∷ padded size text → ⊥ }
 {
-    let (len, front) = bytes.split_first().ok_or(RowBad::Shape)?;
+    let Some((len, front)) = bytes.split_first() else {
+        return Err(RowBad::Shape);
+    };
     if front.len() != usize::from(size) {
         return Err(RowBad::Shape);
     }
-    let text = padded_text(front, *len).ok_or(RowBad::Shape)?;
+    let Some(text) = padded_text(front, *len) else {
+        return Err(RowBad::Shape);
+    };
     Ok(Value::Text(Bytes::from_vec(Vec::from_slice(alloc, text)?)))
 }
 
