@@ -99,7 +99,9 @@ fn present_of(alloc: Global, bytes: &[u8], kind: Kind) -> Result<Value, RowBad>
 {
     match kind {
         Kind::BigInt => {
-            let number = u64_of(bytes).ok_or(RowBad::Shape)?;
+            let Some(number) = u64_of(bytes) else {
+                return Err(RowBad::Shape);
+            };
             Ok(Value::Int(number.cast_signed()))
         }
         Kind::VarBinary(size) => text_of(alloc, bytes, size),
@@ -137,7 +139,9 @@ fn field_of<'a>(
         → FitsColumn column.now value → bytes.now ≡ field_code column.now.kind value ++ rest
         → ⊥ }
 {
-    let (flag, behind) = bytes.split_first().ok_or(RowBad::Shape)?;
+    let Some((flag, behind)) = bytes.split_first() else {
+        return Err(RowBad::Shape);
+    };
     let len = key_len(column.kind);
     if behind.len() < len {
         return Err(RowBad::Shape);
