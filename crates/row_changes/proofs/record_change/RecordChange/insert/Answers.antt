@@ -1,15 +1,12 @@
-use Rattle.std.proofs.Common.{ap, ◌∙◌, Some}
+use Rattle.std.proofs.Common.{ap, Some, refl}
 use Rattle.row_changes.specs.{declared.record_change.RecordStage.TheVariants.Insert, Records.row_found, Records.record_steps}
 use Rattle.row_changes.proofs.Awaited.{entered_awaits, insert_with_here}
 use Rattle.row_changes.proofs.Changing.{stage_at, key_short, value_short, version_made, may_log_new, may_enter, inserted, insert_hindered}
-use Rattle.row_codec.specs.Rows.{version_code}
 use Rattle.law_stored_rows.specs.Edits.{clustered_index}
 use Rattle.row_changes.proofs.record_change.RecordChange.insert.Goals as goal
 
-abbrev pub coded-requires : goal.coded-requires
-coded-requires g c =
-    let p = c.requires.changing in
-    (p.schema, p.table.there, (version_made _ _ _ _ _ _ p.fits p.stage (ap record_steps c.requires.stage) _ _ _ c.in-Ok.ensures).0)
+abbrev pub value-requires-clause-makes : goal.value-requires-clause-makes
+value-requires-clause-makes g c = ap record_steps c.requires.stage
 
 abbrev pub insert-requires-clause-key : goal.insert-requires-clause-key
 insert-requires-clause-key g c = key_short c.requires.changing
@@ -17,8 +14,8 @@ insert-requires-clause-key g c = key_short c.requires.changing
 abbrev pub insert-requires-clause-value : goal.insert-requires-clause-value
 insert-requires-clause-value g c =
     let p = c.requires.changing in
-    value_short p.schema _ _ _ p.table.storable (version_made _ _ _ _ _ _ p.fits p.stage (ap record_steps c.requires.stage) _ _ _ c.in-Ok.ensures)
-    (c.in-Ok-coded.ensures p.schema p.table.there)
+    let value = c.in-Ok.ensures p.schema p.session p.work p.table.there p.has_work in
+    value_short p.schema _ _ _ p.table.storable (version_made _ _ _ _ _ _ p.fits p.stage (ap record_steps c.requires.stage) _ _ _ refl) value
 
 abbrev pub insert-requires-clause-undo : goal.insert-requires-clause-undo
 insert-requires-clause-undo g c =
@@ -32,9 +29,7 @@ enter-requires g c =
 abbrev pub returns-in-Done-clause-changes : goal.returns-in-Done-clause-changes
 returns-in-Done-clause-changes g c =
     let p = c.requires.changing in
-    let value =
-    rw (ap row_found c.requires.stage, c.writer_of-writer.ensures p.session p.work p.has_work) at
-    (c.in-Ok-coded.ensures p.schema p.table.there ∙ ap (version_code p.schema) c.in-Ok.ensures) in
+    let value = rw (ap row_found c.requires.stage) at (c.in-Ok.ensures p.schema p.session p.work p.table.there p.has_work) in
     inserted p _ _ _ _ c.requires.stage value c.in-Ok-undo_of_new.ensures (rw c.index.ensures at (rw c.in-Done.is at c.insert.ensures))
     (rw c.take_edit.ensures at c.enter.ensures)
 
