@@ -166,7 +166,9 @@ impl RecordChange {
         let Ok(undo) = undo_of_new(alloc, self.table, &self.key) else {
             return Stepped::Hindered(Move::NoMemory);
         };
-        match world.insert(self.index(), s, &self.key, &value, Some(&undo)) {
+        let answer = world.insert(self.index(), s, &self.key, &value, Some(&undo));
+        drop(undo);
+        match answer {
             Move::Done => {
                 enter(world, s, self.table, self.take_edit());
                 Stepped::Done(None)
@@ -193,7 +195,9 @@ impl RecordChange {
         let Ok((found, undo)) = former(self.table, &self.key, &self.stage) else {
             return Stepped::Hindered(Move::NoMemory);
         };
-        match world.replace(self.index(), s, &self.key, &value, Some(&undo)) {
+        let answer = world.replace(self.index(), s, &self.key, &value, Some(&undo));
+        drop(undo);
+        match answer {
             Move::Done => {
                 enter(world, s, self.table, self.take_edit());
                 Stepped::Done(found)
