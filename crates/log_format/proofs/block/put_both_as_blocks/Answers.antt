@@ -1,3 +1,4 @@
+use Rattle.std.proofs.lemmas.Grind.{common_steps}
 use Rattle.std.proofs.Common.{◌≡◌, ◌⊎◌, inl, inr, ◌+◌, ◌-◌, ◌<◌, ◌++◌, min, length, arith, sym, ◌∙◌, ap, subst, List, ℕ, take-append-drop, length-append}
 use Rattle.std.proofs.lemmas.Bool.{cases_lt}
 use Rattle.std.proofs.lemmas.Bool.Decides.{nat_tests}
@@ -36,3 +37,21 @@ loop-first-preserved c =
       len = omega (arith, l.invariant.len, c.put_block.ensures.len);
       grows = omega (arith, l.invariant.grows, c.put_block.ensures.grows);
     }
+
+pub loop-first-init : goal.loop-first-init
+loop-first-init c = grind (arith, common_steps) steps 2000000
+
+pub overflow_add-first : goal.overflow_add-first
+overflow_add-first c = grind (arith, common_steps) steps 2000000
+
+pub overflow_add-number : goal.overflow_add-number
+overflow_add-number c = grind (arith, common_steps) steps 2000000
+
+pub put_block-requires-clause-room : goal.put_block-requires-clause-room
+put_block-requires-clause-room c = grind (arith, common_steps) steps 2000000
+
+pub returns-clause-blocks : goal.returns-clause-blocks
+returns-clause-blocks c = grind (arith, common_steps) steps 2000000
+
+pub returns-clause-count : goal.returns-clause-count
+returns-clause-count c = grind (arith, common_steps) steps 2000000

@@ -1,3 +1,5 @@
+use Rattle.std.proofs.Common.{arith}
+use Rattle.std.proofs.lemmas.Grind.{common_steps}
 use Rattle.std.proofs.Common.{sym, ap, ◌∙◌}
 use Rattle.std.proofs.lemmas.Bool.{eqb-true, eq-eqb}
 use Rattle.std.proofs.lemmas.List.{take_rest}
@@ -16,3 +18,6 @@ returns-then-u64_at-run c = elim c.if-u64_at-fnv.branch [
       )
   | else-u64_at-fnv w ↦ absurd (w.if-u64_at-fnv.false (eqb-true _ _ (sym w.value-is ∙ c.if-u64_at-run.true)))
 ]
+
+pub returns-else-u64_at-run : goal.returns-else-u64_at-run
+returns-else-u64_at-run c = grind (arith, common_steps) steps 2000000

@@ -1,3 +1,4 @@
+use Rattle.std.proofs.lemmas.Grind.{common_steps}
 use Rattle.std.proofs.Common.{◌≡◌, ◌+◌, ◌*◌, ◌++◌, ℕ, List, length, take, drop, nat_lt, sym, ◌∙◌, ap, subst, arith}
 use Rattle.std.proofs.lemmas.Bool.Decides.{nat_tests}
 use Rattle.std.proofs.lemmas.List.{take_at}
@@ -27,3 +28,6 @@ returns-clause-given g c = λ first area given is s ticks told same.
     (λ (l : List ℕ). HasGiven first area given
     (record { run = i.run; block = i.block + good; next = i.next; rest = l; ended = nat_lt good 64 }))
     (sym items) now
+
+pub invariant_of-self : goal.invariant_of-self
+invariant_of-self g c = grind (arith, common_steps) steps 2000000

@@ -1,3 +1,5 @@
+use Rattle.std.proofs.Common.{arith}
+use Rattle.std.proofs.lemmas.Grind.{common_steps}
 use Rattle.std.proofs.Common.{◌≡◌, ◌⊎◌, ◌-◌, ◌∷◌, [], ◌++◌, ℕ, List, length, drop, true, sym, ◌∙◌, ap, subst}
 use Rattle.log_format.specs.Group.{group_bytes}
 use Rattle.log_format.specs.Scan.{NoGroup, IsScan, HasWhole}
@@ -38,3 +40,6 @@ returns-in-Some-checked_add-clause-gives c = λ first area given past is.
     (sym rest)
     (subst (λ (n : ℕ). HasGiven first area (given ++ g ∷ []) (record { run = i.run; block = i.block; next = n; rest = after; ended = i.ended }))
     (sym c.in-Some-checked_add.ensures.1) now)
+
+pub overflow_sub-self : goal.overflow_sub-self
+overflow_sub-self c = grind (arith, common_steps) steps 2000000
