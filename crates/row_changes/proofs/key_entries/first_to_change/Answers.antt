@@ -1,3 +1,4 @@
+use Rattle.std.proofs.lemmas.Grind.{elements}
 use Rattle.std.proofs.Common.{◌≡◌, length, get_or, sym, ap, ◌∙◌, arith, ⊎_elim, Some, slice_get}
 use Rattle.std.proofs.lemmas.{Bool.cases_eq, Option.slice_get_within, Option.slice_get-get_or}
 use Rattle.row_changes.proofs.Sessions.{one_found}
@@ -21,3 +22,6 @@ returns c =
       changes =
           λ key is. let within = slice_get_within c.args.schema.now.keys (length c.as_slice-keys.result.now) key is in absurd (omega (arith, ends, within));
     }
+
+pub returns-then-not-value_stays : goal.returns-then-not-value_stays
+returns-then-not-value_stays c = grind (arith, elements) steps 2000000

@@ -1,7 +1,7 @@
 use Rattle.std.proofs.Common.{ap, Some, refl}
 use Rattle.row_changes.specs.{declared.record_change.RecordStage.TheVariants.Insert, Records.row_found, Records.record_steps}
 use Rattle.row_changes.proofs.Awaited.{entered_awaits, insert_with_here}
-use Rattle.row_changes.proofs.Changing.{stage_at, key_short, value_short, version_made, may_log_new, may_enter, inserted, insert_hindered}
+use Rattle.row_changes.proofs.Changing.{stage_at, rows_index, key_short, value_short, version_made, may_log_new, may_enter, inserted, insert_hindered}
 use Rattle.law_stored_rows.specs.Edits.{clustered_index}
 use Rattle.row_changes.proofs.record_change.RecordChange.insert.Goals as goal
 
@@ -45,3 +45,6 @@ returns-in-Done-clause-awaits g c =
     entered_awaits c.args.s (clustered_index c.args.self.now.table) _ (g.W.World.state c.args.world.now) _ _ _ _ may.0 may.1 call
     (insert_with_here (Some c.in-Ok-undo_of_new.undo) c.args.s c.args.self.now.key _ _ _ c.insert-answer.result (stage_at _ _ _ p Insert c.requires.stage).2 call.here)
     ((rw c.take_edit.ensures at c.enter.ensures) may.0 may.1 may.2)
+
+pub insert-answer-requires-clause-index : goal.insert-answer-requires-clause-index
+insert-answer-requires-clause-index g c = rows_index c.requires.changing _ c.index.ensures

@@ -1,3 +1,5 @@
+use Rattle.std.proofs.Common.{arith}
+use Rattle.std.proofs.lemmas.Grind.{elements}
 use Rattle.std.proofs.Common.{inl, inr}
 use Rattle.row_changes.proofs.Changing.{room_made, hindered, no_room_stays}
 use Rattle.row_changes.proofs.record_change.RecordChange.make_room.Goals as goal
@@ -12,3 +14,6 @@ abbrev pub returns-in_default-clause-changes : goal.returns-in_default-clause-ch
 returns-in_default-clause-changes g c =
     hindered _ _ _ _ c.requires.changing _ (no_room_stays _ _ _ _ _ c.undo_room.ensures c.in_default.not-Done)
     (inr (inl (c.in_default.not-Done, c.undo_room.ensures)))
+
+pub undo_room-requires-clause-joined : goal.undo_room-requires-clause-joined
+undo_room-requires-clause-joined g c = grind (arith, elements) steps 2000000

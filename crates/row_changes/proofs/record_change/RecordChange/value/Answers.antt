@@ -1,5 +1,3 @@
-use Rattle.std.proofs.Common.{◌∙◌, ap}
-use Rattle.row_codec.specs.Rows.{version_code}
 use Rattle.row_changes.proofs.Changing.{version_made}
 use Rattle.row_changes.proofs.record_change.RecordChange.value.Goals as goal
 
