@@ -1,3 +1,5 @@
+use Rattle.std.proofs.Common.{arith}
+use Rattle.std.proofs.lemmas.Grind.{common_steps}
 use Rattle.std.proofs.Common.{◌≡◌, ◌+◌, List, [], ◌∷◌, ◌++◌, take, drop, Err, ap, ◌∙◌, append_assoc, rules}
 use Rattle.std.specs.Prelude.{All}
 use Rattle.std.proofs.lemmas.List.Elements.{All-push}
@@ -30,3 +32,6 @@ loop-column-preserved c =
     let range : All Has64Bits c.args.row.now.items → All Has64Bits c.push.new.self.items =
     λ old. rw c.in_ok-push.ensures.items (All-push Has64Bits c.loop-column.row.items value (c.loop-column.invariant.range old) c.in_ok-value.ensures.range) in
     record { read = (so_far.0 ++ value ∷ [], pushed, rw more (Reads-then (take i columns) (column ∷ []) c.args.bytes.now c.loop-column.rest.now c.in_ok-value.behind.now so_far.0 (value ∷ []) so_far.2 one)); range = range }
+
+pub returns-clause-found : goal.returns-clause-found
+returns-clause-found c = grind (arith, common_steps) steps 2000000

@@ -1,3 +1,5 @@
+use Rattle.std.proofs.Common.{arith}
+use Rattle.std.proofs.lemmas.Grind.{common_steps}
 use Rattle.std.proofs.Common.{◌≡◌, ℕ, inl, inr, List, [], ◌++◌, sym, ap, ◌∙◌}
 use Rattle.std.specs.Iterator.Adapters.{zip_first, zip_second}
 use Rattle.std.specs.Slice.Iter.{iter_rest}
@@ -20,3 +22,6 @@ returns c =
       | inr no_row ↦ ap (λ (l : List Value). fields_code columns l) no_row ∙ fields_code-none columns
     ] in
     record { ok = sym (append-nil c.loop-column.out.items) ∙ ap (λ (l : List ℕ). c.loop-column.out.items ++ l) (sym nothing) ∙ c.loop-column.invariant.whole }
+
+pub loop-column-preserved : goal.loop-column-preserved
+loop-column-preserved c = grind (arith, common_steps) steps 2000000

@@ -1,3 +1,5 @@
+use Rattle.std.proofs.Common.{arith}
+use Rattle.std.proofs.lemmas.Grind.{elements}
 use Rattle.std.proofs.Common.{◌≡◌, ◌+◌, List, [], ◌∷◌, ◌++◌, length, take, drop, get_or, Err, Some, refl, sym, ap, ◌∙◌, append_assoc, rules}
 use Rattle.std.specs.Prelude.{slice_get, All}
 use Rattle.std.proofs.lemmas.Bool.{eqb-true, eqb-false}
@@ -64,3 +66,9 @@ returns-else-is_empty-clause-shape c = λ _ row is.
     let second = c.in_ok-rest-2.ensures.found in
     let nothing = nothing_left schema c.around.result.0.now c.around.result.1.now first.0 second.0 row c.args.key.now c.args.fields.now c.in_ok-rest.rest.now c.in_ok-rest-2.rest.now before behind first.2 second.2 is in
     eqb-false (length c.in_ok-rest-2.rest.now) 0 (sym c.if-is_empty.ensures) (ap length nothing)
+
+pub returns-in_default-clause-shape : goal.returns-in_default-clause-shape
+returns-in_default-clause-shape c = grind (arith, elements) steps 2000000
+
+pub returns-in_err-primary-clause-shape : goal.returns-in_err-primary-clause-shape
+returns-in_err-primary-clause-shape c = grind (arith, elements) steps 2000000
