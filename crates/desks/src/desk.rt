@@ -49,11 +49,13 @@ impl Desk {
     pub fn new(alloc: Global) -> Result<Desk, NoMemory>
         ensures { IfOk result IsNewDesk }
     {
+        let undo = UndoRoom::new(alloc)?;
+        let room = WorkRoom::new(alloc)?;
         Ok(Desk {
             started: 0,
             doing: Doing::Nothing,
-            undo: UndoRoom::new(alloc)?,
-            room: WorkRoom::new(alloc)?,
+            undo,
+            room,
         })
     }
 }

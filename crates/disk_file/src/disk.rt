@@ -30,14 +30,14 @@ impl<R: LockFiles> FileDisk<R> {
         R: Drop,
     {
         let name = name.as_slice();
-        let log = AreaFile::new(path_of(alloc, name, ".log")?);
-        let double = AreaFile::new(path_of(alloc, name, ".dbl")?);
-        let pages = AreaFile::new(path_of(alloc, name, ".pag")?);
+        let log = path_of(alloc, name, ".log")?;
+        let double = path_of(alloc, name, ".dbl")?;
+        let pages = path_of(alloc, name, ".pag")?;
         Ok(FileDisk {
             runtime,
-            log,
-            double,
-            pages,
+            log: AreaFile::new(log),
+            double: AreaFile::new(double),
+            pages: AreaFile::new(pages),
             moment: 0,
             faults: Faults::none(),
         })

@@ -20,6 +20,7 @@ fn apply_change(alloc: Global, db: &mut Db, change: Change) -> Result<(), NoMemo
     ensures keyed { OnOk result (IsKeyed db.old → IsKeyed db.new) }
 {
     if !db.can_apply(&change) {
+        drop(change);
         return Err(NoMemory);
     }
     db.apply(alloc, change)?;

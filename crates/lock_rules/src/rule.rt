@@ -319,8 +319,10 @@ pub fn rule_for(case: Case) -> Reason
 pub fn fits(lock: &Lock, case: Case) -> bool
     ensures { result ≡ spec.fits lock.now case }
 {
-    match Rule::from_number(case.rule) {
+    let is_given = match Rule::from_number(case.rule) {
         Some(rule) => rule.gives(lock, &case),
         None => false,
-    }
+    };
+    drop(case);
+    is_given
 }

@@ -2,8 +2,7 @@
 use Rattle.std.proofs.Common.{◌≡◌, inl, inr, ℕ, suc, ◌+◌, ◌^◌, ◌<◌, ◌≤◌, Bool, true, false, cond, eqb, ltb, List, [], ◌∷◌, ◌++◌, length, All, Some, None, refl, sym, ap, subst, ◌∙◌, append_assoc, arith}
 use Rattle.std.specs.Prelude.{◌||◌}
 use Rattle.std.specs.List.{flat_map}
-use Rattle.std.proofs.lemmas.Bool.{eqb-true, ltb-false, le-ltb, cases_eq}
-use Rattle.std.proofs.lemmas.Bool.Decides.{nat_tests}
+use Rattle.std.proofs.lemmas.Bool.{eqb-true, ltb-false, le-ltb, cases_eq, ne_eqb}
 use Rattle.std.proofs.lemmas.List.{append-nil, nil_from_length}
 use Rattle.log_format.specs.declared.group.Group.{Group}
 use Rattle.log_format.specs.declared.group.Record.{Record}
@@ -42,7 +41,7 @@ put_takes bytes x fits e =
     (Takes-then bytes (u32_bytes a.0.0 ++ u16_bytes b.0.0) b.0.1 (u16_bytes c.0.0) c.0.1 (Takes-then bytes (u32_bytes a.0.0) a.0.1 (u16_bytes b.0.0) b.0.1 page.0 place.0) len.0) text.0 in
     let sized = subst (λ (n : ℕ). Takes bytes (u32_bytes a.0.0 ++ u16_bytes b.0.0 ++ u16_bytes n ++ d.0.0) d.0.1) (sym text.1) all in
     let made : Takes (1 ∷ bytes) (record_bytes (Put a.0.0 b.0.0 d.0.0)) d.0.1 = record { parts = ap (λ (l : List ℕ). 1 ∷ l) sized.parts; rest_fits = sized.rest_fits } in
-    subst (λ (y : Record × List ℕ). Takes (1 ∷ bytes) (record_bytes y.0) y.1 × IsRecord y.0) g.1 (made, (page.1, past_header, omega (arith, in_page, text.1)))
+    subst (λ (y : Record × List ℕ). Takes (1 ∷ bytes) (record_bytes y.0) y.1 × IsRecord y.0) g.1 (made, (page.1, past_header, rw text.1 in_page))
 
 fresh_takes : (bytes : List ℕ) (x : Record × List ℕ) → IsBytes bytes → fresh_at bytes ≡ Some x → Takes (2 ∷ bytes) (record_bytes x.0) x.1 × IsRecord x.0
 unfolding fresh_at
@@ -98,7 +97,7 @@ change_takes (b ∷ rest) x fits e =
         | inr not_remove ↦ elim (cases_eq b 3) [
           | inl is ↦ let read : new_table_at rest ≡ Some x = rw is at e in subst P (sym is) (new_table_takes rest x (λ i. fits (suc i)) read)
           | inr neither ↦
-              let none : cond (eqb b 1) (row_put_at rest) (cond (eqb b 2) (row_remove_at rest) (cond (eqb b 3) (new_table_at rest) None)) ≡ None = grind (arith, nat_tests) in
+              let none : cond (eqb b 1) (row_put_at rest) (cond (eqb b 2) (row_remove_at rest) (cond (eqb b 3) (new_table_at rest) None)) ≡ None = rw (ne_eqb b 1 not_put, ne_eqb b 2 not_remove, ne_eqb b 3 neither) refl in
               absurd (cc (none, e))
         ]
       ]
@@ -116,7 +115,7 @@ record_takes (b ∷ rest) x fits e =
         | inr not_fresh ↦ elim (cases_eq b 3) [
           | inl is ↦ let read : change_at rest ≡ Some x = rw is at e in subst P (sym is) (change_takes rest x (λ i. fits (suc i)) read)
           | inr neither ↦
-              let none : cond (eqb b 1) (put_at rest) (cond (eqb b 2) (fresh_at rest) (cond (eqb b 3) (change_at rest) None)) ≡ None = grind (arith, nat_tests) in
+              let none : cond (eqb b 1) (put_at rest) (cond (eqb b 2) (fresh_at rest) (cond (eqb b 3) (change_at rest) None)) ≡ None = rw (ne_eqb b 1 not_put, ne_eqb b 2 not_fresh, ne_eqb b 3 neither) refl in
               absurd (cc (none, e))
         ]
       ]
@@ -155,7 +154,7 @@ body_is bytes g fits e =
     let whole : bytes ≡ u64_bytes a.0.0 ++ u16_bytes (length c.0.0) ++ flat_map record_bytes c.0.0 =
     all.parts ∙ ap (λ (l : List ℕ). text ++ l) nothing ∙ append-nil text ∙ ap (λ (n : ℕ). u64_bytes a.0.0 ++ u16_bytes n ++ flat_map record_bytes c.0.0) (sym records.1) in
     subst (λ (h : Group). (bytes ≡ u64_bytes h.lsn ++ u16_bytes (length h.records) ++ flat_map record_bytes h.records) × (h.lsn < 2 ^ 64) × (length h.records < 2 ^ 16) × All IsRecord h.records) last.1
-    (whole, lsn.1, omega (arith, records.1, count.1), records.2)
+    (whole, lsn.1, rw records.1 count.1, records.2)
 
 body_again : (g : Group) → IsGroup g → body_at (body g) ≡ Some g
 unfolding body_at body
@@ -177,7 +176,7 @@ group_takes bytes x fits e =
     let size : a.0.0 ≡ length (body c.0) = sym text.1 ∙ ap length is.0 in
     let spelled = subst (λ (n : ℕ). Takes bytes (u32_bytes n ++ body c.0) b.0.1) size (subst (λ (l : List ℕ). Takes bytes (u32_bytes a.0.0 ++ l) b.0.1) is.0 both) in
     subst (λ (y : Group × List ℕ). Takes bytes (u32_bytes (length (body y.0)) ++ body y.0) y.1 × IsGroup y.0) (some_is (c.0, b.0.1) x c.2)
-    (spelled, record { lsn = is.1; count = is.2; size = omega (arith, size, len.1); each = is.3 })
+    (spelled, record { lsn = is.1; count = is.2; size = rw (← size) len.1; each = is.3 })
 
 pub group_again : (g : Group) (rest : List ℕ) → IsGroup g → group_at (group_bytes g ++ rest) ≡ Some (g, rest)
 unfolding group_at group_bytes

@@ -32,13 +32,11 @@ fn put_value(value: &Value, out: &mut Vec<u8>) -> Result<(), AllocError>
         }
         Value::Int(number) => {
             out.push(1)?;
-            put_u64(number.cast_unsigned(), out)?;
-            Ok(())
+            put_u64(number.cast_unsigned(), out)
         }
         Value::Text(text) => {
             out.push(2)?;
-            put_name(text.as_slice(), out)?;
-            Ok(())
+            put_name(text.as_slice(), out)
         }
     }
 }
@@ -70,8 +68,7 @@ fn put_page_record(page: u32, at: u16, bytes: &[u8], out: &mut Vec<u8>) -> Resul
     put_u32(page, out)?;
     put_u16(at, out)?;
     put_u16(bytes.len() as u16, out)?;
-    out.extend_from_slice(bytes)?;
-    Ok(())
+    out.extend_from_slice(bytes)
 }
 
 /// Spells the record of a row that is put at the end.
@@ -83,8 +80,7 @@ pub fn put_row(table: u8, row: &[Value], out: &mut Vec<u8>) -> Result<(), AllocE
     ensures full { OnErr result (vec_capacity out.old < vec_len out.old + length (record_bytes (RowPut table row.now))) }
 {
     out.extend_from_slice(&[3, 1, table])?;
-    put_values(row, out)?;
-    Ok(())
+    put_values(row, out)
 }
 
 /// Spells the record of a removed row at the end.
@@ -96,8 +92,7 @@ pub fn put_removal(table: u8, key: &Value, out: &mut Vec<u8>) -> Result<(), Allo
     ensures full { OnErr result (vec_capacity out.old < vec_len out.old + length (record_bytes (RowRemove table key.now))) }
 {
     out.extend_from_slice(&[3, 2, table, 1])?;
-    put_value(key, out)?;
-    Ok(())
+    put_value(key, out)
 }
 
 /// Spells the record of a new table at the end.
@@ -109,8 +104,7 @@ pub fn put_table(schema: &Schema, out: &mut Vec<u8>) -> Result<(), AllocError>
     ensures full { OnErr result (vec_capacity out.old < vec_len out.old + length (record_bytes (NewTable schema.now))) }
 {
     out.extend_from_slice(&[3, 3])?;
-    put_schema(schema, out)?;
-    Ok(())
+    put_schema(schema, out)
 }
 
 #[tactic(auto, using(schema_codec::proofs::Lengths::lengths))]
@@ -122,27 +116,14 @@ fn put_record(change: &Record, out: &mut Vec<u8>) -> Result<(), AllocError>
     ensures full { OnErr result (vec_capacity out.old < vec_len out.old + length (record_bytes change.now)) }
 {
     match change {
-        Record::Put { page, at, bytes } => {
-            put_page_record(*page, *at, bytes.as_slice(), out)?;
-            Ok(())
-        }
+        Record::Put { page, at, bytes } => { put_page_record(*page, *at, bytes.as_slice(), out) }
         Record::Fresh { page } => {
             out.push(2)?;
-            put_u32(*page, out)?;
-            Ok(())
+            put_u32(*page, out)
         }
-        Record::RowPut { table, row } => {
-            put_row(*table, row.as_slice(), out)?;
-            Ok(())
-        }
-        Record::RowRemove { table, key } => {
-            put_removal(*table, key, out)?;
-            Ok(())
-        }
-        Record::NewTable { schema } => {
-            put_table(schema, out)?;
-            Ok(())
-        }
+        Record::RowPut { table, row } => { put_row(*table, row.as_slice(), out) }
+        Record::RowRemove { table, key } => { put_removal(*table, key, out) }
+        Record::NewTable { schema } => { put_table(schema, out) }
     }
 }
 
@@ -169,8 +150,7 @@ fn put_body(lsn: u64, records: &Records, out: &mut Vec<u8>) -> Result<(), AllocE
 {
     put_u64(lsn, out)?;
     put_u16(records.as_slice().len() as u16, out)?;
-    put_records(records.as_slice(), out)?;
-    Ok(())
+    put_records(records.as_slice(), out)
 }
 
 /// Spells records at the end as the group of a log sequence number. A group of 4 GiB or more has no spelling, and
@@ -216,8 +196,7 @@ pub fn put_head_as(
     };
     put_u32(len, out)?;
     put_u64(lsn, out)?;
-    put_u16(count, out)?;
-    Ok(())
+    put_u16(count, out)
 }
 
 /// Spells a group at the end. An `Err` changes nothing.

@@ -2,11 +2,14 @@
 //! clustered record, the undo record that comes with it, and the entry of the history. The entries of secondary keys come
 //! after.
 
-ghost use Rattle.std.specs.Prelude.{◌≡◌, ℕ, List, IfOk};
+ghost use Rattle.std.specs.Prelude.{◌≡◌, ℕ, List, IfOk, slice_get, Some};
+ghost use Rattle.inno_types.specs.declared.value.Schema.{Schema};
+ghost use Rattle.row_codec.specs.Rows.{version_code};
+ghost use Rattle.world.specs.State.{Session, Work, HasWork};
 ghost use Rattle.law_stored_rows.specs.Edits.{clustered_index};
 ghost use Rattle.law_stored_rows.specs.Records.{row_shown};
 ghost use Rattle.row_changes.specs.Edits.{version_by};
-ghost use Rattle.row_changes.specs.Records.{IsChangingRecord, ChangesRecord, MayMake, when_missed, when_found, row_found, undo_of_former};
+ghost use Rattle.row_changes.specs.Records.{IsChangingRecord, ChangesRecord, MayMake, when_missed, when_found, row_found, undo_of_former, record_steps, id_for};
 ghost use Rattle.row_changes.specs.Awaited.{AwaitsAt};
 ghost use Rattle.row_changes.specs.InPlace.{record_reached};
 ghost use Rattle.row_changes.specs.RecordReached.{Went};
@@ -157,17 +160,15 @@ impl RecordChange {
         ensures changes { ChangesRecord s (W.state world.old) (W.state world.new) self.old (record_reached self.new result) }
         ensures awaits { AwaitsAt s (clustered_index self.old.table) (W.state world.old) (W.state world.new) }
     {
-        let writer = writer_of(world, s);
-        let Ok(version) = self.version(writer, 0) else {
-            return Stepped::Hindered(Move::NoMemory);
-        };
-        let Ok(value) = coded(alloc, world, self.table, &version) else {
+        let Ok(value) = self.value(alloc, world, s, 0) else {
             return Stepped::Hindered(Move::NoMemory);
         };
         let Ok(undo) = undo_of_new(alloc, self.table, &self.key) else {
             return Stepped::Hindered(Move::NoMemory);
         };
-        match world.insert(self.index(), s, &self.key, &value, Some(&undo)) {
+        let answer = world.insert(self.index(), s, &self.key, &value, Some(&undo));
+        drop(undo);
+        match answer {
             Move::Done => {
                 enter(world, s, self.table, self.take_edit());
                 Stepped::Done(None)
@@ -187,18 +188,16 @@ impl RecordChange {
         ensures changes { ChangesRecord s (W.state world.old) (W.state world.new) self.old (record_reached self.new result) }
         ensures awaits { AwaitsAt s (clustered_index self.old.table) (W.state world.old) (W.state world.new) }
     {
+        let pointer = world.next_pointer(s);
+        let Ok(value) = self.value(alloc, world, s, pointer) else {
+            return Stepped::Hindered(Move::NoMemory);
+        };
         let Ok((found, undo)) = former(self.table, &self.key, &self.stage) else {
             return Stepped::Hindered(Move::NoMemory);
         };
-        let writer = writer_of(world, s);
-        let pointer = world.next_pointer(s);
-        let Ok(version) = self.version(writer, pointer) else {
-            return Stepped::Hindered(Move::NoMemory);
-        };
-        let Ok(value) = coded(alloc, world, self.table, &version) else {
-            return Stepped::Hindered(Move::NoMemory);
-        };
-        match world.replace(self.index(), s, &self.key, &value, Some(&undo)) {
+        let answer = world.replace(self.index(), s, &self.key, &value, Some(&undo));
+        drop(undo);
+        match answer {
             Move::Done => {
                 enter(world, s, self.table, self.take_edit());
                 Stepped::Done(found)
@@ -212,6 +211,24 @@ impl RecordChange {
         ensures { result ≡ self.old.edit }
     {
         mem::replace(&mut self.edit, RowEdit::Remove(Value::Null))
+    }
+
+    /// The value of the record of the version that becomes the newest.
+    fn value<W: World>(
+        &self,
+        alloc: Global,
+        world: &W,
+        s: u32,
+        pointer: u64,
+    ) -> Result<Bytes, NoMemory>
+        requires changing { IsChangingRecord s (W.state world.now) self.now }
+        requires makes { record_steps self.now.stage ≡ 1 }
+        ensures { IfOk result (λ bytes. (schema : Schema) (session : Session) (work : Work)
+            → slice_get (W.state world.now).schemas self.now.table ≡ Some schema → HasWork s session work (W.state world.now)
+            → bytes ≡ version_code schema (version_by self.now.edit (row_found self.now.stage) (id_for work.id (W.state world.now).txns.next) pointer)) }
+    {
+        let version = self.version(writer_of(world, s), pointer)?;
+        coded(alloc, world, self.table, &version)
     }
 
     /// The version that becomes the newest. What is removed was found.

@@ -78,11 +78,15 @@ fn text_of(alloc: Global, bytes: &[u8], size: u8) -> Result<Value, RowBad>
     ensures shape { result ≡ Err RowBad.Shape → (text : List ℕ) → length text ≤ size
         → bytes.now ≡ length text ∷ padded size text → ⊥ }
 {
-    let (len, front) = bytes.split_first().ok_or(RowBad::Shape)?;
+    let Some((len, front)) = bytes.split_first() else {
+        return Err(RowBad::Shape);
+    };
     if front.len() != usize::from(size) {
         return Err(RowBad::Shape);
     }
-    let text = padded_text(front, *len).ok_or(RowBad::Shape)?;
+    let Some(text) = padded_text(front, *len) else {
+        return Err(RowBad::Shape);
+    };
     Ok(Value::Text(Bytes::from_vec(Vec::from_slice(alloc, text)?)))
 }
 
@@ -95,7 +99,9 @@ fn present_of(alloc: Global, bytes: &[u8], kind: Kind) -> Result<Value, RowBad>
 {
     match kind {
         Kind::BigInt => {
-            let number = u64_of(bytes).ok_or(RowBad::Shape)?;
+            let Some(number) = u64_of(bytes) else {
+                return Err(RowBad::Shape);
+            };
             Ok(Value::Int(number.cast_signed()))
         }
         Kind::VarBinary(size) => text_of(alloc, bytes, size),
@@ -133,7 +139,9 @@ fn field_of<'a>(
         → FitsColumn column.now value → bytes.now ≡ field_code column.now.kind value ++ rest
         → ⊥ }
 {
-    let (flag, behind) = bytes.split_first().ok_or(RowBad::Shape)?;
+    let Some((flag, behind)) = bytes.split_first() else {
+        return Err(RowBad::Shape);
+    };
     let len = key_len(column.kind);
     if behind.len() < len {
         return Err(RowBad::Shape);

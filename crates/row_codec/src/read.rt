@@ -90,9 +90,9 @@ fn row_of(alloc: Global, schema: &Schema, key: &[u8], fields: &[u8]) -> Result<R
         → IsStored schema.now row key.now fields.now → ⊥ }
 {
     let columns = schema.columns.as_slice();
-    let column = columns
-        .get(usize::from(schema.primary))
-        .ok_or(RowBad::Shape)?;
+    let Some(column) = columns.get(usize::from(schema.primary)) else {
+        return Err(RowBad::Shape);
+    };
     let primary = get_key(alloc, key, column.kind)?;
     let (before, behind) = around(columns, schema.primary);
     let mut row = Vec::new(alloc);
@@ -118,7 +118,9 @@ pub fn decode(alloc: Global, schema: &Schema, key: &[u8], value: &[u8]) -> Resul
     ensures shape { result ≡ Err RowBad.Shape → (version : Version)
         → IsRecordOf schema.now version key.now value.now → ⊥ }
 {
-    let (head, fields) = head_of(value).ok_or(RowBad::Shape)?;
+    let Some((head, fields)) = head_of(value) else {
+        return Err(RowBad::Shape);
+    };
     let row = row_of(alloc, schema, key, fields)?;
     Ok(Version {
         row,

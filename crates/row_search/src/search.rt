@@ -84,7 +84,9 @@ impl RowSearch {
         requires { IsSearching actor schema.now (W.state world.old) self }
         ensures { Calls (index_of self.scan.table self.scan.which) (Leaves actor) (W.state world.old) (W.state world.new) }
     {
-        world.leave(index_number(self.scan.table, self.scan.which), actor);
+        let index = index_number(self.scan.table, self.scan.which);
+        drop(self);
+        world.leave(index, actor);
     }
 
     /// One step, made where the search lies. The actor has a place in no index but the one that is searched.

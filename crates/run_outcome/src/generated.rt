@@ -54,7 +54,9 @@ fn print_script<K: Sink>(alloc: Global, script: Script, out: &mut K) -> Fault
         signals: false,
         ticks: false,
     };
-    match write_script(alloc, &script, allowed) {
+    let written = write_script(alloc, &script, allowed);
+    drop(script);
+    match written {
         Ok(bytes) => print_bytes(bytes.as_slice(), out),
         Err(WriteBad::Unreadable | WriteBad::NoMemory) => Fault::NoMemory,
     }

@@ -9,13 +9,14 @@ ghost use Rattle.replay.specs.Replay.{OpensOnce};
 ghost use Rattle.run_outcome.specs.Reports.{IsReported, IsReportedWhole};
 ghost use Rattle.run_outcome.specs.Faults.{allowed, status_of, fault_of, told, IsInputFault, IsOutputFault, IsPlayedFault, IsPrinted, Refuses, answers_no_memory, stops};
 
+use crate::generated::script_fault;
 use crate::input::{ReadBad, read_all};
 use crate::output::write_all;
 use crate::reports::{Report, print_report};
 use crate::words::Way;
 use inno_model::{Event, History};
 use inno_types::Reply;
-use script::{Directives, Script, ScriptBad, read_script};
+use script::{Directives, Script, read_script};
 use std::alloc::Global;
 use store_api::{Failed, MountBad, Sink, Source};
 
@@ -108,9 +109,7 @@ pub fn read_input<S: Source>(alloc: Global, source: &mut S, way: Way) -> Result<
     };
     match read_script(alloc, bytes.as_slice(), allowed(way)) {
         Ok(script) => Ok(script),
-        Err(ScriptBad::Line { line }) => Err(Fault::ScriptBad { line }),
-        Err(ScriptBad::Limit { what, found, most }) => Err(Fault::Limit { what, found, most }),
-        Err(ScriptBad::NoMemory) => Err(Fault::NoMemory),
+        Err(bad) => Err(script_fault(bad)),
     }
 }
 

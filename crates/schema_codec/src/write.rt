@@ -17,8 +17,7 @@ pub fn put_name(name: &[u8], out: &mut Vec<u8>) -> Result<(), AllocError>
     ensures full { OnErr result (vec_capacity out.old < vec_len out.old + length (name_bytes name.now)) }
 {
     out.push(name.len() as u8)?;
-    out.extend_from_slice(name)?;
-    Ok(())
+    out.extend_from_slice(name)
 }
 
 #[tactic(auto, using(crate::proofs::Lengths::lengths))]
@@ -105,6 +104,5 @@ pub fn put_schema(schema: &Schema, out: &mut Vec<u8>) -> Result<(), AllocError>
     put_name(schema.name.as_slice(), out)?;
     put_columns(schema.columns.as_slice(), out)?;
     out.push(schema.primary)?;
-    put_keys(schema.keys.as_slice(), out)?;
-    Ok(())
+    put_keys(schema.keys.as_slice(), out)
 }

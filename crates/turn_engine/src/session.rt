@@ -260,7 +260,10 @@ fn end<E: Turns, R: Wait + Timer>(rt: &R, gate: &Gate<E>, pass: &mut Pass<E>, le
     let mut waits: u32 = 0;
     for _ in rt.forever() {
         match step_turn(rt, gate, pass, len, s, 0) {
-            Stepped::Over(_) => return,
+            Stepped::Over(reply) => {
+                drop(reply);
+                return;
+            }
             Stepped::GoesOn(pause) => waits = rest(rt, pause, waits),
         }
     }

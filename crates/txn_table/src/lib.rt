@@ -112,12 +112,12 @@ impl TxnTable {
         ensures ok { OnOk result (out.new ≡ ids_of self.now.open_txns) }
         ensures err { OnErr result (out.new ≡ out.old) }
     {
-        let ids = self
-            .open
-            .values()
-            .map(|txn| txn.id)
-            .filter(|id| *id != 0)
-            .collect(alloc)?;
+        let mut ids = Vec::new(alloc);
+        for txn in self.open.values() {
+            if txn.id != 0 {
+                ids.push(txn.id)?;
+            }
+        }
         *out = Ids::from_vec(ids);
         Ok(())
     }
