@@ -1,11 +1,15 @@
 -- The directives: `@session NAME`, `@signal NAME`, `@await NAME` and `@tick N`, with one space between the words.
-use Rattle.std.specs.Prelude.{ℕ, ◌+◌, ◌-◌, ◌*◌, List, take, drop, Option, None, ◌&&◌, nat_le, nat_eq, codes, fold, if◌then◌else◌}
+use Rattle.std.specs.Prelude.{ℕ, ◌+◌, ◌-◌, ◌*◌, List, take, drop, Option, Some, None, length, ◌&&◌, nat_le, nat_eq, codes, fold, if◌then◌else◌}
 use Rattle.std.specs.List.{prefix_len, starts_with}
 use Rattle.std.specs.Option.{option_map}
 use Rattle.script.specs.declared.directive.Directive.{Directive}
 use Rattle.script.specs.declared.directive.Directive.TheVariants.{Session, Signal, Await, Tick}
 use Rattle.script.specs.Lines.{after_end}
 use Rattle.script.specs.Names.{is_digit, is_name_byte}
+
+-- what stands behind a word at the front
+abbrev pub behind : List ℕ → List ℕ → Option (List ℕ)
+behind bytes word = if starts_with nat_eq bytes word then Some (drop (length word) bytes) else None
 
 -- so many bytes and the end of the line, and what follows the line
 abbrev pub word_of : ℕ → List ℕ → Option (List ℕ × List ℕ)

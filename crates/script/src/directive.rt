@@ -1,6 +1,6 @@
 //! A directive, all of its line. Where it may stand, and what it does, is told by `script`.
 
-ghost use Rattle.std.specs.Prelude.{◌≡◌, ◌<◌, ◌≤◌, length, IfOk, IfSome};
+ghost use Rattle.std.specs.Prelude.{◌≡◌, ◌+◌, ◌<◌, ◌≤◌, length, IfOk, IfSome};
 ghost use Rattle.std.specs.Option.{option_map};
 ghost use Rattle.script.specs.Directives as spelled;
 
@@ -27,14 +27,14 @@ pub fn directive_at(alloc: Global, bytes: &[u8]) -> Result<Option<(Directive, &[
     ensures value { IfOk result (λ found. option_map (λ x. (x.0, x.1.now)) found ≡ spelled.directive_at bytes.now) }
     ensures shorter { IfOk result (λ found. IfSome found (λ x. length x.1.now < length bytes.now)) }
 {
-    if bytes.starts_with("@session ".as_bytes()) {
-        return Ok(match name_at(alloc, &bytes[9..])? {
+    if let Some(rest) = behind(bytes, b"@session ") {
+        return Ok(match name_at(alloc, rest)? {
             Some((name, rest)) => Some((Directive::Session(name), rest)),
             None => None,
         });
     }
-    if bytes.starts_with("@tick ".as_bytes()) {
-        return Ok(match number_at(&bytes[6..]) {
+    if let Some(rest) = behind(bytes, b"@tick ") {
+        return Ok(match number_at(rest) {
             Some((number, rest)) => Some((Directive::Tick(number), rest)),
             None => None,
         });
@@ -47,19 +47,31 @@ fn signal_at(alloc: Global, bytes: &[u8]) -> Result<Option<(Directive, &[u8])>, 
     ensures value { IfOk result (λ found. option_map (λ x. (x.0, x.1.now)) found ≡ spelled.signal_at bytes.now) }
     ensures shorter { IfOk result (λ found. IfSome found (λ x. length x.1.now < length bytes.now)) }
 {
-    if bytes.starts_with("@signal ".as_bytes()) {
-        return Ok(match name_at(alloc, &bytes[8..])? {
+    if let Some(rest) = behind(bytes, b"@signal ") {
+        return Ok(match name_at(alloc, rest)? {
             Some((name, rest)) => Some((Directive::Signal(name), rest)),
             None => None,
         });
     }
-    if bytes.starts_with("@await ".as_bytes()) {
-        return Ok(match name_at(alloc, &bytes[7..])? {
+    if let Some(rest) = behind(bytes, b"@await ") {
+        return Ok(match name_at(alloc, rest)? {
             Some((name, rest)) => Some((Directive::Await(name), rest)),
             None => None,
         });
     }
     Ok(None)
+}
+
+/// What stands behind the word, where the bytes begin with it.
+fn behind<'a>(bytes: &'a [u8], word: &[u8]) -> Option<&'a [u8]>
+    ensures value { option_map (λ r. r.now) result ≡ spelled.behind bytes.now word.now }
+    ensures shorter { IfSome result (λ r. length r.now + length word.now ≡ length bytes.now) }
+{
+    if bytes.starts_with(word) {
+        Some(&bytes[word.len()..])
+    } else {
+        None
+    }
 }
 
 /// The name that the line ends in.
