@@ -22,22 +22,24 @@ pub enum Directive {
     Tick(u32),
 }
 
+/// What a directive says of its name.
+#[derive(Clone, Copy)]
+enum Naming {
+    Session,
+    Signal,
+    Await,
+}
+
 /// The directive whose line begins here, and what follows the line.
 pub fn directive_at(alloc: Global, bytes: &[u8]) -> Result<Option<(Directive, &[u8])>, AllocError>
     ensures value { IfOk result (λ found. option_map (λ x. (x.0, x.1.now)) found ≡ spelled.directive_at bytes.now) }
     ensures shorter { IfOk result (λ found. IfSome found (λ x. length x.1.now < length bytes.now)) }
 {
     if let Some(rest) = behind(bytes, b"@session ") {
-        return Ok(match name_at(alloc, rest)? {
-            Some((name, rest)) => Some((Directive::Session(name), rest)),
-            None => None,
-        });
+        return named_at(alloc, Naming::Session, rest);
     }
     if let Some(rest) = behind(bytes, b"@tick ") {
-        return Ok(match number_at(rest) {
-            Some((number, rest)) => Some((Directive::Tick(number), rest)),
-            None => None,
-        });
+        return Ok(tick_at(rest));
     }
     signal_at(alloc, bytes)
 }
@@ -48,18 +50,48 @@ fn signal_at(alloc: Global, bytes: &[u8]) -> Result<Option<(Directive, &[u8])>, 
     ensures shorter { IfOk result (λ found. IfSome found (λ x. length x.1.now < length bytes.now)) }
 {
     if let Some(rest) = behind(bytes, b"@signal ") {
-        return Ok(match name_at(alloc, rest)? {
-            Some((name, rest)) => Some((Directive::Signal(name), rest)),
-            None => None,
-        });
+        return named_at(alloc, Naming::Signal, rest);
     }
     if let Some(rest) = behind(bytes, b"@await ") {
-        return Ok(match name_at(alloc, rest)? {
-            Some((name, rest)) => Some((Directive::Await(name), rest)),
-            None => None,
-        });
+        return named_at(alloc, Naming::Await, rest);
     }
     Ok(None)
+}
+
+/// The directive whose name the line ends in.
+fn named_at(
+    alloc: Global,
+    naming: Naming,
+    bytes: &[u8],
+) -> Result<Option<(Directive, &[u8])>, AllocError>
+    ensures value { IfOk result (λ found. option_map (λ x. (x.0, x.1.now)) found ≡ spelled.named_at naming bytes.now) }
+    ensures shorter { IfOk result (λ found. IfSome found (λ x. length x.1.now ≤ length bytes.now)) }
+{
+    match name_at(alloc, bytes)? {
+        Some((name, rest)) => Ok(Some((named(naming, name), rest))),
+        None => Ok(None),
+    }
+}
+
+fn named(naming: Naming, name: Bytes) -> Directive
+    ensures { result ≡ spelled.named naming name }
+{
+    match naming {
+        Naming::Session => Directive::Session(name),
+        Naming::Signal => Directive::Signal(name),
+        Naming::Await => Directive::Await(name),
+    }
+}
+
+/// How far the moment rises.
+fn tick_at(bytes: &[u8]) -> Option<(Directive, &[u8])>
+    ensures value { option_map (λ x. (x.0, x.1.now)) result ≡ spelled.tick_at bytes.now }
+    ensures shorter { IfSome result (λ x. length x.1.now ≤ length bytes.now) }
+{
+    match number_at(bytes) {
+        Some((number, rest)) => Some((Directive::Tick(number), rest)),
+        None => None,
+    }
 }
 
 /// What stands behind the word, where the bytes begin with it.
