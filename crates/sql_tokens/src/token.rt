@@ -1,7 +1,7 @@
 //! One token at the front of the bytes. Blanks before it are not passed over here;
 //! `lexed` does that.
 
-ghost use Rattle.std.specs.Prelude.{◌≡◌, ◌∷◌, IfOk, Some, true};
+ghost use Rattle.std.specs.Prelude.{◌≡◌, IfOk, true};
 ghost use Rattle.std.specs.Option.{option_map};
 ghost use Rattle.sql_grammar.specs.Tokens as spelled;
 ghost use Rattle.sql_grammar.specs.declared.token.Token.TheVariants as tokens;
@@ -75,54 +75,20 @@ fn text_at(alloc: Global, quote: u8, bytes: &[u8]) -> Result<Option<(Token, &[u8
 fn sign_at(bytes: &[u8]) -> Option<(Token, &[u8])>
     ensures { option_map (λ x. (x.0, x.1.now)) result ≡ spelled.sign_at bytes.now }
 {
-    let [b, rest @ ..] = bytes else {
-        return None;
-    };
-    match b {
-        b'(' => Some((Token::Open, rest)),
-        b')' => Some((Token::Close, rest)),
-        b',' => Some((Token::Comma, rest)),
-        b'*' => Some((Token::Star, rest)),
-        b'+' => Some((Token::Plus, rest)),
-        b'-' => Some((Token::Minus, rest)),
-        b'=' => Some((Token::Compare(Comparison::Equal), rest)),
-        b'!' => not_equal(rest),
-        b'<' => Some(less(rest)),
-        b'>' => Some(greater(rest)),
+    match bytes {
+        [b'(', rest @ ..] => Some((Token::Open, rest)),
+        [b')', rest @ ..] => Some((Token::Close, rest)),
+        [b',', rest @ ..] => Some((Token::Comma, rest)),
+        [b'*', rest @ ..] => Some((Token::Star, rest)),
+        [b'+', rest @ ..] => Some((Token::Plus, rest)),
+        [b'-', rest @ ..] => Some((Token::Minus, rest)),
+        [b'=', rest @ ..] => Some((Token::Compare(Comparison::Equal), rest)),
+        [b'!', b'=', rest @ ..] => Some((Token::Compare(Comparison::NotEqual), rest)),
+        [b'<', b'=', rest @ ..] => Some((Token::Compare(Comparison::LessOrEqual), rest)),
+        [b'<', b'>', rest @ ..] => Some((Token::Compare(Comparison::NotEqual), rest)),
+        [b'<', rest @ ..] => Some((Token::Compare(Comparison::Less), rest)),
+        [b'>', b'=', rest @ ..] => Some((Token::Compare(Comparison::GreaterOrEqual), rest)),
+        [b'>', rest @ ..] => Some((Token::Compare(Comparison::Greater), rest)),
         _ => None,
-    }
-}
-
-/// What stands behind `!`.
-#[tactic(auto, unfolding(sql_grammar::specs::Tokens::sign_at))]
-fn not_equal(bytes: &[u8]) -> Option<(Token, &[u8])>
-    ensures { option_map (λ x. (x.0, x.1.now)) result ≡ spelled.sign_at (33 ∷ bytes.now) }
-{
-    match bytes {
-        [b'=', rest @ ..] => Some((Token::Compare(Comparison::NotEqual), rest)),
-        _ => None,
-    }
-}
-
-/// What stands behind `<`.
-#[tactic(auto, unfolding(sql_grammar::specs::Tokens::sign_at))]
-fn less(bytes: &[u8]) -> (Token, &[u8])
-    ensures { Some (result.0, result.1.now) ≡ spelled.sign_at (60 ∷ bytes.now) }
-{
-    match bytes {
-        [b'=', rest @ ..] => (Token::Compare(Comparison::LessOrEqual), rest),
-        [b'>', rest @ ..] => (Token::Compare(Comparison::NotEqual), rest),
-        _ => (Token::Compare(Comparison::Less), bytes),
-    }
-}
-
-/// What stands behind `>`.
-#[tactic(auto, unfolding(sql_grammar::specs::Tokens::sign_at))]
-fn greater(bytes: &[u8]) -> (Token, &[u8])
-    ensures { Some (result.0, result.1.now) ≡ spelled.sign_at (62 ∷ bytes.now) }
-{
-    match bytes {
-        [b'=', rest @ ..] => (Token::Compare(Comparison::GreaterOrEqual), rest),
-        _ => (Token::Compare(Comparison::Greater), bytes),
     }
 }
