@@ -1,3 +1,4 @@
+use Rattle.std.proofs.lemmas.Grind.{common_steps}
 use Rattle.std.proofs.Common.{◌++◌, ◌∷◌, List, ℕ, length, take, sym, ap, subst, ◌∙◌, arith}
 use Rattle.std.specs.Prelude.{All}
 use Rattle.std.proofs.Math.Seq.{take-length}
@@ -63,3 +64,9 @@ conclude-requires-else-joined-clause-set_up g c = record {
   alone = λ x above below. c.split_all-joined.ensures.uncalled x
       (let one = ap length (c.make_calls.ensures.names c.requires.first.1 ∙ c.requires.first.2) in omega (arith, above, one)) below;
 }
+
+pub conclude-requires-clause-numbered : goal.conclude-requires-clause-numbered
+conclude-requires-clause-numbered g c = grind (arith, common_steps) steps 2000000
+
+pub conclude-requires-else-joined-clause-numbered : goal.conclude-requires-else-joined-clause-numbered
+conclude-requires-else-joined-clause-numbered g c = grind (arith, common_steps) steps 2000000

@@ -1,3 +1,4 @@
+use Rattle.std.proofs.lemmas.Grind.{common_steps, elements}
 use Rattle.std.proofs.Common.{◌≡◌, ◌∙◌, sym, ap, subst, length, List, ◌++◌, ℕ, arith}
 use Rattle.std.specs.Prelude.{All}
 use Rattle.script.specs.declared.script.ScriptItem.{ScriptItem}
@@ -72,3 +73,9 @@ returns-in_err-join_all-clause-set_up g c = nothing_first (g.E.Sessions.shown c.
 
 pub returns-in_err-resize-clause-set_up : goal.returns-in_err-resize-clause-set_up
 returns-in_err-resize-clause-set_up g c = nothing_first (g.E.Sessions.shown c.join_all.new.engine).past c.join_all.ensures.nothing
+
+pub play_items-requires-clause-starts : goal.play_items-requires-clause-starts
+play_items-requires-clause-starts g c = grind (arith, elements) steps 2000000
+
+pub play_items-requires-clause-few : goal.play_items-requires-clause-few
+play_items-requires-clause-few g c = grind (arith, common_steps) steps 2000000
