@@ -6,4 +6,5 @@ pub mod Written
 pub mod Fronts
 pub mod Bounds
 pub mod Blanks
+pub mod Chosen
 mod Obeyed

@@ -1,6 +1,6 @@
 //! A directive, all of its line. Where it may stand, and what it does, is told by `script`.
 
-ghost use Rattle.std.specs.Prelude.{◌≡◌, ◌<◌, ◌≤◌, length, IfOk, IfSome};
+ghost use Rattle.std.specs.Prelude.{◌≡◌, ◌+◌, ◌<◌, ◌≤◌, length, IfOk, IfSome};
 ghost use Rattle.std.specs.Option.{option_map};
 ghost use Rattle.script.specs.Directives as spelled;
 
@@ -22,22 +22,24 @@ pub enum Directive {
     Tick(u32),
 }
 
+/// What a directive says of its name.
+#[derive(Clone, Copy)]
+enum Naming {
+    Session,
+    Signal,
+    Await,
+}
+
 /// The directive whose line begins here, and what follows the line.
 pub fn directive_at(alloc: Global, bytes: &[u8]) -> Result<Option<(Directive, &[u8])>, AllocError>
     ensures value { IfOk result (λ found. option_map (λ x. (x.0, x.1.now)) found ≡ spelled.directive_at bytes.now) }
     ensures shorter { IfOk result (λ found. IfSome found (λ x. length x.1.now < length bytes.now)) }
 {
-    if bytes.starts_with("@session ".as_bytes()) {
-        return Ok(match name_at(alloc, &bytes[9..])? {
-            Some((name, rest)) => Some((Directive::Session(name), rest)),
-            None => None,
-        });
+    if let Some(rest) = behind(bytes, b"@session ") {
+        return named_at(alloc, Naming::Session, rest);
     }
-    if bytes.starts_with("@tick ".as_bytes()) {
-        return Ok(match number_at(&bytes[6..]) {
-            Some((number, rest)) => Some((Directive::Tick(number), rest)),
-            None => None,
-        });
+    if let Some(rest) = behind(bytes, b"@tick ") {
+        return Ok(tick_at(rest));
     }
     signal_at(alloc, bytes)
 }
@@ -47,19 +49,61 @@ fn signal_at(alloc: Global, bytes: &[u8]) -> Result<Option<(Directive, &[u8])>, 
     ensures value { IfOk result (λ found. option_map (λ x. (x.0, x.1.now)) found ≡ spelled.signal_at bytes.now) }
     ensures shorter { IfOk result (λ found. IfSome found (λ x. length x.1.now < length bytes.now)) }
 {
-    if bytes.starts_with("@signal ".as_bytes()) {
-        return Ok(match name_at(alloc, &bytes[8..])? {
-            Some((name, rest)) => Some((Directive::Signal(name), rest)),
-            None => None,
-        });
+    if let Some(rest) = behind(bytes, b"@signal ") {
+        return named_at(alloc, Naming::Signal, rest);
     }
-    if bytes.starts_with("@await ".as_bytes()) {
-        return Ok(match name_at(alloc, &bytes[7..])? {
-            Some((name, rest)) => Some((Directive::Await(name), rest)),
-            None => None,
-        });
+    if let Some(rest) = behind(bytes, b"@await ") {
+        return named_at(alloc, Naming::Await, rest);
     }
     Ok(None)
+}
+
+/// The directive whose name the line ends in.
+fn named_at(
+    alloc: Global,
+    naming: Naming,
+    bytes: &[u8],
+) -> Result<Option<(Directive, &[u8])>, AllocError>
+    ensures value { IfOk result (λ found. option_map (λ x. (x.0, x.1.now)) found ≡ spelled.named_at naming bytes.now) }
+    ensures shorter { IfOk result (λ found. IfSome found (λ x. length x.1.now ≤ length bytes.now)) }
+{
+    match name_at(alloc, bytes)? {
+        Some((name, rest)) => Ok(Some((named(naming, name), rest))),
+        None => Ok(None),
+    }
+}
+
+fn named(naming: Naming, name: Bytes) -> Directive
+    ensures { result ≡ spelled.named naming name }
+{
+    match naming {
+        Naming::Session => Directive::Session(name),
+        Naming::Signal => Directive::Signal(name),
+        Naming::Await => Directive::Await(name),
+    }
+}
+
+/// How far the moment rises.
+fn tick_at(bytes: &[u8]) -> Option<(Directive, &[u8])>
+    ensures value { option_map (λ x. (x.0, x.1.now)) result ≡ spelled.tick_at bytes.now }
+    ensures shorter { IfSome result (λ x. length x.1.now ≤ length bytes.now) }
+{
+    match number_at(bytes) {
+        Some((number, rest)) => Some((Directive::Tick(number), rest)),
+        None => None,
+    }
+}
+
+/// What stands behind the word, where the bytes begin with it.
+fn behind<'a>(bytes: &'a [u8], word: &[u8]) -> Option<&'a [u8]>
+    ensures value { option_map (λ r. r.now) result ≡ spelled.behind bytes.now word.now }
+    ensures shorter { IfSome result (λ r. length r.now + length word.now ≡ length bytes.now) }
+{
+    if bytes.starts_with(word) {
+        Some(&bytes[word.len()..])
+    } else {
+        None
+    }
 }
 
 /// The name that the line ends in.

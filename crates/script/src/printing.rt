@@ -85,21 +85,13 @@ fn push_reply(alloc: Global, out: &mut Vec<u8>, reply: &Reply) -> Result<(), All
 {
     match reply {
         Reply::Done => push_text(out, "OK\n"),
-        Reply::Count(n) => {
-            push_text(out, "OK ")?;
-            push_number(alloc, out, *n)?;
-            push_text(out, "\n")
-        }
+        Reply::Count(n) => push_numbered(alloc, out, "OK ", *n, "\n"),
         Reply::Rows(rows) => {
-            push_text(out, "ROWS ")?;
-            push_number(alloc, out, rows.len() as u64)?;
-            push_text(out, "\n")?;
+            push_numbered(alloc, out, "ROWS ", rows.len() as u64, "\n")?;
             push_rows(alloc, out, rows.as_slice())
         }
         Reply::Fail(error) => {
-            push_text(out, "ERROR ")?;
-            push_number(alloc, out, u64::from(error.code()))?;
-            push_text(out, " (")?;
+            push_numbered(alloc, out, "ERROR ", u64::from(error.code()), " (")?;
             push_text(out, error.state())?;
             push_text(out, ")\n")
         }
@@ -168,7 +160,22 @@ fn push_byte(out: &mut Vec<u8>, b: u8) -> Result<(), AllocError>
     }
 }
 
-pub(crate) fn push_number(alloc: Global, out: &mut Vec<u8>, n: u64) -> Result<(), AllocError>
+/// A number between two texts.
+pub(crate) fn push_numbered(
+    alloc: Global,
+    out: &mut Vec<u8>,
+    before: &str,
+    n: u64,
+    after: &str,
+) -> Result<(), AllocError>
+    ensures { OnOk result (out.new.items ≡ out.old.items ++ (before.now ++ (decimal n ++ after.now))) }
+{
+    push_text(out, before)?;
+    push_number(alloc, out, n)?;
+    push_text(out, after)
+}
+
+fn push_number(alloc: Global, out: &mut Vec<u8>, n: u64) -> Result<(), AllocError>
     ensures { OnOk result (out.new.items ≡ out.old.items ++ decimal n) }
 {
     let digits = n.to_string(alloc)?;

@@ -7,7 +7,7 @@ ghost use Rattle.script.specs.Script.{Spells};
 ghost use Rattle.script.specs.Writing as spelled;
 ghost use Rattle.script.specs.declared.script.WriteBad.TheVariants.{Unreadable, NoMemory};
 
-use crate::printing::{push_number, push_text};
+use crate::printing::{push_numbered, push_text};
 use crate::reading::read_script;
 use crate::script::{Directives, Script, ScriptBad, Tick, WriteBad};
 use inno_types::{Bytes, Item, Listed};
@@ -127,9 +127,7 @@ fn push_ticks(alloc: Global, out: &mut Vec<u8>, ticks: &[Tick]) -> Result<(), Al
     ensures { OnOk result (out.new.items ≡ out.old.items ++ flat_map spelled.tick_text ticks.now) }
 {
     for tick in ticks {
-        push_text(out, "@tick ")?;
-        push_number(alloc, out, u64::from(tick.seconds))?;
-        push_text(out, "\n")?;
+        push_numbered(alloc, out, "@tick ", u64::from(tick.seconds), "\n")?;
     }
     Ok(())
 }

@@ -1,7 +1,7 @@
 -- How far sessions are in a script, after each kind of move.
-use Rattle.std.proofs.Common.{◌≡◌, ◌∙◌, sym, ap, refl, ℕ, ◌+◌, ◌<◌, ◌≤◌, List, [], ◌∷◌, ◌++◌, ◌⊎◌, length, take, drop, get_or, set}
+use Rattle.std.proofs.Common.{◌≡◌, ◌∙◌, sym, ap, subst, refl, ℕ, ◌+◌, ◌<◌, ◌≤◌, List, [], ◌∷◌, ◌++◌, ◌⊎◌, length, take, drop, get_or, set}
 use Rattle.std.proofs.Common.{Bool, true, false, cond, eqb, arith, rules, suc, inl, inr}
-use Rattle.std.specs.Prelude.{◌≢◌, All, Result, Ok, Err, OnOk, None, is_ok}
+use Rattle.std.specs.Prelude.{◌≢◌, max, min, All, Result, Ok, Err, OnOk, None, is_ok}
 use Rattle.std.proofs.lemmas.Bool.{eq-eqb, ne_eqb}
 use Rattle.std.proofs.lemmas.Bool.Decides.{eqb_tells}
 use Rattle.std.proofs.lemmas.List.{take-append-drop, take-take, append-nil, get_or-set_same, get_or_past, take_more, length-take, length-take-le}
@@ -104,6 +104,15 @@ more_known script n m places past h short started =
           started.items s ∙ ap (items_of s) (take-take (get_or places s 0) n script (omega (arith, fits, front))
           ∙ sym (take-take (get_or places s 0) m script (omega (arith, fits, front, h))));
     }
+
+pub whole_known : (script : List ScriptItem) (n : ℕ) (places : List ℕ) (past : List Event) → n ≤ length script
+    → HasStarted (take n script) places past → HasStarted script places past
+whole_known script n places past h started =
+    subst (λ (list : List ScriptItem). HasStarted list places past) (take-length script) (more_known script n (length script) places past h h started)
+
+-- what is known by then is no more than there is
+pub no_further : (n known until most : ℕ) → known ≤ most → n ≡ max known (min until most) → n ≤ most
+no_further n known until most h e = omega arith
 
 pub follows : (script : List ScriptItem) (places : List ℕ) (past : List Event) → HasStarted script places past → FollowsScript script past
 follows script places past started s =

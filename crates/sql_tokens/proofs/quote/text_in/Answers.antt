@@ -1,25 +1,17 @@
-use Rattle.sql_grammar.specs.Tokens.{text_in}
-use Rattle.sql_tokens.proofs.Fronts.{fronts}
 use Rattle.std.proofs.Common.{arith}
 use Rattle.std.proofs.lemmas.Grind.{common_steps}
+use Rattle.sql_grammar.specs.Tokens.{text_in}
+use Rattle.sql_tokens.proofs.Fronts.{fronts}
 use Rattle.sql_tokens.proofs.quote.text_in.Goals as goal
-
-pub loop-rest-preserved-then-c-quote : goal.loop-rest-preserved-then-c-quote
-unfolding text_in
-loop-rest-preserved-then-c-quote c = grind (arith, common_steps, fronts) steps 2000000
-
-pub returns-in-92 : goal.returns-in-92
-unfolding text_in
-returns-in-92 c = grind (arith, common_steps, fronts) steps 2000000
-
-pub loop-rest-preserved-in-92-rest-2 : goal.loop-rest-preserved-in-92-rest-2
-unfolding text_in
-loop-rest-preserved-in-92-rest-2 c = grind (arith, common_steps, fronts) steps 2000000
 
 pub loop-rest-preserved : goal.loop-rest-preserved
 unfolding text_in
-loop-rest-preserved c = grind (arith, common_steps, fronts) steps 2000000
+loop-rest-preserved c = grind (arith, common_steps, fronts)
 
-pub returns-in-empty : goal.returns-in-empty
+pub loop-rest-preserved-in-92-rest-2 : goal.loop-rest-preserved-in-92-rest-2
 unfolding text_in
-returns-in-empty c = grind (arith, common_steps, fronts) steps 2000000
+loop-rest-preserved-in-92-rest-2 c = grind (arith, common_steps, fronts)
+
+pub loop-rest-preserved-then-c-quote : goal.loop-rest-preserved-then-c-quote
+unfolding text_in
+loop-rest-preserved-then-c-quote c = grind (arith, common_steps, fronts)
