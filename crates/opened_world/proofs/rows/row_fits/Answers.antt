@@ -1,3 +1,5 @@
+use Rattle.std.proofs.Common.{arith}
+use Rattle.std.proofs.lemmas.Grind.{common_steps}
 use Rattle.key_codec.specs.Keys.{Has64Bits}
 use Rattle.opened_world.proofs.Each.{one_more, all_of_them}
 use Rattle.opened_world.proofs.Fitting.{as_many, begins, goes_on}
@@ -26,3 +28,6 @@ loop-place-preserved c =
 
 pub returns-clause-range : goal.returns-clause-range
 returns-clause-range c = λ yes. all_of_them Has64Bits c.args.row.now c.loop-place.place c.loop-place.invariant.range c.loop-place-test.false
+
+pub returns-then-not-value_fits-clause-fits : goal.returns-then-not-value_fits-clause-fits
+returns-then-not-value_fits-clause-fits c = grind (arith, common_steps) steps 2000000

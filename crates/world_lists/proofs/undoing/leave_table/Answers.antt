@@ -1,3 +1,4 @@
+use Rattle.std.proofs.lemmas.Grind.{elements}
 use Rattle.std.proofs.Common.{◌≡◌, ◌+◌, ◌≤◌, length, sym, ap, subst, arith}
 use Rattle.inno_types.specs.declared.value.Schema.{Schema}
 use Rattle.law_held_steps.proofs.Places.{none_below, one_more_below, all_gone}
@@ -24,3 +25,12 @@ returns-clause-gone g c =
     let enough : length found.keys + 1 ≤ c.loop-which.which = omega (arith, same, long, all) in
     all_gone c.args.session c.args.table c.loop-which.which c.requires.0 old (g.W.World.state c.loop-which.world) c.requires.1
     (subst (λ (schema : Schema). length schema.keys + 1 ≤ c.loop-which.which) (sym one) enough) c.loop-which.invariant
+
+pub bounds-as_slice-table : goal.bounds-as_slice-table
+bounds-as_slice-table g c = grind (arith, elements) steps 2000000
+
+pub overflow_cast-keys : goal.overflow_cast-keys
+overflow_cast-keys g c = grind (arith, elements) steps 2000000
+
+pub overflow_add-which-end : goal.overflow_add-which-end
+overflow_add-which-end g c = grind (arith, elements) steps 2000000

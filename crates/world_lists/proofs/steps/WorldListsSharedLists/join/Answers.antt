@@ -1,3 +1,4 @@
+use Rattle.std.proofs.lemmas.Grind.{common_steps}
 use Rattle.std.proofs.Common.{◌<◌, length, arith}
 use Rattle.world_lists.proofs.Made.{pushed, joined_kept, joined_tasks}
 use Rattle.world_lists.proofs.steps.WorldListsSharedLists.join.Goals as goal
@@ -14,3 +15,6 @@ pub returns-clause-tasks : goal.returns-clause-tasks
 returns-clause-tasks g c =
     joined_tasks 0 c.self.invariant c.self.view_is c.in_ok-desk.ensures {now = c.push.new.self.items}
     (pushed c.push.result _ {items = c.push.new.self.items} c.unwrap.ensures c.push.ensures.items c.reserve.ensures.items) c.args.name c.in-Ok.ensures.ok
+
+pub returns-clause-settings : goal.returns-clause-settings
+returns-clause-settings g c = grind (arith, common_steps) steps 2000000
