@@ -53,10 +53,10 @@ invariant_of-self-2 c =
     (promised_same l.slots l.sessions.items c.args.s session new c.self.invariant.promised there refl refl)
     (omega (arith, owes_made session work has.work_is, c.add.ensures.room, room)) (omega (arith, owes_made session work has.work_is, fits))
     (omega (arith, c.self.invariant.counted)) in
-    rw (c.made_table.ensures, here, c.in_ok-push.ensures.ok)
+    rw (c.made_table.ensures, here, c.in_ok-push_copy.ensures.ok)
     (sound_tables c.add.new.self.room l.rows (length l.schemas) (length l.indexes.items) l.slots l.txns.begun (slice_set l.sessions.items c.args.s new)
-    (length (l.schemas ++ c.in_ok-copy.copy ∷ [])) (length c.add_indexes.new.indexes.items) sound
-    (omega (arith, added.count, length-append l.schemas (c.in_ok-copy.copy ∷ []), c.self.invariant.numbered)))
+    (length (l.schemas ++ c.args.schema ∷ [])) (length c.add_indexes.new.indexes.items) sound
+    (omega (arith, added.count, length-append l.schemas (c.args.schema ∷ []), c.self.invariant.numbered)))
 
 pub returns-clause-ok : goal.returns-clause-ok
 returns-clause-ok c =
@@ -87,8 +87,7 @@ returns-clause-ok c =
       c.made_table.ensures,
       here,
       has.work_is,
-      c.in_ok-push.ensures.ok,
-      c.in_ok-copy.ensures,
+      c.in_ok-push_copy.ensures.ok,
       c.add.ensures.past,
       c.add.ensures.names,
       c.in_ok-take_room.ensures.same.past,

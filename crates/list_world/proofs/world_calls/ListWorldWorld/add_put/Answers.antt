@@ -1,3 +1,4 @@
+use Rattle.std.proofs.lemmas.Grind.{elements}
 use Rattle.std.proofs.Common.{◌≡◌, ◌+◌, ◌<◌, ◌≤◌, ◌^◌, false, length, Some, refl, ap, sym, ◌∙◌, arith}
 use Rattle.std.specs.Prelude.{slice_get, slice_set}
 use Rattle.std.proofs.Math.Facts.{Fits-of_lt}
@@ -106,3 +107,9 @@ returns-clause-ok c session work has =
       c.in_ok-take_room_unless.ensures.same.past,
       c.in_ok-take_room_unless.ensures.same.names,
     ) refl
+
+pub returns-then-not-may_count-clause-sure : goal.returns-then-not-may_count-clause-sure
+returns-then-not-may_count-clause-sure c = grind (arith, elements) steps 2000000
+
+pub returns-in_err-take_room_unless-clause-sure : goal.returns-in_err-take_room_unless-clause-sure
+returns-in_err-take_room_unless-clause-sure c = grind (arith, elements) steps 2000000

@@ -1,3 +1,4 @@
+use Rattle.std.proofs.lemmas.Grind.{elements}
 use Rattle.std.proofs.Common.{add-zero, ◌≡◌, ◌+◌, ◌<◌, ◌≤◌, ◌^◌, false, length, Some, refl, ap, sym, ◌∙◌, arith}
 use Rattle.std.specs.Prelude.{slice_get, slice_set}
 use Rattle.world.specs.State.{Session, HasWork}
@@ -82,3 +83,6 @@ returns-clause-ok c session work has =
       c.in_ok-take_room_unless.ensures.same.names,
       add-zero,
     ) refl
+
+pub returns-in_err-take_room_unless-clause-sure : goal.returns-in_err-take_room_unless-clause-sure
+returns-in_err-take_room_unless-clause-sure c = grind (arith, elements) steps 2000000

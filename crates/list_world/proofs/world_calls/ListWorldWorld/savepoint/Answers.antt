@@ -1,3 +1,4 @@
+use Rattle.std.proofs.lemmas.Grind.{common_steps}
 use Rattle.std.proofs.Common.{◌≡◌, true, length, refl, arith}
 use Rattle.world.specs.State.{Session}
 use Rattle.list_world.proofs.Sound.{sound_quiet, promised_same}
@@ -44,3 +45,12 @@ returns-in-None-clause-ok c =
       unheld c.args.txn (λ session. record session
           { setting = record session.setting { saves = saved c.args.name.now c.args.own true session.setting.saves } }) l.sessions.items none,
     ) refl
+
+pub invariant_of-self : goal.invariant_of-self
+invariant_of-self c = grind (arith, common_steps) steps 2000000
+
+pub returns-in_err-copied-in-Some-clause-err : goal.returns-in_err-copied-in-Some-clause-err
+returns-in_err-copied-in-Some-clause-err c = grind (arith, common_steps) steps 2000000
+
+pub returns-in_ok-copied-in-Some-clause-err : goal.returns-in_ok-copied-in-Some-clause-err
+returns-in_ok-copied-in-Some-clause-err c = grind (arith, common_steps) steps 2000000
