@@ -1,3 +1,5 @@
+use Rattle.std.proofs.Common.{arith}
+use Rattle.std.proofs.lemmas.Grind.{elements}
 use Rattle.std.proofs.Common.{◌≡◌, true, subst, rules}
 use Rattle.std.specs.Prelude.{IfOk}
 use Rattle.inno_types.specs.declared.stmt.Filter.{Filter}
@@ -16,3 +18,6 @@ returns-clause-enough c =
     let condition : c.in_ok-condition.condition ≡ has_given_key c.args.names.now c.args.tuples.now schema.primary column = search rules in
     keys_if c.plan_by_keys-plan.result schema c.args.names.now c.args.tuples.now column there plain
     (subst (λ (filter : Filter). IfOk c.plan_by_keys-plan.result (Covers schema filter)) condition c.plan_by_keys-plan.ensures.enough)
+
+pub returns-then-not-is_plain_key-clause-chosen : goal.returns-then-not-is_plain_key-clause-chosen
+returns-then-not-is_plain_key-clause-chosen c = grind (arith, elements) steps 2000000
