@@ -82,9 +82,18 @@ impl EngineWorld for ListWorld {
     }
 
     fn add_table(&mut self, s: u32, schema: Schema) -> Result<(), NoMemory> {
-        self.indexes.reserve(INDEXES_OF_TABLE)?;
-        take_room(&mut self.history, &self.sessions, 2)?;
-        push_copy(&mut self.schemas, &schema)?;
+        let Ok(()) = self.indexes.reserve(INDEXES_OF_TABLE) else {
+            drop(schema);
+            return Err(NoMemory);
+        };
+        let Ok(()) = take_room(&mut self.history, &self.sessions, 2) else {
+            drop(schema);
+            return Err(NoMemory);
+        };
+        let Ok(()) = push_copy(&mut self.schemas, &schema) else {
+            drop(schema);
+            return Err(NoMemory);
+        };
         add_indexes(self.alloc, &mut self.indexes);
         self.sessions[s as usize].made_table();
         let change = Change::Create { schema };
