@@ -55,7 +55,7 @@ pub struct Lock {
 }
 
 /// A transaction that waits, and the lock of another for which it waits.
-#[derive(Clone, Drop)]
+#[derive(Drop)]
 pub struct Edge {
     pub waiter: u64,
     pub holder: u64,
@@ -76,6 +76,10 @@ impl Edge {
     pub fn copied(&self) -> Result<Self, AllocError>
         ensures { IfOk result (λ edge. edge ≡ self.now) }
     {
-        self.clone()
+        Ok(Edge {
+            waiter: self.waiter,
+            holder: self.holder,
+            lock: self.lock.copied()?,
+        })
     }
 }

@@ -16,7 +16,7 @@ pub enum Item {
 }
 
 /// Why a statement is refused.
-#[derive(Clone, Drop)]
+#[derive(Drop)]
 pub enum SqlError {
     Deadlock { cycle: Edges },
     Timeout { held: Lock, waited: u64 },
@@ -40,7 +40,7 @@ pub enum SqlError {
 }
 
 /// The answer to an item.
-#[derive(Clone, Drop)]
+#[derive(Drop)]
 pub enum Reply {
     Done,
     Count(u64),
@@ -118,7 +118,30 @@ impl SqlError {
             SqlError::Deadlock { cycle } => Ok(SqlError::Deadlock {
                 cycle: cycle.copied()?,
             }),
-            other => other.clone(),
+            SqlError::Timeout { held, waited } => Ok(SqlError::Timeout {
+                held: held.copied()?,
+                waited: *waited,
+            }),
+            SqlError::Duplicate { key } => Ok(SqlError::Duplicate { key: key.clone()? }),
+            SqlError::Syntax { at } => Ok(SqlError::Syntax { at: *at }),
+            SqlError::Full { need, free } => Ok(SqlError::Full {
+                need: *need,
+                free: *free,
+            }),
+            SqlError::CatalogFull { tables } => Ok(SqlError::CatalogFull { tables: *tables }),
+            SqlError::NoSavepoint => Ok(SqlError::NoSavepoint),
+            SqlError::NoTable => Ok(SqlError::NoTable),
+            SqlError::NoColumn => Ok(SqlError::NoColumn),
+            SqlError::TwiceNamed => Ok(SqlError::TwiceNamed),
+            SqlError::WrongCount => Ok(SqlError::WrongCount),
+            SqlError::NoDefault => Ok(SqlError::NoDefault),
+            SqlError::IsNull => Ok(SqlError::IsNull),
+            SqlError::TooBig => Ok(SqlError::TooBig),
+            SqlError::OutOfRange => Ok(SqlError::OutOfRange),
+            SqlError::TooLong => Ok(SqlError::TooLong),
+            SqlError::TableThere => Ok(SqlError::TableThere),
+            SqlError::TooDeep => Ok(SqlError::TooDeep),
+            SqlError::InTransaction => Ok(SqlError::InTransaction),
         }
     }
 }
@@ -140,7 +163,12 @@ impl Reply {
         match self {
             Reply::Rows(rows) => Ok(Reply::Rows(rows.copied()?)),
             Reply::Fail(error) => Ok(Reply::Fail(error.copied()?)),
-            other => other.clone(),
+            Reply::Done => Ok(Reply::Done),
+            Reply::Count(count) => Ok(Reply::Count(*count)),
+            Reply::RunLimit { rows } => Ok(Reply::RunLimit { rows: *rows }),
+            Reply::NotSignalled { waited } => Ok(Reply::NotSignalled { waited: *waited }),
+            Reply::Stopped => Ok(Reply::Stopped),
+            Reply::NoMemory => Ok(Reply::NoMemory),
         }
     }
 }

@@ -1,6 +1,6 @@
 //! The calls of a world in memory that the engine alone makes: it joins sessions, starts and ends items, and makes tables.
 
-ghost use Rattle.std.specs.Prelude.{◌≡◌, ◌+◌, ◌<◌, ◌≤◌, ◌^◌, [], length, reverse, IfOk, vec_len, vec_capacity};
+ghost use Rattle.std.specs.Prelude.{◌≡◌, ◌+◌, ◌<◌, ◌≤◌, ◌^◌, ◌++◌, ◌∷◌, [], length, reverse, IfOk, OnOk, OnErr, vec_len, vec_capacity};
 ghost use Rattle.sql_history.specs.Counts.{rows_of_reply};
 ghost use Rattle.list_world.specs.Memory.{in_memory};
 ghost use Rattle.list_world.specs.Parts.{world_of, AreAdded};
@@ -82,16 +82,33 @@ impl EngineWorld for ListWorld {
     }
 
     fn add_table(&mut self, s: u32, schema: Schema) -> Result<(), NoMemory> {
-        let copy = schema.copied()?;
-        self.indexes.reserve(INDEXES_OF_TABLE)?;
-        take_room(&mut self.history, &self.sessions, 2)?;
-        self.schemas.push(copy)?;
+        let Ok(()) = self.indexes.reserve(INDEXES_OF_TABLE) else {
+            drop(schema);
+            return Err(NoMemory);
+        };
+        let Ok(()) = take_room(&mut self.history, &self.sessions, 2) else {
+            drop(schema);
+            return Err(NoMemory);
+        };
+        let Ok(()) = push_copy(&mut self.schemas, &schema) else {
+            drop(schema);
+            return Err(NoMemory);
+        };
         add_indexes(self.alloc, &mut self.indexes);
         self.sessions[s as usize].made_table();
         let change = Change::Create { schema };
         self.history.add(Event::Changed { s, change });
         Ok(())
     }
+}
+
+/// Adds a copy of the schema.
+fn push_copy(schemas: &mut Listed<Schema>, schema: &Schema) -> Result<(), NoMemory>
+    ensures ok { OnOk result (schemas.new ≡ schemas.old ++ schema.now ∷ []) }
+    ensures err { OnErr result (schemas.new ≡ schemas.old) }
+{
+    schemas.push(schema.copied()?)?;
+    Ok(())
 }
 
 /// How many rows a reply has.

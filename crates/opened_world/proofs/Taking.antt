@@ -88,7 +88,7 @@ awaits_twice table old mid new same first next = record {
 
 module _ (start : KeysChange) (old mid new : WorldState) (change : KeysChange) (taking : IsTaking start old mid change) where
   -- what its step leaves, where nobody else changes a row
-  abbrev Steps : Reached KeysChange → Type 0
+  abbrev pub Steps : Reached KeysChange → Type 0
   Steps reached =
       (chains : Chains) → IsChangingKeys chains (what_is_there chains) mid change
       → ChangesKeys 0 chains (what_is_there chains) mid new change reached

@@ -1,6 +1,7 @@
 //! One row is put into a world that is yet to be opened: its clustered record, and then the entries of its table's keys.
 
-ghost use Rattle.std.specs.Prelude.{◌≡◌, ◌<◌, Some, None, false, Err, IfOk, OnOk, length, slice_get, All};
+ghost use Rattle.std.specs.Prelude.{◌≡◌, ◌<◌, Some, None, true, false, Ok, Err, ℕ, List, IfOk, OnOk, length, slice_get, All};
+ghost use Rattle.inno_types.specs.declared.value.Value.{Value};
 ghost use Rattle.inno_types.specs.declared.value.Column.{Column};
 ghost use Rattle.inno_db.specs.Database.{key_of};
 ghost use Rattle.key_codec.specs.Keys.{IsOfKind, key_code, Has64Bits};
@@ -18,7 +19,7 @@ ghost use Rattle.opened_world.specs.Laid.{AwaitsNobody, PutsNewRecord, HasRecord
 
 use crate::opening::PutBad;
 use inno_db::{key_of_row, to_value};
-use inno_types::{Bytes, Row, Schema};
+use inno_types::{Bytes, Kind, Row, Schema, Value};
 use key_codec::put_key;
 use list_world::ListWorld;
 use row_changes::KeysChange;
@@ -36,8 +37,17 @@ fn key_bytes(alloc: Global, schema: &Schema, row: &Row) -> Result<Bytes, NoMemor
     ensures { IfOk result (λ bytes. (column : Column) → slice_get schema.now.columns schema.now.primary ≡ Some column → bytes ≡ key_code column.kind (key_of schema.now row.now)) }
 {
     let kind = schema.columns.as_slice()[schema.primary as usize].kind;
+    let value = to_value(key_of_row(schema, row))?;
+    value_bytes(alloc, &value, kind)
+}
+
+/// The key of a value of this kind.
+fn value_bytes(alloc: Global, value: &Value, kind: Kind) -> Result<Bytes, NoMemory>
+    requires { IsOfKind kind value.now }
+    ensures { IfOk result (λ bytes. bytes ≡ key_code kind value.now) }
+{
     let mut bytes = Bytes::new(alloc);
-    put_key(&to_value(key_of_row(schema, row))?, kind, &mut bytes)?;
+    put_key(value, kind, &mut bytes)?;
     Ok(bytes)
 }
 
@@ -134,15 +144,33 @@ pub fn enter_keys(
         which: 0,
         put: None,
     };
+    take_over(alloc, world, &mut change)
+}
+
+/// Makes all steps of the change.
+fn take_over(alloc: Global, world: &mut ListWorld, change: &mut KeysChange) -> Result<(), NoMemory>
+    requires keys { (chains : Chains) × IsChangingKeys chains (what_is_there chains) (world_of world.old) change.old }
+    requires nobody { AwaitsNobody (world_of world.old) }
+    ensures { OnOk result ((table : ℕ) (key : List ℕ) (row : List Value) → change.old ≡ record { table = table; key = key; before = None; after = Some row; which = 0; put = None } → TakesKeysOver table key row (world_of world.old) (world_of world.new)) }
+{
     for _ in 0..u32::MAX {
-        match change.advance(alloc, world, ACTOR) {
-            Stepped::Went => {}
-            Stepped::Done(()) => return Ok(()),
-            Stepped::Hindered(why) => match why {
-                Move::NoMemory => return Err(NoMemory),
-                _ => unreachable!(),
-            },
+        if is_over(change.advance(alloc, world, ACTOR))? {
+            return Ok(());
         }
     }
     Err(NoMemory)
+}
+
+/// Whether this was the last step. Nothing but want of memory hinders one.
+fn is_over(step: Stepped<(), Move>) -> Result<bool, NoMemory>
+    requires { (why : Move) → step ≡ Stepped.Hindered why → why ≡ Move.NoMemory }
+    ensures over { result ≡ Ok true → step ≡ Stepped.Done (record {}) }
+    ensures went { result ≡ Ok false → step ≡ Stepped.Went }
+{
+    match step {
+        Stepped::Went => Ok(false),
+        Stepped::Done(()) => Ok(true),
+        Stepped::Hindered(Move::NoMemory) => Err(NoMemory),
+        Stepped::Hindered(_) => unreachable!(),
+    }
 }

@@ -1,6 +1,7 @@
 //! The changes that INSERT, UPDATE and DELETE make, row by row. A refusal ends them, and what was made before it stays.
 
-ghost use Rattle.std.specs.Prelude.{◌≡◌, ◌++◌, ◌∷◌, [], IfOk, Option, Some, None, Result, map};
+ghost use Rattle.std.specs.Prelude.{◌≡◌, ◌++◌, ◌∷◌, [], ℕ, option_to_list, IfOk, IfSome, IfNone, OnOk, List, Option, Some, None, Result, Ok, Err, map};
+ghost use Rattle.inno_types.specs.declared.value.Value.{Value};
 ghost use Rattle.inno_db.specs.Database.{key_of};
 ghost use Rattle.inno_db.specs.Seen.{seen};
 ghost use Rattle.inno_db.specs.Outcome.{is_same_value, is_same_row, has_key, new_row, row_for, inserted, change_to, row_update, updated, deleted, matching, nothing};
@@ -97,19 +98,46 @@ pub fn insert(
 {
     let mut added = Vec::new(alloc);
     for tuple in tuples.as_slice() {
-        match row_of(alloc, schema, names, rows, &added, tuple)? {
-            Ok(row) => added.push(row)?,
-            Err(error) => {
-                return Ok(Written {
-                    changes: puts(alloc, table, added)?,
-                    refusal: Some(error),
-                });
-            }
+        if let Some(error) = add_row(alloc, schema, names, rows, &mut added, tuple)? {
+            return put(alloc, table, added, Some(error));
         }
     }
+    put(alloc, table, added, None)
+}
+
+/// Adds the row of a tuple, or gives its refusal.
+fn add_row(
+    alloc: Global,
+    schema: &Schema,
+    names: &Option<Names>,
+    rows: &Rows,
+    added: &mut Vec<Row>,
+    tuple: &Literals,
+) -> Result<Option<SqlError>, AllocError>
+    ensures added { IfOk result (λ refusal. IfNone refusal ((row : List Value) × (row_for schema.now names.now (rows.now ++ added.old.items) tuple.now ≡ Ok row) × (added.new.items ≡ added.old.items ++ row ∷ []))) }
+    ensures refused { IfOk result (λ refusal. IfSome refusal (λ error. (row_for schema.now names.now (rows.now ++ added.old.items) tuple.now ≡ Err error) × (added.new ≡ added.old))) }
+{
+    match row_of(alloc, schema, names, rows, added, tuple)? {
+        Ok(row) => {
+            added.push(row)?;
+            Ok(None)
+        }
+        Err(error) => Ok(Some(error)),
+    }
+}
+
+/// Rows are put, and then a refusal may come.
+fn put(
+    alloc: Global,
+    table: u8,
+    rows: Vec<Row>,
+    refusal: Option<SqlError>,
+) -> Result<Written, AllocError>
+    ensures { IfOk result (λ written. written ≡ record { changes = map (λ row. Change.Put table row) rows.items; refusal = refusal }) }
+{
     Ok(Written {
-        changes: puts(alloc, table, added)?,
-        refusal: None,
+        changes: puts(alloc, table, rows)?,
+        refusal,
     })
 }
 
@@ -169,21 +197,42 @@ pub fn update(
         if !is_match(&schema.columns, filter, row) {
             continue;
         }
-        match update_row(table, schema, sets, row)? {
-            Ok(Some(change)) => changes.push(change)?,
-            Ok(None) => {}
-            Err(error) => {
-                return Ok(Written {
-                    changes: Listed::from_vec(changes),
-                    refusal: Some(error),
-                });
-            }
+        if let Some(error) = add_update(table, schema, sets, row, &mut changes)? {
+            return Ok(written(changes, Some(error)));
         }
     }
-    Ok(Written {
+    Ok(written(changes, None))
+}
+
+/// Adds what an UPDATE changes of a row, or gives its refusal.
+fn add_update(
+    table: u8,
+    schema: &Schema,
+    sets: &Sets,
+    row: &Row,
+    changes: &mut Vec<Change>,
+) -> Result<Option<SqlError>, AllocError>
+    ensures changed { IfOk result (λ refusal. IfNone refusal ((change : Option Change) × (row_update table schema.now sets.now row.now ≡ Ok change) × (changes.new.items ≡ changes.old.items ++ option_to_list change))) }
+    ensures refused { IfOk result (λ refusal. IfSome refusal (λ error. (row_update table schema.now sets.now row.now ≡ Err error) × (changes.new ≡ changes.old))) }
+{
+    match update_row(table, schema, sets, row)? {
+        Ok(Some(change)) => {
+            changes.push(change)?;
+            Ok(None)
+        }
+        Ok(None) => Ok(None),
+        Err(error) => Ok(Some(error)),
+    }
+}
+
+/// Changes are made, and then a refusal may come.
+fn written(changes: Vec<Change>, refusal: Option<SqlError>) -> Written
+    ensures { result ≡ record { changes = changes.items; refusal = refusal } }
+{
+    Written {
         changes: Listed::from_vec(changes),
-        refusal: None,
-    })
+        refusal,
+    }
 }
 
 /// DELETE of the rows that match.
@@ -199,9 +248,21 @@ pub fn delete(
     let mut changes = Vec::new(alloc);
     for row in rows.as_slice() {
         if is_match(&schema.columns, filter, row) {
-            let key = to_value(key(schema, row))?;
-            changes.push(Change::Remove { table, key })?;
+            add_removal(table, schema, row, &mut changes)?;
         }
     }
     Ok(Listed::from_vec(changes))
+}
+
+fn add_removal(
+    table: u8,
+    schema: &Schema,
+    row: &Row,
+    changes: &mut Vec<Change>,
+) -> Result<(), AllocError>
+    ensures { OnOk result (changes.new.items ≡ changes.old.items ++ Change.Remove table (key_of schema.now row.now) ∷ []) }
+{
+    let key = to_value(key(schema, row))?;
+    changes.push(Change::Remove { table, key })?;
+    Ok(())
 }

@@ -72,7 +72,7 @@ fn bytes_of_null(alloc: Global, kind: Kind) -> Result<Bytes, NoMemory>
     Ok(bytes)
 }
 
-/// NULLs lie before all other values of a secondary index, and in no range.
+/// NULLs lie before all other values of a secondary index, and in no range. A bound at a value is the same on both sides.
 fn low_of(alloc: Global, which: u8, kind: Kind, low: Limit<Datum<'_>>) -> Result<Bound, NoMemory>
     ensures ok { IfOk result (λ bound. bound ≡ low_bound which kind (seen_limit low.entry)) }
     ensures range { OnOk result (HasSize (seen_limit low.entry)) }
@@ -80,8 +80,7 @@ fn low_of(alloc: Global, which: u8, kind: Kind, low: Limit<Datum<'_>>) -> Result
     match low {
         Limit::Open if which == 0 => Ok(Bound::Open),
         Limit::Open => Ok(Bound::Without(bytes_of_null(alloc, kind)?)),
-        Limit::With(datum) => Ok(Bound::With(bytes_of(alloc, which, kind, datum)?)),
-        Limit::Without(datum) => Ok(Bound::Without(bytes_of(alloc, which, kind, datum)?)),
+        Limit::With(_) | Limit::Without(_) => high_of(alloc, which, kind, low),
     }
 }
 

@@ -13,6 +13,7 @@ use row_search::{Came, Hindrance, RowSearch};
 use shared_lists::{Changed, Reading, Searched, SharedLists, Undone};
 use sql_history::SessionSettings;
 use sql_plan::Plan;
+use std::alloc::Global;
 use store_api::{MOST_SESSIONS, Move, NoMemory, Stepped};
 use world::EngineWorld;
 
@@ -118,10 +119,11 @@ impl<W: EngineWorld> SharedLists for WorldLists<W> {
     }
 
     fn take_view(&mut self, session: u32) -> Result<(), NoMemory> {
-        let mut active = Ids::new(self.alloc);
-        self.world.active(&mut active)?;
+        let active = active_ids(self.alloc, &self.world)?;
         let next = self.world.next_id();
-        self.world.add_view(session, &active, next)?;
+        let added = self.world.add_view(session, &active, next);
+        drop(active);
+        added?;
         is_short(&self.world);
         Ok(())
     }
@@ -319,11 +321,20 @@ impl<W: EngineWorld> WorldLists<W> {
     }
 }
 
-ghost use Rattle.std.specs.Prelude.{◌≡◌, ◌≢◌, ◌-◌, ◌<◌, ◌^◌, false, Some};
-ghost use Rattle.txn_table.specs.Txns.{is_there, id_at};
+ghost use Rattle.std.specs.Prelude.{◌≡◌, ◌≢◌, ◌-◌, ◌<◌, ◌^◌, false, IfOk, Some};
+ghost use Rattle.txn_table.specs.Txns.{is_there, id_at, ids_of};
 ghost use Rattle.world.specs.Sessions.{identified};
 ghost use Rattle.shared_lists.specs.State.{writer_without};
 ghost use Rattle.law_held_steps.specs.Begun.{plan_read};
+
+/// The ids that were given and not ended.
+fn active_ids<W: EngineWorld>(alloc: Global, world: &W) -> Result<Ids, NoMemory>
+    ensures { IfOk result (λ active. active ≡ ids_of (W.state world.now).txns.open_txns) }
+{
+    let mut active = Ids::new(alloc);
+    world.active(&mut active)?;
+    Ok(active)
+}
 
 /// Gives the transaction its id, where it has none.
 fn give_first_id<W: EngineWorld>(world: &mut W, txn: u64, id: u64)

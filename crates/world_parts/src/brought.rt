@@ -56,14 +56,18 @@ pub fn bring(alloc: Global, schemas: &[Schema], undo: &Undo) -> Result<Brought, 
     requires { IsUndo schemas.now undo.now }
     ensures { IfOk result (IsBrought schemas.now undo.now) }
 {
-    let kept = keep_if(alloc, schemas, undo)?;
-    Ok(Brought {
-        undo: Undo {
-            kind: undo.kind,
-            table: undo.table,
-            key: undo.key.copied()?,
-            value: undo.value.copied()?,
-        },
-        kept,
+    let undo = copied(undo)?;
+    let kept = keep_if(alloc, schemas, &undo)?;
+    Ok(Brought { undo, kept })
+}
+
+fn copied(undo: &Undo) -> Result<Undo, NoMemory>
+    ensures { IfOk result (λ copy. copy ≡ undo.now) }
+{
+    Ok(Undo {
+        kind: undo.kind,
+        table: undo.table,
+        key: undo.key.copied()?,
+        value: undo.value.copied()?,
     })
 }

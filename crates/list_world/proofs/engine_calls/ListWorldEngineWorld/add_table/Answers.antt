@@ -17,8 +17,8 @@ made_table-requires c =
     let has : HasWork c.args.s session work (world_of c.args.self.now) = c.requires.may.2 in
     let there : slice_get l.sessions.items c.args.s ≡ Some session = there_of c.args.s session c.self.view_is has.session_is in
     let here : c.index_mut.result.now ≡ session = read_of c.args.s session c.index_mut.result.now c.self.view_is has.session_is c.index_mut.ensures.value in
-    let room : owed_by_all l.sessions.items + 2 ≤ c.take_room.new.history.room = rw c.deref.ensures.value at c.in_ok-take_room.ensures.ok in
-    let fits : owed_by_all l.sessions.items + 2 < 2 ^ 64 = rw c.deref.ensures.value at c.in_ok-take_room.ensures.fits in
+    let room : owed_by_all l.sessions.items + 2 ≤ c.take_room.new.history.room = rw c.deref.ensures.value at c.in-Ok-take_room.ensures.ok in
+    let fits : owed_by_all l.sessions.items + 2 < 2 ^ 64 = rw c.deref.ensures.value at c.in-Ok-take_room.ensures.fits in
     rw (here, has.work_is) (omega (arith, fits, owes_own session work has.work_is, part_le owed_of l.sessions.items c.args.s session there))
 
 pub add-requires : goal.add-requires
@@ -29,8 +29,8 @@ add-requires c =
     let has : HasWork c.args.s session work (world_of c.args.self.now) = c.requires.may.2 in
     let there : slice_get l.sessions.items c.args.s ≡ Some session = there_of c.args.s session c.self.view_is has.session_is in
     let here : c.index_mut.result.now ≡ session = read_of c.args.s session c.index_mut.result.now c.self.view_is has.session_is c.index_mut.ensures.value in
-    let room : owed_by_all l.sessions.items + 2 ≤ c.take_room.new.history.room = rw c.deref.ensures.value at c.in_ok-take_room.ensures.ok in
-    let fits : owed_by_all l.sessions.items + 2 < 2 ^ 64 = rw c.deref.ensures.value at c.in_ok-take_room.ensures.fits in
+    let room : owed_by_all l.sessions.items + 2 ≤ c.take_room.new.history.room = rw c.deref.ensures.value at c.in-Ok-take_room.ensures.ok in
+    let fits : owed_by_all l.sessions.items + 2 < 2 ^ 64 = rw c.deref.ensures.value at c.in-Ok-take_room.ensures.fits in
     omega (arith, room)
 
 pub invariant_of-self-2 : goal.invariant_of-self-2
@@ -41,11 +41,11 @@ invariant_of-self-2 c =
     let has : HasWork c.args.s session work (world_of c.args.self.now) = c.requires.may.2 in
     let there : slice_get l.sessions.items c.args.s ≡ Some session = there_of c.args.s session c.self.view_is has.session_is in
     let here : c.index_mut.result.now ≡ session = read_of c.args.s session c.index_mut.result.now c.self.view_is has.session_is c.index_mut.ensures.value in
-    let room : owed_by_all l.sessions.items + 2 ≤ c.take_room.new.history.room = rw c.deref.ensures.value at c.in_ok-take_room.ensures.ok in
-    let fits : owed_by_all l.sessions.items + 2 < 2 ^ 64 = rw c.deref.ensures.value at c.in_ok-take_room.ensures.fits in
+    let room : owed_by_all l.sessions.items + 2 ≤ c.take_room.new.history.room = rw c.deref.ensures.value at c.in-Ok-take_room.ensures.ok in
+    let fits : owed_by_all l.sessions.items + 2 < 2 ^ 64 = rw c.deref.ensures.value at c.in-Ok-take_room.ensures.fits in
     let made : Work → Work = λ w. record w { own = w.own + 1 } in
     let new : Session = working made session in
-    let added : AreAdded 8 l.indexes.items c.add_indexes.new.indexes.items = rw c.in_ok-reserve.ensures.items at c.add_indexes.ensures in
+    let added : AreAdded 8 l.indexes.items c.add_indexes.new.indexes.items = rw c.in-Ok.ensures.items at c.add_indexes.ensures in
     let sound =
     sound_set l.history.room l.rows (length l.schemas) (length l.indexes.items) l.slots l.txns.begun l.sessions.items c.args.s session new
     c.add.new.self.room l.rows l.slots c.self.invariant there
@@ -53,10 +53,10 @@ invariant_of-self-2 c =
     (promised_same l.slots l.sessions.items c.args.s session new c.self.invariant.promised there refl refl)
     (omega (arith, owes_made session work has.work_is, c.add.ensures.room, room)) (omega (arith, owes_made session work has.work_is, fits))
     (omega (arith, c.self.invariant.counted)) in
-    rw (c.made_table.ensures, here, c.in_ok-push.ensures.ok)
+    rw (c.made_table.ensures, here, c.in-Ok-push_copy.ensures.ok)
     (sound_tables c.add.new.self.room l.rows (length l.schemas) (length l.indexes.items) l.slots l.txns.begun (slice_set l.sessions.items c.args.s new)
-    (length (l.schemas ++ c.in_ok-copy.copy ∷ [])) (length c.add_indexes.new.indexes.items) sound
-    (omega (arith, added.count, length-append l.schemas (c.in_ok-copy.copy ∷ []), c.self.invariant.numbered)))
+    (length (l.schemas ++ c.args.schema ∷ [])) (length c.add_indexes.new.indexes.items) sound
+    (omega (arith, added.count, length-append l.schemas (c.args.schema ∷ []), c.self.invariant.numbered)))
 
 pub returns-clause-ok : goal.returns-clause-ok
 returns-clause-ok c =
@@ -66,9 +66,9 @@ returns-clause-ok c =
     let has : HasWork c.args.s session work (world_of c.args.self.now) = c.requires.may.2 in
     let there : slice_get l.sessions.items c.args.s ≡ Some session = there_of c.args.s session c.self.view_is has.session_is in
     let here : c.index_mut.result.now ≡ session = read_of c.args.s session c.index_mut.result.now c.self.view_is has.session_is c.index_mut.ensures.value in
-    let room : owed_by_all l.sessions.items + 2 ≤ c.take_room.new.history.room = rw c.deref.ensures.value at c.in_ok-take_room.ensures.ok in
-    let fits : owed_by_all l.sessions.items + 2 < 2 ^ 64 = rw c.deref.ensures.value at c.in_ok-take_room.ensures.fits in
-    let added : AreAdded 8 l.indexes.items c.add_indexes.new.indexes.items = rw c.in_ok-reserve.ensures.items at c.add_indexes.ensures in
+    let room : owed_by_all l.sessions.items + 2 ≤ c.take_room.new.history.room = rw c.deref.ensures.value at c.in-Ok-take_room.ensures.ok in
+    let fits : owed_by_all l.sessions.items + 2 < 2 ^ 64 = rw c.deref.ensures.value at c.in-Ok-take_room.ensures.fits in
+    let added : AreAdded 8 l.indexes.items c.add_indexes.new.indexes.items = rw c.in-Ok.ensures.items at c.add_indexes.ensures in
     let parts : Parts =
     record {
       names = l.history.names;
@@ -87,11 +87,10 @@ returns-clause-ok c =
       c.made_table.ensures,
       here,
       has.work_is,
-      c.in_ok-push.ensures.ok,
-      c.in_ok-copy.ensures,
+      c.in-Ok-push_copy.ensures.ok,
       c.add.ensures.past,
       c.add.ensures.names,
-      c.in_ok-take_room.ensures.same.past,
-      c.in_ok-take_room.ensures.same.names,
+      c.in-Ok-take_room.ensures.same.past,
+      c.in-Ok-take_room.ensures.same.names,
     )
     (makes_table parts c.args.s session work c.args.schema c.add_indexes.new.indexes.items c.self.invariant.numbered mine c.requires.keys added)
