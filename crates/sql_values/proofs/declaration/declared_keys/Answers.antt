@@ -7,3 +7,12 @@ loop-definition-preserved c = grind (arith, common_steps) steps 2000000
 
 pub returns : goal.returns
 returns c = grind (arith, common_steps) steps 2000000
+
+pub loop-definition-init : goal.loop-definition-init
+loop-definition-init c = grind (arith, common_steps)
+
+pub offset_bounds-definition-items-definition-index : goal.offset_bounds-definition-items-definition-index
+offset_bounds-definition-items-definition-index c = grind (arith, common_steps)
+
+pub returns-in_err-push_key : goal.returns-in_err-push_key
+returns-in_err-push_key c = grind (arith, common_steps)

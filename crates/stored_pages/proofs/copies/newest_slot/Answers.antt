@@ -1,3 +1,4 @@
+use Rattle.std.proofs.lemmas.Grind.{common_steps}
 use Rattle.std.proofs.Common.{◌≡◌, ℕ, ◌+◌, ◌<◌, ◌≤◌, Bool, sym, subst, arith}
 use Rattle.std.specs.Prelude.{MatchBool}
 use Rattle.store_api.specs.Areas.{piece}
@@ -35,3 +36,6 @@ pub returns-clause-newest : goal.returns-clause-newest
 returns-clause-newest c =
     let all : c.loop-slot.slot ≡ 64 = omega (arith, c.loop-slot.auto.slot-end, c.loop-slot-test.false) in
     newest_is c.args.double.now c.args.number c.loop-slot.newest (subst (λ (n : ℕ). IsNewestTo c.args.double.now c.args.number n c.loop-slot.newest) all c.loop-slot.invariant)
+
+pub is_newer-requires-clause-slot : goal.is_newer-requires-clause-slot
+is_newer-requires-clause-slot c = grind (arith, common_steps)

@@ -1,3 +1,5 @@
+use Rattle.std.proofs.Common.{arith}
+use Rattle.std.proofs.lemmas.Grind.{common_steps}
 use Rattle.undo_apply.proofs.Goes.{await_step, await_unwritten, nexted_leaves}
 use Rattle.undo_apply.proofs.key_steps.await_entries.Goals as goal
 
@@ -17,3 +19,12 @@ pub returns-then-not-write_entry-clause-puts : goal.returns-then-not-write_entry
 returns-then-not-write_entry-clause-puts g c = λ chains beside place is.
     await_unwritten c.args.actor is c.args.which c.requires.stage c.write_entry.new.entries c.write_entry.result
     (rw c.deref.ensures.value at c.write_entry.ensures) c.if-not-write_entry.true
+
+pub returns-then-not-write_entry-clause-awaits : goal.returns-then-not-write_entry-clause-awaits
+returns-then-not-write_entry-clause-awaits g c = grind (arith, common_steps)
+
+pub next_key-answer-requires-clause-index : goal.next_key-answer-requires-clause-index
+next_key-answer-requires-clause-index g c = grind (arith, common_steps)
+
+pub next_key-answer-requires-clause-holds : goal.next_key-answer-requires-clause-holds
+next_key-answer-requires-clause-holds g c = grind (arith, common_steps)

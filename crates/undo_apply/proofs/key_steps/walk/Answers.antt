@@ -1,3 +1,5 @@
+use Rattle.std.proofs.Common.{arith}
+use Rattle.std.proofs.lemmas.Grind.{common_steps}
 use Rattle.store_api.specs.declared.moves.Move.TheVariants.{Again, Failed, Bad}
 use Rattle.row_changes.proofs.Changing.{unchanged_stays}
 use Rattle.undo_apply.specs.declared.work_room.Stage.TheVariants.{Walk}
@@ -43,3 +45,18 @@ pub returns-in-Err-Bad-clause-puts : goal.returns-in-Err-Bad-clause-puts
 returns-in-Err-Bad-clause-puts g c = λ chains beside place actor is.
     walk_stopped actor is c.args.which c.args.pointer c.requires.stage c.value.new.into c.value.ensures.room (g.W.World.state c.value.new.self)
     c.value.ensures.rest (Bad c.in-Err-Bad.page c.in-Err-Bad.rule) (λ e. cc) (rw c.in-Err-Bad.field-0-is at c.in-Err-Bad.ensures.answer)
+
+pub value-requires-clause-holds : goal.value-requires-clause-holds
+value-requires-clause-holds g c = grind (arith, common_steps)
+
+pub returns-in-Ok-true-clause-awaits : goal.returns-in-Ok-true-clause-awaits
+returns-in-Ok-true-clause-awaits g c = grind (arith, common_steps)
+
+pub returns-in-Ok-false-clause-awaits : goal.returns-in-Ok-false-clause-awaits
+returns-in-Ok-false-clause-awaits g c = grind (arith, common_steps)
+
+pub returns-in-Err-Failed-clause-awaits : goal.returns-in-Err-Failed-clause-awaits
+returns-in-Err-Failed-clause-awaits g c = grind (arith, common_steps)
+
+pub returns-in-Err-Again-clause-awaits : goal.returns-in-Err-Again-clause-awaits
+returns-in-Err-Again-clause-awaits g c = grind (arith, common_steps)

@@ -1,3 +1,5 @@
+use Rattle.std.proofs.Common.{arith}
+use Rattle.std.proofs.lemmas.Grind.{common_steps}
 use Rattle.std.proofs.Common.{◌≡◌, ◌∙◌, Some, sym}
 use Rattle.std.proofs.lemmas.Bool.{true≢false}
 use Rattle.undo_apply.specs.{Standing.was_before}
@@ -28,3 +30,9 @@ returns-in_default-clause-puts g c = λ chains beside place is.
     find_stopped c.args.actor is c.requires.stage c.fetch.new.into c.fetch.ensures.room (g.W.World.state c.fetch.new.self) c.fetch.result
     (rw c.records_of.ensures at c.fetch.ensures.answer) (c.fetch.ensures.untouched (not_done_test c.fetch.result c.in_default.not-Done)) c.in_default.not-Done
     c.in_default.not-End
+
+pub fetch-requires-clause-holds : goal.fetch-requires-clause-holds
+fetch-requires-clause-holds g c = grind (arith, common_steps)
+
+pub returns-then-is_version_before-clause-awaits : goal.returns-then-is_version_before-clause-awaits
+returns-then-is_version_before-clause-awaits g c = grind (arith, common_steps)

@@ -1,3 +1,4 @@
+use Rattle.std.proofs.lemmas.Grind.{common_steps}
 use Rattle.std.proofs.Common.{◌≡◌, true, false, max, ℕ, ◌+◌, ◌-◌, ◌*◌, ◌^◌, ◌≤◌, ◌<◌, refl, List, [], ◌++◌, ◌∷◌, length, take, drop, sym, ◌∙◌, ap, subst, arith, length-take, length-drop}
 use Rattle.std.proofs.lemmas.List.{take_all, length-take-le}
 use Rattle.std.specs.List.{flat_map}
@@ -318,3 +319,150 @@ returns-clause-spare c = λ rs is.
     let after = spare_after (room_of rs) i.room (length i.pending.items) (i.block + i.count) i.next (blocks_for (14 + length (flat_map record_bytes rs))) want
     (i.block + (kept + n)) refl (omega arith) more later in
     rw (spare, room, longer) after
+
+pub overflow_mul-end : goal.overflow_mul-end
+overflow_mul-end c = grind (arith, common_steps)
+
+pub slice_bounds-put_behind-count : goal.slice_bounds-put_behind-count
+slice_bounds-put_behind-count c = grind (arith, common_steps)
+
+pub slice_bounds-put_behind-start : goal.slice_bounds-put_behind-start
+slice_bounds-put_behind-start c = grind (arith, common_steps)
+
+pub slice_bounds-put_behind-end : goal.slice_bounds-put_behind-end
+slice_bounds-put_behind-end c = grind (arith, common_steps)
+
+pub put_behind-requires-clause-body : goal.put_behind-requires-clause-body
+put_behind-requires-clause-body c = grind (arith, common_steps)
+
+pub put_behind-requires-clause-whole : goal.put_behind-requires-clause-whole
+put_behind-requires-clause-whole c = grind (arith, common_steps)
+
+pub put_behind-requires-clause-room : goal.put_behind-requires-clause-room
+put_behind-requires-clause-room c = grind (arith, common_steps)
+
+pub invariant_of-self : goal.invariant_of-self
+invariant_of-self c = grind (arith, common_steps)
+
+pub returns-in_err-rest-clause-lsn : goal.returns-in_err-rest-clause-lsn
+returns-in_err-rest-clause-lsn c = grind (arith, common_steps)
+
+pub returns-in_err-rest-clause-run : goal.returns-in_err-rest-clause-run
+returns-in_err-rest-clause-run c = grind (arith, common_steps)
+
+pub returns-in_err-rest-clause-flushed : goal.returns-in_err-rest-clause-flushed
+returns-in_err-rest-clause-flushed c = grind (arith, common_steps)
+
+pub returns-in_err-rest-clause-next : goal.returns-in_err-rest-clause-next
+returns-in_err-rest-clause-next c = grind (arith, common_steps)
+
+pub returns-in_err-rest-clause-ok : goal.returns-in_err-rest-clause-ok
+returns-in_err-rest-clause-ok c = grind (arith, common_steps)
+
+pub returns-in_err-rest-clause-front : goal.returns-in_err-rest-clause-front
+returns-in_err-rest-clause-front c = grind (arith, common_steps)
+
+pub returns-in_err-rest-clause-written : goal.returns-in_err-rest-clause-written
+returns-in_err-rest-clause-written c = grind (arith, common_steps)
+
+pub returns-in_err-rest-clause-spare : goal.returns-in_err-rest-clause-spare
+returns-in_err-rest-clause-spare c = grind (arith, common_steps)
+
+pub returns-in_err-rest-clause-err : goal.returns-in_err-rest-clause-err
+returns-in_err-rest-clause-err c = grind (arith, common_steps)
+
+pub overflow_add-want : goal.overflow_add-want
+overflow_add-want c = grind (arith, common_steps)
+
+pub overflow_add-self-inside : goal.overflow_add-self-inside
+overflow_add-self-inside c = grind (arith, common_steps)
+
+pub invariant_of-self-then-numbers_from-max : goal.invariant_of-self-then-numbers_from-max
+invariant_of-self-then-numbers_from-max c = grind (arith, common_steps)
+
+pub returns-then-numbers_from-max-clause-run : goal.returns-then-numbers_from-max-clause-run
+returns-then-numbers_from-max-clause-run c = grind (arith, common_steps)
+
+pub returns-then-numbers_from-max-clause-flushed : goal.returns-then-numbers_from-max-clause-flushed
+returns-then-numbers_from-max-clause-flushed c = grind (arith, common_steps)
+
+pub returns-then-numbers_from-max-clause-front : goal.returns-then-numbers_from-max-clause-front
+returns-then-numbers_from-max-clause-front c = grind (arith, common_steps)
+
+pub returns-then-numbers_from-max-clause-err : goal.returns-then-numbers_from-max-clause-err
+returns-then-numbers_from-max-clause-err c = grind (arith, common_steps)
+
+pub widened-requires-clause-fits : goal.widened-requires-clause-fits
+widened-requires-clause-fits c = grind (arith, common_steps)
+
+pub widened-requires-clause-pending_holds : goal.widened-requires-clause-pending_holds
+widened-requires-clause-pending_holds c = grind (arith, common_steps)
+
+pub widened-requires-clause-work_holds : goal.widened-requires-clause-work_holds
+widened-requires-clause-work_holds c = grind (arith, common_steps)
+
+pub invariant_of-self-in_err-self-inside : goal.invariant_of-self-in_err-self-inside
+invariant_of-self-in_err-self-inside c = grind (arith, common_steps)
+
+pub returns-in_err-self-inside-clause-lsn : goal.returns-in_err-self-inside-clause-lsn
+returns-in_err-self-inside-clause-lsn c = grind (arith, common_steps)
+
+pub returns-in_err-self-inside-clause-run : goal.returns-in_err-self-inside-clause-run
+returns-in_err-self-inside-clause-run c = grind (arith, common_steps)
+
+pub returns-in_err-self-inside-clause-flushed : goal.returns-in_err-self-inside-clause-flushed
+returns-in_err-self-inside-clause-flushed c = grind (arith, common_steps)
+
+pub returns-in_err-self-inside-clause-next : goal.returns-in_err-self-inside-clause-next
+returns-in_err-self-inside-clause-next c = grind (arith, common_steps)
+
+pub returns-in_err-self-inside-clause-ok : goal.returns-in_err-self-inside-clause-ok
+returns-in_err-self-inside-clause-ok c = grind (arith, common_steps)
+
+pub returns-in_err-self-inside-clause-front : goal.returns-in_err-self-inside-clause-front
+returns-in_err-self-inside-clause-front c = grind (arith, common_steps)
+
+pub returns-in_err-self-inside-clause-written : goal.returns-in_err-self-inside-clause-written
+returns-in_err-self-inside-clause-written c = grind (arith, common_steps)
+
+pub returns-in_err-self-inside-clause-spare : goal.returns-in_err-self-inside-clause-spare
+returns-in_err-self-inside-clause-spare c = grind (arith, common_steps)
+
+pub returns-in_err-self-inside-clause-err : goal.returns-in_err-self-inside-clause-err
+returns-in_err-self-inside-clause-err c = grind (arith, common_steps)
+
+pub overflow_add-self-inside-2 : goal.overflow_add-self-inside-2
+overflow_add-self-inside-2 c = grind (arith, common_steps)
+
+pub put_both_as_blocks-count-requires-clause-numbers : goal.put_both_as_blocks-count-requires-clause-numbers
+put_both_as_blocks-count-requires-clause-numbers c = grind (arith, common_steps)
+
+pub put_both_as_blocks-count-requires-clause-room : goal.put_both_as_blocks-count-requires-clause-room
+put_both_as_blocks-count-requires-clause-room c = grind (arith, common_steps)
+
+pub overflow_add-self : goal.overflow_add-self
+overflow_add-self c = grind (arith, common_steps)
+
+pub overflow_add-self-2 : goal.overflow_add-self-2
+overflow_add-self-2 c = grind (arith, common_steps)
+
+pub overflow_sub-result : goal.overflow_sub-result
+overflow_sub-result c = grind (arith, common_steps)
+
+pub invariant_of-self-2 : goal.invariant_of-self-2
+invariant_of-self-2 c = grind (arith, common_steps)
+
+pub returns-clause-lsn : goal.returns-clause-lsn
+returns-clause-lsn c = grind (arith, common_steps)
+
+pub returns-clause-run : goal.returns-clause-run
+returns-clause-run c = grind (arith, common_steps)
+
+pub returns-clause-flushed : goal.returns-clause-flushed
+returns-clause-flushed c = grind (arith, common_steps)
+
+pub returns-clause-next : goal.returns-clause-next
+returns-clause-next c = grind (arith, common_steps)
+
+pub returns-clause-front : goal.returns-clause-front
+returns-clause-front c = grind (arith, common_steps)

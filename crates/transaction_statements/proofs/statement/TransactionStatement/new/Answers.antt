@@ -1,3 +1,5 @@
+use Rattle.std.proofs.Common.{arith}
+use Rattle.std.proofs.lemmas.Grind.{common_steps}
 use Rattle.std.proofs.Common.{subst}
 use Rattle.inno_types.specs.declared.stmt.Stmt.TheVariants as stmt
 use Rattle.sql_lists.specs.Steps.{IsTaken}
@@ -19,3 +21,51 @@ returns-in-Begin g c =
       ),
       c.requires.idle,
     )
+
+pub new_rollback_to-requires-clause-joined : goal.new_rollback_to-requires-clause-joined
+new_rollback_to-requires-clause-joined g c = grind (arith, common_steps)
+
+pub new_rollback_to-requires-clause-taken : goal.new_rollback_to-requires-clause-taken
+new_rollback_to-requires-clause-taken g c = grind (arith, common_steps)
+
+pub new_rollback_to-requires-clause-idle : goal.new_rollback_to-requires-clause-idle
+new_rollback_to-requires-clause-idle g c = grind (arith, common_steps)
+
+pub new_savepoint-requires-clause-joined : goal.new_savepoint-requires-clause-joined
+new_savepoint-requires-clause-joined g c = grind (arith, common_steps)
+
+pub new_savepoint-requires-clause-taken : goal.new_savepoint-requires-clause-taken
+new_savepoint-requires-clause-taken g c = grind (arith, common_steps)
+
+pub new_savepoint-requires-clause-idle : goal.new_savepoint-requires-clause-idle
+new_savepoint-requires-clause-idle g c = grind (arith, common_steps)
+
+pub new_autocommit-requires-clause-joined : goal.new_autocommit-requires-clause-joined
+new_autocommit-requires-clause-joined g c = grind (arith, common_steps)
+
+pub new_autocommit-requires-clause-taken : goal.new_autocommit-requires-clause-taken
+new_autocommit-requires-clause-taken g c = grind (arith, common_steps)
+
+pub new_autocommit-requires-clause-idle : goal.new_autocommit-requires-clause-idle
+new_autocommit-requires-clause-idle g c = grind (arith, common_steps)
+
+pub unreachable-unreachable : goal.unreachable-unreachable
+unreachable-unreachable g c = grind (arith, common_steps)
+
+pub returns-in-Commit : goal.returns-in-Commit
+returns-in-Commit g c = grind (arith, common_steps)
+
+pub returns-in-Rollback : goal.returns-in-Rollback
+returns-in-Rollback g c = grind (arith, common_steps)
+
+pub returns-in-RollbackTo : goal.returns-in-RollbackTo
+returns-in-RollbackTo g c = grind (arith, common_steps)
+
+pub returns-in-Savepoint : goal.returns-in-Savepoint
+returns-in-Savepoint g c = grind (arith, common_steps)
+
+pub returns-in-SetAutocommit : goal.returns-in-SetAutocommit
+returns-in-SetAutocommit g c = grind (arith, common_steps)
+
+pub returns-in-SetLevel : goal.returns-in-SetLevel
+returns-in-SetLevel g c = grind (arith, common_steps)
