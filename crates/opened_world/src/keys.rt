@@ -34,7 +34,8 @@ const ACTOR: u32 = 0;
 /// The key of the row's record.
 fn key_bytes(alloc: Global, schema: &Schema, row: &Row) -> Result<Bytes, NoMemory>
     requires { (column : Column) × (slice_get schema.now.columns schema.now.primary ≡ Some column) × IsOfKind column.kind (key_of schema.now row.now) }
-    ensures { IfOk result (λ bytes. (column : Column) → slice_get schema.now.columns schema.now.primary ≡ Some column → bytes ≡ key_code column.kind (key_of schema.now row.now)) }
+    ensures { IfOk result (λ bytes. (column : Column) → slice_get schema.now.columns schema.now.primary ≡ Some column
+        → bytes ≡ key_code column.kind (key_of schema.now row.now)) }
 {
     let kind = schema.columns.as_slice()[schema.primary as usize].kind;
     let value = to_value(key_of_row(schema, row))?;
@@ -151,7 +152,9 @@ pub fn enter_keys(
 fn take_over(alloc: Global, world: &mut ListWorld, change: &mut KeysChange) -> Result<(), NoMemory>
     requires keys { (chains : Chains) × IsChangingKeys chains (what_is_there chains) (world_of world.old) change.old }
     requires nobody { AwaitsNobody (world_of world.old) }
-    ensures { OnOk result ((table : ℕ) (key : List ℕ) (row : List Value) → change.old ≡ record { table = table; key = key; before = None; after = Some row; which = 0; put = None } → TakesKeysOver table key row (world_of world.old) (world_of world.new)) }
+    ensures { OnOk result ((table : ℕ) (key : List ℕ) (row : List Value)
+        → change.old ≡ record { table = table; key = key; before = None; after = Some row; which = 0; put = None }
+        → TakesKeysOver table key row (world_of world.old) (world_of world.new)) }
 {
     for _ in 0..u32::MAX {
         if is_over(change.advance(alloc, world, ACTOR))? {

@@ -114,7 +114,8 @@ fn add_row(
     added: &mut Vec<Row>,
     tuple: &Literals,
 ) -> Result<Option<SqlError>, AllocError>
-    ensures added { IfOk result (λ refusal. IfNone refusal ((row : List Value) × (row_for schema.now names.now (rows.now ++ added.old.items) tuple.now ≡ Ok row) × (added.new.items ≡ added.old.items ++ row ∷ []))) }
+    ensures added { IfOk result (λ refusal. IfNone refusal ((row : List Value)
+        × (row_for schema.now names.now (rows.now ++ added.old.items) tuple.now ≡ Ok row) × (added.new.items ≡ added.old.items ++ row ∷ []))) }
     ensures refused { IfOk result (λ refusal. IfSome refusal (λ error. (row_for schema.now names.now (rows.now ++ added.old.items) tuple.now ≡ Err error) × (added.new ≡ added.old))) }
 {
     match row_of(alloc, schema, names, rows, added, tuple)? {
@@ -212,8 +213,10 @@ fn add_update(
     row: &Row,
     changes: &mut Vec<Change>,
 ) -> Result<Option<SqlError>, AllocError>
-    ensures changed { IfOk result (λ refusal. IfNone refusal ((change : Option Change) × (row_update table schema.now sets.now row.now ≡ Ok change) × (changes.new.items ≡ changes.old.items ++ option_to_list change))) }
-    ensures refused { IfOk result (λ refusal. IfSome refusal (λ error. (row_update table schema.now sets.now row.now ≡ Err error) × (changes.new ≡ changes.old))) }
+    ensures changed { IfOk result (λ refusal. IfNone refusal ((change : Option Change) × (row_update table schema.now sets.now row.now ≡ Ok change)
+        × (changes.new.items ≡ changes.old.items ++ option_to_list change))) }
+    ensures refused { IfOk result (λ refusal. IfSome refusal (λ error. (row_update table schema.now sets.now row.now ≡ Err error)
+        × (changes.new ≡ changes.old))) }
 {
     match update_row(table, schema, sets, row)? {
         Ok(Some(change)) => {

@@ -3,7 +3,8 @@
 use Rattle.std.proofs.Common.{◌≡◌, ℕ, List, Option, Some, None, Bool, true, false, refl}
 use Rattle.std.specs.Prelude.{if◌then◌else◌}
 
-pub stands : {A : Type 0} (t : Bool) (d rest : List ℕ) (one : List ℕ → A) (other : A) → Some rest ≡ (if t then Some d else None) → (if t then one d else other) ≡ one rest
+pub stands : {A : Type 0} (t : Bool) (d rest : List ℕ) (one : List ℕ → A) (other : A) → Some rest ≡ (if t then Some d else None)
+    → (if t then one d else other) ≡ one rest
 stands true d rest one other e = cc
 stands false d rest one other e = absurd (cc)
 

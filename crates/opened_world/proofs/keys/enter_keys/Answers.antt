@@ -7,5 +7,6 @@ pub returns : goal.returns
 returns c =
     on_ok_weaker c.take_over.result
     (λ over. over c.args.table c.args.key c.args.row.now
-    (ap (λ (row : List Value). record { table = c.args.table; key = c.args.key; before = None; after = Some row; which = 0; put = None }) c.in_ok-copied.ensures))
+    (ap (λ (row : List Value). record { table = c.args.table; key = c.args.key; before = None; after = Some row; which = 0; put = None })
+    c.in_ok-copied.ensures))
     c.take_over.ensures

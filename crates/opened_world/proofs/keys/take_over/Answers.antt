@@ -2,7 +2,8 @@ use Rattle.std.proofs.Common.{ℕ, ap, subst, sym}
 use Rattle.law_stored_rows.specs.Tables.{what_is_there}
 use Rattle.list_world.specs.Parts.{world_of}
 use Rattle.list_world.specs.Memory.{in_memory}
-use Rattle.row_changes.specs.{Keys.IsChangingKeys, Keys.ChangesKeys, Awaited.AwaitsIn, declared.keys_change.KeysChange.KeysChange, InPlace.reached_at, Reached.Done}
+use Rattle.row_changes.specs.{Keys.IsChangingKeys, Keys.ChangesKeys, Awaited.AwaitsIn, declared.keys_change.KeysChange.KeysChange, InPlace.reached_at}
+use Rattle.row_changes.specs.{Reached.Done}
 use Rattle.opened_world.proofs.Taking.{Steps, taking_next, taking_lacks, taken_rows, same_table, taken_rest, taken_later}
 use Rattle.opened_world.proofs.keys.take_over.Goals as goal
 
@@ -13,7 +14,8 @@ pub is_over-requires : goal.is_over-requires
 is_over-requires c =
     let mid = world_of c.loop.world in
     let new = world_of c.advance.new.world in
-    λ why is. taking_lacks _ (world_of c.args.world.now) mid new c.loop.change c.loop.invariant (in_memory c.loop.world) c.requires.nobody c.advance.new.self why
+    λ why is. taking_lacks _ (world_of c.args.world.now) mid new c.loop.change c.loop.invariant (in_memory c.loop.world) c.requires.nobody
+    c.advance.new.self why
     (λ chains holds. subst (ChangesKeys 0 chains (what_is_there chains) mid new c.loop.change) (ap (reached_at c.advance.new.self) is)
     (c.advance.ensures.changes chains (what_is_there chains) holds))
 
@@ -21,7 +23,8 @@ pub returns-then-branch : goal.returns-then-branch
 returns-then-branch c =
     let mid = world_of c.loop.world in
     let new = world_of c.advance.new.world in
-    let steps : Steps _ (world_of c.args.world.now) mid new c.loop.change c.loop.invariant Done = λ chains holds. subst (ChangesKeys 0 chains (what_is_there chains) mid new c.loop.change)
+    let steps : Steps _ (world_of c.args.world.now) mid new c.loop.change c.loop.invariant Done =
+    λ chains holds. subst (ChangesKeys 0 chains (what_is_there chains) mid new c.loop.change)
     (ap (reached_at c.advance.new.self) (c.is_over.ensures.over search)) (c.advance.ensures.changes chains (what_is_there chains) holds) in
     λ table key row is. record {
       rows = λ chains starts. taken_rows _ (world_of c.args.world.now) mid new c.loop.change c.loop.invariant steps chains

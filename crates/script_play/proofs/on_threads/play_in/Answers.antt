@@ -67,7 +67,8 @@ conclude-requires-clause-set_up g c = record {
   before = c.make_calls.new.session.seen.past;
   seen = c.split_all-joined.ensures.seen;
   over = c.split_all-joined.ensures.same.2
-      ∙ ap (λ (x : ℕ). calls_of x c.make_calls.new.session.seen.past) (c.make_calls.ensures.same.1 ∙ (c.requires.first.1 ∙ sym c.split_all-joined.ensures.same.1));
+      ∙ ap (λ (x : ℕ). calls_of x c.make_calls.new.session.seen.past) (c.make_calls.ensures.same.1 ∙
+      (c.requires.first.1 ∙ sym c.split_all-joined.ensures.same.1));
   alone = λ x above below. c.split_all-joined.ensures.uncalled x
       (let one = ap length (c.make_calls.ensures.names c.requires.first.1 ∙ c.requires.first.2) in omega (arith, above, one)) below;
 }
@@ -77,7 +78,8 @@ conclude-requires-else-joined-clause-set_up g c = record {
   before = c.make_calls.new.session.seen.past;
   seen = c.split_all-joined.ensures.seen;
   over = c.split_all-joined.ensures.same.2
-      ∙ ap (λ (x : ℕ). calls_of x c.make_calls.new.session.seen.past) (c.make_calls.ensures.same.1 ∙ (c.requires.first.1 ∙ sym c.split_all-joined.ensures.same.1));
+      ∙ ap (λ (x : ℕ). calls_of x c.make_calls.new.session.seen.past) (c.make_calls.ensures.same.1 ∙
+      (c.requires.first.1 ∙ sym c.split_all-joined.ensures.same.1));
   alone = λ x above below. c.split_all-joined.ensures.uncalled x
       (let one = ap length (c.make_calls.ensures.names c.requires.first.1 ∙ c.requires.first.2) in omega (arith, above, one)) below;
 }
