@@ -43,7 +43,8 @@ returns-in-Done-clause-awaits g c =
     let may = may_enter p _ _ (stage_at _ _ _ p Insert c.requires.stage).0 (rw c.in-Done.is at c.insert-answer.ensures).beside in
     let call = (rw c.index.ensures at c.insert-answer.ensures).index_is in
     entered_awaits c.args.s (clustered_index c.args.self.now.table) _ (g.W.World.state c.args.world.now) _ _ _ _ may.0 may.1 call
-    (insert_with_here (Some c.in-Ok-undo_of_new.undo) c.args.s c.args.self.now.key _ _ _ c.insert-answer.result (stage_at _ _ _ p Insert c.requires.stage).2 call.here)
+    (insert_with_here (Some c.in-Ok-undo_of_new.undo) c.args.s c.args.self.now.key _ _ _ c.insert-answer.result
+    (stage_at _ _ _ p Insert c.requires.stage).2 call.here)
     ((rw c.take_edit.ensures at c.enter.ensures) may.0 may.1 may.2)
 
 pub insert-answer-requires-clause-index : goal.insert-answer-requires-clause-index
