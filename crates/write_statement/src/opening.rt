@@ -196,6 +196,14 @@ fn table_number(schemas: &Listed<Schema>, stmt: &Stmt) -> u8
                 None => unreachable!(),
             }
         }
-        _ => unreachable!(),
+        Stmt::CreateTable { .. }
+        | Stmt::Select { .. }
+        | Stmt::Begin { .. }
+        | Stmt::Commit
+        | Stmt::Rollback
+        | Stmt::RollbackTo { .. }
+        | Stmt::Savepoint { .. }
+        | Stmt::SetAutocommit(_)
+        | Stmt::SetLevel { .. } => unreachable!(),
     }
 }

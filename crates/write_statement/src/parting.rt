@@ -108,7 +108,17 @@ fn has_parts(stmt: &Stmt) -> bool
 {
     match stmt {
         Stmt::Insert { tuples, .. } => tuples.len() > 1,
-        _ => false,
+        Stmt::CreateTable { .. }
+        | Stmt::Select { .. }
+        | Stmt::Update { .. }
+        | Stmt::Delete { .. }
+        | Stmt::Begin { .. }
+        | Stmt::Commit
+        | Stmt::Rollback
+        | Stmt::RollbackTo { .. }
+        | Stmt::Savepoint { .. }
+        | Stmt::SetAutocommit(_)
+        | Stmt::SetLevel { .. } => false,
     }
 }
 
