@@ -17,13 +17,13 @@ ghost use Rattle.create_statement.specs.Going.{to_go};
 use crate::ending::finish;
 use crate::machine::CreateStatement;
 use crate::planning::{is_there, table_to_make};
-use inno_types::{Level, Schema, Stmt};
+use inno_types::{Boxed, Level, Schema, Stmt};
 use shared_lists::SharedLists;
 use sql_lists::{Advance, SqlLists};
 use std::alloc::Global;
 
 pub fn step_asked<L: SharedLists>(
-    stmt: Stmt,
+    stmt: Boxed<Stmt>,
     level: Level,
     session: u32,
     lists: &mut SqlLists<L>,
@@ -34,7 +34,7 @@ pub fn step_asked<L: SharedLists>(
     ensures nears { Nears to_go session lists.old (CreateStatement.Asked stmt level) lists.new result.0 result.1 }
     ensures quiet { count_by changes_rows lists.new.past ≡ count_by changes_rows lists.old.past }
 {
-    if is_there(lists.lists().schemas(), &stmt) {
+    if is_there(lists.lists().schemas(), stmt.get()) {
         return skip(stmt, level, session, lists);
     }
     close(stmt, level, session, lists)
@@ -42,7 +42,7 @@ pub fn step_asked<L: SharedLists>(
 
 /// The table is there: an open transaction is committed all the same.
 fn skip<L: SharedLists>(
-    stmt: Stmt,
+    stmt: Boxed<Stmt>,
     level: Level,
     session: u32,
     lists: &mut SqlLists<L>,
@@ -63,7 +63,7 @@ fn skip<L: SharedLists>(
 
 /// Commits what is open before a table is made.
 fn close<L: SharedLists>(
-    stmt: Stmt,
+    stmt: Boxed<Stmt>,
     level: Level,
     session: u32,
     lists: &mut SqlLists<L>,
@@ -84,7 +84,7 @@ fn close<L: SharedLists>(
 /// Nothing of the session's is open: once nobody else may write the table is made.
 pub fn step_closed<L: SharedLists>(
     alloc: Global,
-    stmt: Stmt,
+    stmt: Boxed<Stmt>,
     level: Level,
     session: u32,
     lists: &mut SqlLists<L>,
@@ -97,7 +97,7 @@ pub fn step_closed<L: SharedLists>(
     if let Some(by) = lists.lists().writer() {
         return wait_closed(by, stmt, level, session, lists);
     }
-    match table_to_make(alloc, lists.lists().schemas(), &stmt) {
+    match table_to_make(alloc, lists.lists().schemas(), stmt.get()) {
         Some(schema) => make(stmt, schema, level, session, lists),
         None => {
             drop(stmt);
@@ -109,7 +109,7 @@ pub fn step_closed<L: SharedLists>(
 /// Another session may write: the statement waits for its transaction.
 fn wait_closed<L: SharedLists>(
     by: u32,
-    stmt: Stmt,
+    stmt: Boxed<Stmt>,
     level: Level,
     session: u32,
     lists: &mut SqlLists<L>,
@@ -134,7 +134,7 @@ fn wait_closed<L: SharedLists>(
 
 /// Makes the table, while nobody else may write. Where no memory is found nothing is made.
 fn make<L: SharedLists>(
-    stmt: Stmt,
+    stmt: Boxed<Stmt>,
     schema: Schema,
     level: Level,
     session: u32,

@@ -11,13 +11,13 @@ ghost use Rattle.create_statement.specs.Running.{IsRunning};
 ghost use Rattle.create_statement.specs.Going.{to_go};
 
 use crate::machine::CreateStatement;
-use inno_types::{Reply, Stmt};
+use inno_types::{Boxed, Reply, Stmt};
 use shared_lists::SharedLists;
 use sql_lists::{Advance, SqlLists};
 
 /// Ends the item of a statement that was done.
 pub fn finish<L: SharedLists>(
-    stmt: Stmt,
+    stmt: Boxed<Stmt>,
     session: u32,
     lists: &mut SqlLists<L>,
 ) -> (CreateStatement, Advance)
@@ -28,13 +28,13 @@ pub fn finish<L: SharedLists>(
     ensures over { result.1 ≡ Advance.Done DoneReply }
     ensures quiet { count_by changes_rows lists.new.past ≡ count_by changes_rows lists.old.past }
 {
-    lists.end_done(session, &stmt);
+    lists.end_done(session, stmt.get());
     drop(stmt);
     (CreateStatement::Failed, Advance::Done(Reply::Done))
 }
 
 pub fn step_ending<L: SharedLists>(
-    stmt: Stmt,
+    stmt: Boxed<Stmt>,
     session: u32,
     lists: &mut SqlLists<L>,
 ) -> (CreateStatement, Advance)

@@ -12,7 +12,7 @@ ghost use Rattle.create_statement.specs.Going.{to_go};
 
 use crate::asking::{step_asked, step_closed};
 use crate::ending::{step_ending, step_failed};
-use inno_types::{Level, Stmt};
+use inno_types::{Boxed, Level, Stmt};
 use shared_lists::SharedLists;
 use sql_lists::{Advance, SqlLists};
 use std::alloc::Global;
@@ -21,20 +21,20 @@ use std::alloc::Global;
 #[derive(Drop)]
 pub enum CreateStatement {
     /// Nothing is done yet. Its transaction is to be of this level.
-    Asked { stmt: Stmt, level: Level },
+    Asked { stmt: Boxed<Stmt>, level: Level },
     /// What was open is committed.
-    Unacked { stmt: Stmt, level: Level },
-    Closed { stmt: Stmt, level: Level },
+    Unacked { stmt: Boxed<Stmt>, level: Level },
+    Closed { stmt: Boxed<Stmt>, level: Level },
     /// Its table is committed, or, where that was there, what was open.
-    Committed { stmt: Stmt },
-    Ending { stmt: Stmt },
+    Committed { stmt: Boxed<Stmt> },
+    Ending { stmt: Boxed<Stmt> },
     /// No memory was found, and no table is made.
     Failed,
 }
 
 impl CreateStatement {
     /// The statement of an item that has done nothing yet.
-    pub fn new<L: SharedLists>(stmt: Stmt, session: u32, lists: &SqlLists<L>) -> Self
+    pub fn new<L: SharedLists>(stmt: Boxed<Stmt>, session: u32, lists: &SqlLists<L>) -> Self
         requires joined { session < length lists.now.names }
         requires kind { IsCreation stmt }
         requires taken { IsTaken session stmt lists.now.past }

@@ -2,6 +2,7 @@
 //! Every crate stands on this one; it has no behaviour but the numbers of errors.
 #![tactic(auto)]
 
+mod boxed;
 mod listed;
 mod lock;
 mod order;
@@ -9,6 +10,7 @@ mod reply;
 mod stmt;
 mod value;
 
+pub use boxed::Boxed;
 pub use listed::{Bytes, Columns, Edges, Ids, Keys, Listed, Locks, Row, Rows};
 pub use lock::{Edge, Level, Lock, LockKind, Mode, Reason, Spot};
 pub use reply::{Cause, Item, Reply, SqlError};

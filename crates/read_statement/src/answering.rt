@@ -57,7 +57,7 @@ fn settle_found<L: SharedLists>(
     ensures within { IfOk result (λ settled. IsWithin settled.kept lists.now.past) }
 {
     let given = reply_by(alloc, found, session, lists)?;
-    settle(given, &found.stmt, found.alone, session, lists)
+    settle(given, found.stmt.get(), found.alone, session, lists)
 }
 
 /// What the statement answers by the rows that were found: rows, or a refusal.
@@ -91,7 +91,7 @@ fn outcome_by<L: SharedLists>(
         lists.lists().schemas(),
         found.table,
         &found.rows,
-        &found.stmt,
+        found.stmt.get(),
     )
 }
 

@@ -17,7 +17,7 @@ use crate::machine::ReadStatement;
 use crate::planning::{Planned, plan_search};
 use giving_up::Leaving;
 use inno_db::Outcome;
-use inno_types::{Reply, Rows, Stmt};
+use inno_types::{Boxed, Reply, Rows, Stmt};
 use plain_sql::plain_on_rows;
 use shared_lists::SharedLists;
 use sql_lists::{Advance, SqlLists};
@@ -28,7 +28,7 @@ use store_api::NoMemory;
 /// MySQL 8.0 Reference Manual, "Transaction Isolation Levels".
 pub fn step_dirty<L: SharedLists>(
     alloc: Global,
-    stmt: Stmt,
+    stmt: Boxed<Stmt>,
     alone: bool,
     session: u32,
     lists: &mut SqlLists<L>,
@@ -39,7 +39,7 @@ pub fn step_dirty<L: SharedLists>(
     ensures steps { Steps IsRunning session lists.old lists.new result.0 result.1 }
     ensures nears { Nears to_go session lists.old (ReadStatement.Open stmt alone) lists.new result.0 result.1 }
 {
-    match read_newest(alloc, &stmt, session, lists) {
+    match read_newest(alloc, stmt.get(), session, lists) {
         Ok(read) => answer_newest(alloc, stmt, alone, &read, session, lists),
         Err(_) => {
             drop(stmt);
@@ -79,7 +79,7 @@ fn read_newest<L: SharedLists>(
 /// Answers by the rows that were read.
 fn answer_newest<L: SharedLists>(
     alloc: Global,
-    stmt: Stmt,
+    stmt: Boxed<Stmt>,
     alone: bool,
     read: &Newest,
     session: u32,
@@ -92,7 +92,7 @@ fn answer_newest<L: SharedLists>(
     ensures steps { Steps IsRunning session lists.old lists.new result.0 result.1 }
     ensures nears { NearsTo 4 session lists.new result.0 result.1 }
 {
-    let settled = settle_newest(alloc, &stmt, alone, read, session, lists);
+    let settled = settle_newest(alloc, stmt.get(), alone, read, session, lists);
     drop(stmt);
     match settled {
         Ok(settled) => close(alone, settled, session, lists),

@@ -16,7 +16,7 @@ use crate::answering::step_found;
 use crate::opening::{step_open, step_opening, step_viewed};
 use crate::searching::step_searching;
 use giving_up::Leaving;
-use inno_types::{Level, Rows, Stmt};
+use inno_types::{Boxed, Level, Rows, Stmt};
 use shared_lists::SharedLists;
 use sql_lists::{Advance, SqlLists};
 use std::alloc::Global;
@@ -26,7 +26,7 @@ use std::mem;
 /// begins next.
 #[derive(Drop)]
 pub struct Asked {
-    pub stmt: Stmt,
+    pub stmt: Boxed<Stmt>,
     pub autocommit: bool,
     pub level: Level,
 }
@@ -34,7 +34,7 @@ pub struct Asked {
 /// A SELECT whose search of its table, by number, is under way.
 #[derive(Drop)]
 pub struct Read {
-    pub stmt: Stmt,
+    pub stmt: Boxed<Stmt>,
     pub table: u8,
     pub alone: bool,
 }
@@ -42,7 +42,7 @@ pub struct Read {
 /// A SELECT with the rows that its search has found.
 #[derive(Drop)]
 pub struct Found {
-    pub stmt: Stmt,
+    pub stmt: Boxed<Stmt>,
     pub table: u8,
     pub alone: bool,
     pub rows: Rows,
@@ -53,9 +53,9 @@ pub struct Found {
 pub enum ReadStatement {
     Opening(Asked),
     /// Its transaction is open.
-    Open { stmt: Stmt, alone: bool },
+    Open { stmt: Boxed<Stmt>, alone: bool },
     /// It has the view that it reads by.
-    Viewed { stmt: Stmt, alone: bool },
+    Viewed { stmt: Boxed<Stmt>, alone: bool },
     Searching(Read),
     Found(Found),
     /// It ends.
@@ -65,7 +65,7 @@ pub enum ReadStatement {
 impl ReadStatement {
     /// A SELECT that was taken with these settings of its session, and that nothing refused at once. Later steps rest on that.
     pub fn new<L: SharedLists>(
-        stmt: Stmt,
+        stmt: Boxed<Stmt>,
         autocommit: bool,
         level: Level,
         session: u32,

@@ -12,7 +12,7 @@ use crate::dirty::step_dirty;
 use crate::machine::{Asked, Read, ReadStatement};
 use crate::planning::{Planned, plan_search};
 use giving_up::Leaving;
-use inno_types::{Level, Stmt};
+use inno_types::{Boxed, Level, Stmt};
 use shared_lists::{Reading, SharedLists};
 use sql_lists::{Advance, SqlLists};
 use std::alloc::Global;
@@ -55,7 +55,7 @@ pub fn step_opening<L: SharedLists>(
 /// Takes the view, where the level asks for one; at READ UNCOMMITTED it reads without.
 pub fn step_open<L: SharedLists>(
     alloc: Global,
-    stmt: Stmt,
+    stmt: Boxed<Stmt>,
     alone: bool,
     session: u32,
     lists: &mut SqlLists<L>,
@@ -87,7 +87,7 @@ pub fn step_open<L: SharedLists>(
 
 /// Takes the view.
 fn view_first<L: SharedLists>(
-    stmt: Stmt,
+    stmt: Boxed<Stmt>,
     alone: bool,
     session: u32,
     lists: &mut SqlLists<L>,
@@ -113,7 +113,7 @@ fn view_first<L: SharedLists>(
 /// Begins to search by the view.
 pub fn step_viewed<L: SharedLists>(
     alloc: Global,
-    stmt: Stmt,
+    stmt: Boxed<Stmt>,
     alone: bool,
     session: u32,
     lists: &mut SqlLists<L>,
@@ -123,7 +123,7 @@ pub fn step_viewed<L: SharedLists>(
     ensures steps { Steps IsRunning session lists.old lists.new result.0 result.1 }
     ensures nears { Nears to_go session lists.old (ReadStatement.Viewed stmt alone) lists.new result.0 result.1 }
 {
-    match plan_search(alloc, &stmt, lists) {
+    match plan_search(alloc, stmt.get(), lists) {
         Ok(planned) => begin_search(planned, stmt, alone, session, lists),
         Err(_) => {
             drop(stmt);
@@ -138,7 +138,7 @@ pub fn step_viewed<L: SharedLists>(
 /// Begins a search as it is planned.
 fn begin_search<L: SharedLists>(
     planned: Planned,
-    stmt: Stmt,
+    stmt: Boxed<Stmt>,
     alone: bool,
     session: u32,
     lists: &mut SqlLists<L>,

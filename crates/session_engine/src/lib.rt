@@ -2,10 +2,12 @@
 //! It is a state machine: nothing here loops over sessions or reads a script. An engine says what keeps the lists.
 #![tactic(auto)]
 
+mod boxed;
 mod machine;
 mod seats;
 mod signalling;
 mod steps;
 
+pub use boxed::BoxedStatement;
 pub use machine::SessionEngine;
 pub use seats::{Seat, SignalItem, Wait};

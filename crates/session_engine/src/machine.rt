@@ -140,7 +140,7 @@ impl<L: SharedLists> SessionEngine<L> {
         ensures err { OnErr result (SameState self.old self.new) }
     {
         self.lists.start(s, item)?;
-        let _ = self.seats.replace(s, seat);
+        drop(self.seats.replace(s, seat));
         Ok(())
     }
 
@@ -163,7 +163,7 @@ impl<L: SharedLists> SessionEngine<L> {
         match self.seats.replace(s, Seat::Idle) {
             Seat::Busy(statement) => {
                 self.lists.ack(s, moment);
-                let _ = self.seats.replace(s, Seat::Busy(statement.acked()));
+                drop(self.seats.replace(s, Seat::Busy(statement.acked())));
             }
             _ => unreachable!(),
         }
@@ -189,7 +189,7 @@ impl<L: SharedLists> SessionEngine<L> {
         match self.seats.replace(s, Seat::Idle) {
             Seat::Busy(statement) => {
                 let (statement, _) = statement.without_room(s, &mut self.lists);
-                let _ = self.seats.replace(s, Seat::Busy(statement));
+                drop(self.seats.replace(s, Seat::Busy(statement)));
             }
             _ => unreachable!(),
         }
@@ -214,17 +214,17 @@ impl<L: SharedLists> SessionEngine<L> {
         match self.seats.replace(s, Seat::Idle) {
             Seat::Refused { at } => {
                 let (seat, progress) = refuse(s, at, &mut self.lists);
-                let _ = self.seats.replace(s, seat);
+                drop(self.seats.replace(s, seat));
                 progress
             }
             Seat::Signalling(item) => {
                 let (seat, progress) = signal(s, item, now, &mut self.lists);
-                let _ = self.seats.replace(s, seat);
+                drop(self.seats.replace(s, seat));
                 progress
             }
             _ => {
                 let (seat, progress) = go_out(s, &mut self.lists);
-                let _ = self.seats.replace(s, seat);
+                drop(self.seats.replace(s, seat));
                 progress
             }
         }
@@ -236,7 +236,7 @@ impl<L: SharedLists> SessionEngine<L> {
         requires idle { IsIdle s self.old }
         ensures { Leaves s self.old self.new }
     {
-        let _ = self.seats.replace(s, Seat::Leaving);
+        drop(self.seats.replace(s, Seat::Leaving));
     }
 
     /// The history, and nothing else.

@@ -4,11 +4,11 @@ ghost use Rattle.std.specs.Prelude.{◌≡◌, ◌<◌, [], ◌∷◌, ◌++◌,
 ghost use Rattle.session_engine.specs.Calls.{StepsTo};
 ghost use Rattle.session_engine.specs.Seats.{IsAtWork, seat_at, is_working, is_busy, owes, phase_of, wants_room, has_left};
 
+use crate::boxed::BoxedStatement;
 use inno_model::Phase;
 use inno_types::Bytes;
 use shared_lists::SharedLists;
 use sql_lists::{Advance, SqlLists};
-use statement::Statement;
 use std::alloc::{AllocError, Global};
 use std::marker::Model;
 use std::mem;
@@ -18,7 +18,7 @@ use store_api::Progress;
 #[derive(Drop)]
 pub enum Seat {
     Idle,
-    Busy(Statement),
+    Busy(BoxedStatement),
     /// Its item's text is no statement: it stops being the beginning of one at this byte.
     Refused { at: u32 },
     /// Its item gives a signal, or awaits one.

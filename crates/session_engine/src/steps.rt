@@ -6,12 +6,12 @@ ghost use Rattle.session_engine.specs.Calls.{Refuses, GoesOut, TellsNone};
 ghost use Rattle.session_engine.specs.Seats.{IsGoingOut, IsSeatOf, IsUnread};
 ghost use Rattle.session_engine.specs.Going.{NearsEnding};
 
+use crate::boxed::BoxedStatement;
 use crate::seats::{Seat, SignalItem, Wait};
 use inno_types::{Item, Reply, SqlError};
 use shared_lists::SharedLists;
 use sql_lists::SqlLists;
 use sql_prefix::{ParseBad, parse};
-use statement::Statement;
 use std::alloc::Global;
 use store_api::{NoMemory, Progress, Stepped};
 
@@ -35,7 +35,7 @@ fn read(alloc: Global, text: &[u8]) -> Result<Seat, NoMemory>
     ensures { IfOk result (IsSeatOf (Item.Sql text.now)) }
 {
     match parse(alloc, text) {
-        Ok(stmt) => Ok(Seat::Busy(Statement::Asked(stmt))),
+        Ok(stmt) => Ok(Seat::Busy(BoxedStatement::new(alloc, stmt)?)),
         Err(ParseBad::Syntax { at }) => Ok(Seat::Refused { at }),
         Err(ParseBad::NoMemory) => Err(NoMemory),
     }

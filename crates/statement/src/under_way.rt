@@ -14,7 +14,7 @@ ghost use Rattle.statement.specs.Running.{IsRunning, IsOfKind, LooksAs, IsBegun,
 ghost use Rattle.statement.specs.Going.{statement_to_go};
 
 use create_statement::CreateStatement;
-use inno_types::{Level, LevelScope, Reply, SqlError, Stmt};
+use inno_types::{Boxed, Level, LevelScope, Reply, SqlError, Stmt};
 use read_statement::ReadStatement;
 use shared_lists::SharedLists;
 use sql_history::SessionSettings;
@@ -31,7 +31,7 @@ pub enum Statement {
     /// Its text is no statement: it stops being the beginning of one at this byte.
     Unread { at: u32 },
     /// It has made no step yet.
-    Asked(Stmt),
+    Asked(Boxed<Stmt>),
     Transaction(TransactionStatement),
     Create(CreateStatement),
     Read(ReadStatement),
@@ -228,7 +228,7 @@ fn give_up<L: SharedLists>(session: u32, lists: &mut SqlLists<L>) -> (Statement,
 /// Looks whether something refuses the statement at once, and else begins it.
 fn first_step<L: SharedLists>(
     alloc: Global,
-    stmt: Stmt,
+    stmt: Boxed<Stmt>,
     session: u32,
     lists: &mut SqlLists<L>,
 ) -> (Statement, Advance)
@@ -238,7 +238,7 @@ fn first_step<L: SharedLists>(
     ensures nears { Nears statement_to_go session lists.old (Statement.Asked stmt) lists.new result.0 result.1 }
     ensures quiet { count_by changes_rows lists.new.past ≡ count_by changes_rows lists.old.past }
 {
-    match examine(alloc, &stmt, session, lists) {
+    match examine(alloc, stmt.get(), session, lists) {
         Ok(Look::Refused(error)) => refuse_at_once(error, stmt, session, lists),
         Ok(Look::Ready { autocommit, level }) => (
             begin(stmt, autocommit, level, session, lists),
@@ -346,7 +346,7 @@ fn is_serializable(level: Level) -> bool
 
 fn refuse_at_once<L: SharedLists>(
     error: SqlError,
-    stmt: Stmt,
+    stmt: Boxed<Stmt>,
     session: u32,
     lists: &mut SqlLists<L>,
 ) -> (Statement, Advance)
@@ -395,7 +395,7 @@ fn kind_of(stmt: &Stmt) -> Kind
 
 /// Nothing refuses the statement at once: it begins.
 fn begin<L: SharedLists>(
-    stmt: Stmt,
+    stmt: Boxed<Stmt>,
     autocommit: bool,
     level: Level,
     session: u32,
@@ -407,12 +407,14 @@ fn begin<L: SharedLists>(
     ensures running { IsRunning lists.now session result }
     ensures begun { IsBegun result }
 {
-    match kind_of(&stmt) {
+    match kind_of(stmt.get()) {
         Kind::Create => Statement::Create(CreateStatement::new(stmt, session, lists)),
         Kind::Read => Statement::Read(ReadStatement::new(stmt, autocommit, level, session, lists)),
         Kind::Write => Statement::Write(WriteStatement::new(stmt, session, lists)),
         Kind::Transaction => Statement::Transaction(TransactionStatement::new(
-            stmt, session, lists,
+            stmt.into_value(),
+            session,
+            lists,
         )),
     }
 }

@@ -15,7 +15,7 @@ ghost use Rattle.write_statement.specs.Running.{IsRunning, IsChanging, IsMade};
 use crate::answering::{give_up, give_up_at, refuse};
 use crate::machine::{Part, WriteStatement};
 use crate::opening::search_part;
-use crate::parting::with_tuple;
+use crate::parting::next_tuple;
 use giving_up::{Leaving, commit, end};
 use inno_db::Change;
 use inno_types::Reply;
@@ -147,7 +147,7 @@ fn made_all<L: SharedLists>(
         drop(stmt);
         return finish(alone, before, session, lists);
     };
-    match with_tuple(stmt, tuple) {
+    match next_tuple(alloc, stmt, tuple) {
         Ok(stmt) => {
             let part = Part {
                 stmt,

@@ -18,7 +18,7 @@ use crate::opening::{step_fresh, step_locking};
 use crate::searching::step_searching;
 use giving_up::Leaving;
 use inno_db::Change;
-use inno_types::{Literals, Stmt};
+use inno_types::{Boxed, Literals, Stmt};
 use shared_lists::SharedLists;
 use sql_lists::{Advance, SqlLists};
 use std::alloc::Global;
@@ -29,11 +29,11 @@ use std::mem;
 pub enum WriteStatement {
     /// It has made no step.
     Fresh {
-        stmt: Stmt,
+        stmt: Boxed<Stmt>,
     },
     /// It has a transaction, and is yet to take the right to write. `alone` says that the transaction is its own.
     Locking {
-        stmt: Stmt,
+        stmt: Boxed<Stmt>,
         alone: bool,
     },
     /// It searches its table for a part.
@@ -63,7 +63,7 @@ pub enum WriteStatement {
 /// made so many changes.
 #[derive(Drop)]
 pub struct Part {
-    pub stmt: Stmt,
+    pub stmt: Boxed<Stmt>,
     pub later: Vec<Literals>,
     pub table: u8,
     pub alone: bool,
@@ -72,7 +72,7 @@ pub struct Part {
 
 impl WriteStatement {
     /// A statement that nothing refused at once. Later steps rest on that, and test it no more.
-    pub fn new<L: SharedLists>(stmt: Stmt, session: u32, lists: &SqlLists<L>) -> Self
+    pub fn new<L: SharedLists>(stmt: Boxed<Stmt>, session: u32, lists: &SqlLists<L>) -> Self
         requires taken { IsTaken session stmt lists.now.past }
         requires writes { IsWriting stmt }
         requires unrefused { refusal (schemas_now session lists.now.past) stmt ≡ None }

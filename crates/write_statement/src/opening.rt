@@ -22,7 +22,7 @@ use crate::answering::{give_up, give_up_at};
 use crate::machine::{Part, WriteStatement};
 use crate::parting::first_part;
 use giving_up::Leaving;
-use inno_types::{Listed, Schema, Stmt};
+use inno_types::{Boxed, Listed, Schema, Stmt};
 use shared_lists::{Reading, SharedLists};
 use sql_lists::{Advance, SqlLists};
 use sql_plan::{Plan, plan_for};
@@ -31,7 +31,7 @@ use std::alloc::Global;
 use store_api::NoMemory;
 
 pub fn step_fresh<L: SharedLists>(
-    stmt: Stmt,
+    stmt: Boxed<Stmt>,
     session: u32,
     lists: &mut SqlLists<L>,
 ) -> (WriteStatement, Advance)
@@ -51,7 +51,7 @@ pub fn step_fresh<L: SharedLists>(
 
 /// Opens a transaction, with autocommit one for the statement alone.
 fn open<L: SharedLists>(
-    stmt: Stmt,
+    stmt: Boxed<Stmt>,
     session: u32,
     lists: &mut SqlLists<L>,
 ) -> (WriteStatement, Advance)
@@ -79,7 +79,7 @@ fn open<L: SharedLists>(
 
 pub fn step_locking<L: SharedLists>(
     alloc: Global,
-    stmt: Stmt,
+    stmt: Boxed<Stmt>,
     alone: bool,
     session: u32,
     lists: &mut SqlLists<L>,
@@ -98,7 +98,7 @@ pub fn step_locking<L: SharedLists>(
 /// Another session may write: the statement waits for its transaction.
 fn wait_for<L: SharedLists>(
     by: u32,
-    stmt: Stmt,
+    stmt: Boxed<Stmt>,
     alone: bool,
     session: u32,
     lists: &SqlLists<L>,
@@ -124,7 +124,7 @@ fn wait_for<L: SharedLists>(
 /// The statement may write, and begins with its first part.
 fn begin_search<L: SharedLists>(
     alloc: Global,
-    stmt: Stmt,
+    stmt: Boxed<Stmt>,
     alone: bool,
     session: u32,
     lists: &mut SqlLists<L>,
@@ -137,7 +137,7 @@ fn begin_search<L: SharedLists>(
 {
     let tables = lists.lists();
     let before = tables.change_count(session);
-    let table = table_number(tables.schemas(), &stmt);
+    let table = table_number(tables.schemas(), stmt.get());
     match first_part(alloc, stmt, table, alone, before) {
         Ok(part) => search_part(alloc, part, session, lists),
         Err(_) => give_up_at(alone, before),
@@ -157,7 +157,7 @@ pub fn search_part<L: SharedLists>(
     ensures steps { Steps IsRunning session lists.old lists.new result.0 result.1 }
     ensures nears { (phases : ℕ) → 5 + 2 * length part.later.items < phases → (first second third : ℕ) → IsNearer (left phases first second third) session lists.new result.0 result.1 }
 {
-    let Ok(plan) = plan_in(alloc, lists.lists().schemas(), part.table, &part.stmt) else {
+    let Ok(plan) = plan_in(alloc, lists.lists().schemas(), part.table, part.stmt.get()) else {
         return give_up(part);
     };
     match lists.begin_search(session, part.table, plan, Reading::Newest) {

@@ -14,7 +14,7 @@ ghost use Rattle.write_statement.specs.Following.{followed_by};
 ghost use Rattle.write_statement.specs.Parts.{IsFirstPart, has_parts, with_tuple};
 
 use crate::machine::Part;
-use inno_types::{Bytes, Literals, Names, Stmt, Tuples};
+use inno_types::{Boxed, Bytes, Literals, Names, Stmt, Tuples};
 use std::alloc::Global;
 use store_api::NoMemory;
 
@@ -29,15 +29,15 @@ pub fn an_insert_goes_tuple_by_tuple()
 /// The first part of a statement of this table that its text and the tables don't refuse.
 pub fn first_part(
     alloc: Global,
-    stmt: Stmt,
+    stmt: Boxed<Stmt>,
     table: u8,
     alone: bool,
     before: usize,
 ) -> Result<Part, NoMemory>
     ensures { (schemas : List Schema) → refusal schemas stmt ≡ None → IfOk result (IsFirstPart schemas stmt table alone before) }
 {
-    if has_parts(&stmt) {
-        return cut(alloc, stmt, table, alone, before);
+    if has_parts(stmt.get()) {
+        return cut(alloc, stmt.into_value(), table, alone, before);
     }
     Ok(Part {
         stmt,
@@ -63,7 +63,7 @@ fn cut(alloc: Global, stmt: Stmt, table: u8, alone: bool, before: usize) -> Resu
             cut_off(alloc, name, columns, later, table, alone, before)
         }
         stmt => Ok(Part {
-            stmt,
+            stmt: Boxed::new(alloc, stmt)?,
             later: Vec::new(alloc),
             table,
             alone,
@@ -93,6 +93,7 @@ fn cut_off(
             tuples: Tuples::from_vec(tuples),
         },
     };
+    let stmt = Boxed::new(alloc, stmt)?;
     Ok(Part {
         stmt,
         later,
@@ -122,8 +123,20 @@ fn has_parts(stmt: &Stmt) -> bool
     }
 }
 
+/// The statement of an INSERT's next tuple, made of that of the tuple before.
+pub fn next_tuple(
+    alloc: Global,
+    stmt: Boxed<Stmt>,
+    tuple: Literals,
+) -> Result<Boxed<Stmt>, NoMemory>
+    ensures { IfOk result (λ part. part ≡ with_tuple tuple stmt) }
+{
+    let part = with_tuple(stmt.into_value(), tuple)?;
+    Ok(Boxed::new(alloc, part)?)
+}
+
 /// The part of an INSERT's next tuple, made of that of the tuple before.
-pub fn with_tuple(stmt: Stmt, tuple: Literals) -> Result<Stmt, NoMemory>
+fn with_tuple(stmt: Stmt, tuple: Literals) -> Result<Stmt, NoMemory>
     ensures { IfOk result (λ part. part ≡ with_tuple tuple stmt) }
 {
     match stmt {

@@ -11,5 +11,6 @@ skip-requires-clause-none g c =
     let past = c.args.lists.now.past in
     let r = c.requires.running.0 in
     let met = tables_met s past c.lists.ensures.tables r.2 r.0.at.rows_before in
-    makes_none c.schemas.result.now c.args.stmt r.0.at.kind (sym c.is_there.ensures ∙ c.if-is_there.true) (base s past)
+    let there = rw c.get.ensures at (sym c.is_there.ensures ∙ c.if-is_there.true) in
+    makes_none c.schemas.result.now c.args.stmt r.0.at.kind there (base s past)
     (met ∙ sym (c.schemas.ensures ∙ ap (λ (x : State). created x.past) c.lists.ensures.same))

@@ -9,7 +9,9 @@ pub end_done-requires-clause-may : goal.end_done-requires-clause-may
 end_done-requires-clause-may g c = may_finish c.args.session c.args.stmt c.args.lists.now.past c.requires.finished
 
 pub end_done-requires-clause-quiet : goal.end_done-requires-clause-quiet
-end_done-requires-clause-quiet g c = let at = c.requires.finished.at in quiet c.args.session c.args.lists.now.past at.takes.setting c.args.stmt at.kind
+end_done-requires-clause-quiet g c =
+    let at = c.requires.finished.at in
+    rw c.get.ensures (quiet c.args.session c.args.lists.now.past at.takes.setting c.args.stmt at.kind)
 
 pub returns-clause-steps : goal.returns-clause-steps
 returns-clause-steps g c =

@@ -26,5 +26,6 @@ new-requires-in-Write-clause-unrefused g c =
 
 pub new-requires-in-Transaction-clause-taken : goal.new-requires-in-Transaction-clause-taken
 new-requires-in-Transaction-clause-taken g c =
+    rw c.into_value.ensures
     (taken_with c.args.session c.requires.running.0 c.args.stmt c.args.lists.now.past c.requires.running.1 c.requires.running.2 c.args.autocommit
     c.args.level c.requires.ready).taken

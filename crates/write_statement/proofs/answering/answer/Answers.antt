@@ -16,14 +16,16 @@ use Rattle.write_statement.proofs.answering.answer.Goals as goal
 pub settle-requires-clause-unrefused : goal.settle-requires-clause-unrefused
 settle-requires-clause-unrefused g c =
     let r = c.requires.changing in
-    subst (λ (schemas : List Schema). refusal schemas c.args.part.stmt ≡ None)
+    rw c.get.ensures
+    (subst (λ (schemas : List Schema). refusal schemas c.args.part.stmt ≡ None)
     (sym (c.schemas.ensures ∙ ap (λ (st : State). created st.past) c.lists.ensures.same))
-    (part_unrefused (created c.args.lists.now.past) c.args.part.stmt (behind c.args.part) r.cut)
+    (part_unrefused (created c.args.lists.now.past) c.args.part.stmt (behind c.args.part) r.cut))
 
 pub settle-requires-clause-table_is : goal.settle-requires-clause-table_is
 settle-requires-clause-table_is g c =
-    ap (λ schemas. table_read schemas c.args.part.stmt) (c.schemas.ensures ∙ ap (λ (st : State). created st.past) c.lists.ensures.same)
-    ∙ c.requires.changing.table_is
+    rw c.get.ensures
+    (ap (λ schemas. table_read schemas c.args.part.stmt) (c.schemas.ensures ∙ ap (λ (st : State). created st.past) c.lists.ensures.same)
+    ∙ c.requires.changing.table_is)
 
 pub returns-in-Ok-Todo-clause-steps : goal.returns-in-Ok-Todo-clause-steps
 returns-in-Ok-Todo-clause-steps g c =
@@ -32,7 +34,9 @@ returns-in-Ok-Todo-clause-steps g c =
     todo_then c.args.session c.args.lists.now c.args.part c.args.rows.now c.requires.changing c.requires.idle enough c.lists.ensures.tables
     c.lists.ensures.fits c.lists.ensures.sound c.lists.ensures.ordered c.in-Ok-Todo.todo
     (subst (IsSettledBy c.args.part.stmt enough.db) c.in-Ok-Todo.field-0-is
-    (c.in-Ok-Todo.ensures enough.db (subst (λ schemas. IsReadFrom schemas c.args.rows.now c.args.part.stmt enough.db) (sym tables) enough.read)))
+    (rw c.get.ensures at
+    (c.in-Ok-Todo.ensures enough.db
+    (rw c.get.ensures (subst (λ schemas. IsReadFrom schemas c.args.rows.now c.args.part.stmt enough.db) (sym tables) enough.read)))))
 
 pub returns-in-Ok-Refused-clause-steps : goal.returns-in-Ok-Refused-clause-steps
 returns-in-Ok-Refused-clause-steps g c =
@@ -41,7 +45,9 @@ returns-in-Ok-Refused-clause-steps g c =
     refused_then c.args.session c.args.lists.now c.args.part c.args.rows.now c.requires.changing c.requires.idle enough c.lists.ensures.tables
     c.lists.ensures.fits c.lists.ensures.sound c.lists.ensures.ordered c.in-Ok-Refused.kept c.in-Ok-Refused.given c.refuse.result
     (subst (IsSettledBy c.args.part.stmt enough.db) c.in-Ok-Refused.field-0-is
-    (c.in-Ok-Refused.ensures enough.db (subst (λ schemas. IsReadFrom schemas c.args.rows.now c.args.part.stmt enough.db) (sym tables) enough.read)))
+    (rw c.get.ensures at
+    (c.in-Ok-Refused.ensures enough.db
+    (rw c.get.ensures (subst (λ schemas. IsReadFrom schemas c.args.rows.now c.args.part.stmt enough.db) (sym tables) enough.read)))))
     c.refuse.ensures
 
 pub returns-in-Err-clause-steps : goal.returns-in-Err-clause-steps

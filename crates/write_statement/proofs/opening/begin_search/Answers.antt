@@ -14,12 +14,13 @@ use Rattle.write_statement.proofs.Turning.{turns_none, early_given_up}
 use Rattle.write_statement.proofs.opening.begin_search.Goals as goal
 
 pub table_number-table-requires-clause-writes : goal.table_number-table-requires-clause-writes
-table_number-table-requires-clause-writes g c = c.requires.running.0.working.writes
+table_number-table-requires-clause-writes g c = rw c.get.ensures c.requires.running.0.working.writes
 
 pub table_number-table-requires-clause-unrefused : goal.table_number-table-requires-clause-unrefused
 table_number-table-requires-clause-unrefused g c =
-    subst (λ (schemas : List Schema). refusal schemas c.args.stmt ≡ None)
-    (sym (c.schemas.ensures ∙ ap (λ (st : State). created st.past) c.lists-tables.ensures.same)) c.requires.running.0.unrefused
+    rw c.get.ensures
+    (subst (λ (schemas : List Schema). refusal schemas c.args.stmt ≡ None)
+    (sym (c.schemas.ensures ∙ ap (λ (st : State). created st.past) c.lists-tables.ensures.same)) c.requires.running.0.unrefused)
 
 pub search_part-requires-clause-changing : goal.search_part-requires-clause-changing
 search_part-requires-clause-changing g c =
@@ -28,7 +29,7 @@ search_part-requires-clause-changing g c =
     c.in-Ok.part c.requires.running.0 c.requires.right
     (c.change_count-before.ensures ∙ ap (λ (st : State). length (own c.args.session st.past)) c.lists-tables.ensures.same)
     (tables_now c.args.lists.now.past c.args.session c.lists-tables.ensures.tables)
-    (ap (λ schemas. table_read schemas c.args.stmt) (sym tables) ∙ c.table_number-table.ensures)
+    (ap (λ schemas. table_read schemas c.args.stmt) (sym tables) ∙ (rw c.get.ensures at c.table_number-table.ensures))
     (c.in-Ok.ensures (created c.args.lists.now.past) c.requires.running.0.unrefused)
 
 pub returns-in-Ok-clause-nears : goal.returns-in-Ok-clause-nears

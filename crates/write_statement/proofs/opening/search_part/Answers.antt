@@ -29,7 +29,8 @@ returns-in_default-clause-steps g c =
 pub returns-in-Ok-begin_search-clause-steps : goal.returns-in-Ok-begin_search-clause-steps
 returns-in-Ok-begin_search-clause-steps g c =
     begins_search c.args.session c.args.lists.now c.begin_search.new.self c.args.part c.in-Ok.plan c.schemas.result.now c.requires.changing
-    (c.schemas.ensures ∙ ap (λ (st : State). created st.past) c.lists.ensures.same) c.in-Ok.ensures c.in-Ok-begin_search.ensures.ok
+    (c.schemas.ensures ∙ ap (λ (st : State). created st.past) c.lists.ensures.same) (rw c.get.ensures at c.in-Ok.ensures)
+    c.in-Ok-begin_search.ensures.ok
 
 pub returns-in-Err-clause-steps : goal.returns-in-Err-clause-steps
 returns-in-Err-clause-steps g c =
