@@ -9,6 +9,7 @@ use Rattle.inno_types.specs.declared.value.Key.{Key}
 use Rattle.inno_types.specs.declared.value.Schema.{Schema}
 use Rattle.inno_db.specs.Declarations.{key_bytes, row_bytes}
 use Rattle.store_api.specs.Causes.{Rose}
+use Rattle.inno_db.specs.Indexes.{index_of as number_of_index}
 use Rattle.page_format.specs.Words.{kind_of, level_of, index_of, right_of, record_len_of, low_of, high_of, records_of}
 use Rattle.page_format.specs.Shape.{HasTreeFields}
 use Rattle.store_api.specs.declared.visits.Visit.{Visit}
@@ -86,7 +87,7 @@ record_len s (suc key) = secondary_len s (slice_get s.keys key)
 abbrev pub AreEmptyRoots : Schema → ℕ → ℕ → List ℕ → (ℕ → List ℕ) → Type 0
 AreEmptyRoots s table which [] pages = Unit {0}
 AreEmptyRoots s table which (root ∷ roots) pages =
-    IsEmptyLeaf (8 * table + which) (record_len s which) (pages root) × AreEmptyRoots s table (which + 1) roots pages
+    IsEmptyLeaf (number_of_index table which) (record_len s which) (pages root) × AreEmptyRoots s table (which + 1) roots pages
 
 -- ---- what is left
 

@@ -10,6 +10,7 @@ ghost use Rattle.catalog.specs.Creating.{leaf_head, key_bytes_at, record_len, Ma
 
 use crate::makeable::{bytes_of_key, bytes_of_row};
 use big_endian::{u16_bytes, u32_bytes};
+use inno_db::index_number;
 use inno_types::{Column, Kind, Schema};
 use mtr::Mtr;
 use space_map::take;
@@ -29,9 +30,6 @@ const USE: u8 = 5;
 
 /// What stands for a fence that isn't there.
 const NO_FENCE: u8 = 255;
-
-/// How many numbers of indexes each table has.
-const INDEXES: u32 = 8;
 
 /// The bytes of an empty leaf from byte 20 on, up to its fences.
 fn head_of_leaf(index: u32, record_len: u16) -> [u8; 16]
@@ -127,7 +125,7 @@ pub fn make_roots<M: Mtr>(
 {
     let mut roots = Vec::new(alloc);
     for which in 0..1 + schema.keys.len() {
-        let index = INDEXES * u32::from(table) + which as u32;
+        let index = index_number(table, which as u8);
         let root = make_root(m, index, len_of_record(schema, which))?;
         push_root(&mut roots, root)?;
     }

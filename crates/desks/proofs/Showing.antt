@@ -8,7 +8,8 @@ use Rattle.desks.specs.declared.desk.Doing.TheVariants.{Nothing, Searching, Chan
 use Rattle.desks.specs.Desks.{Store, desk_at, doing_at, with_desk, with_doing}
 use Rattle.desks.specs.{Searching.keys_left, Searching.visit_left, Searching.places_of, Searching.places_from, Shown.shown, Shown.task_at, Shown.task_shown}
 use Rattle.desks.specs.{Shown.lists_of, declared.desk.Desk.Desk, declared.desk.Doing.Doing, declared.desk.TableSearch.TableSearch}
-use Rattle.world.specs.{Told.IsTold, Told.pairs_in, Told.pairs_of, State.WorldState, State.index_of}
+use Rattle.world.specs.{Told.IsTold, Told.pairs_in, Told.pairs_of, State.WorldState}
+use Rattle.inno_db.specs.Indexes.{index_of}
 use Rattle.inno_types.specs.declared.value.Schema.{Schema}
 use Rattle.entries.specs.{Pairs.Pair, Index.AreKept}
 use Rattle.row_versions.specs.Versions.{Stays}

@@ -4,7 +4,8 @@ use Rattle.entries.specs.Pairs.{Pair}
 use Rattle.row_versions.specs.declared.kept.Kept.{Kept}
 use Rattle.row_search.specs.declared.phase.Phase.TheVariants.{Seek, Fetch, Look, Walk, Keep, Sort, Leave}
 use Rattle.shared_lists.specs.State.{Places, no_places}
-use Rattle.world.specs.{State.WorldState, State.index_of, Told.pairs_of}
+use Rattle.world.specs.{State.WorldState, Told.pairs_of}
+use Rattle.inno_db.specs.Indexes.{index_of}
 use Rattle.row_search.specs.{declared.phase.Phase.Phase, Searches.place_in, Searches.pairs_behind, Tables.most_versions}
 use Rattle.desks.specs.{declared.desk.Doing.Doing, declared.desk.Doing.TheVariants.Searching, declared.desk.TableSearch.TableSearch, declared.desk.Desk.Desk}
 use Rattle.desks.specs.{Undoing.versions_from}

@@ -2,7 +2,7 @@
 //! Tests and tools open sessions in memory alone here, without a disk and a log.
 
 ghost use Rattle.std.specs.Prelude.{◌≡◌, ◌<◌, ◌∷◌, [], ℕ, All, IfOk, IfErr};
-ghost use Rattle.inno_db.proofs.Keys.{IsKeyed};
+ghost use Rattle.inno_db.specs.Keyed.{IsKeyed};
 ghost use Rattle.inno_model.specs.declared.event.Event.TheVariants.{Opened};
 ghost use Rattle.store_api.specs.Past.{Past};
 ghost use Rattle.shared_lists.specs.Tasks.{Idle as TaskIdle};

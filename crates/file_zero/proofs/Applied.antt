@@ -8,7 +8,8 @@ use Rattle.inno_db.specs.Keeping.{CanApply}
 use Rattle.inno_db.specs.Changes.{apply_one}
 use Rattle.inno_db.specs.declared.change.Change.{Change}
 use Rattle.inno_db.specs.declared.change.Change.TheVariants.{Create, Put, Remove}
-use Rattle.inno_db.proofs.Keys.{IsKeyed, IsOfTable, IsKeyed-apply, IsKeyed-database}
+use Rattle.inno_db.proofs.Keys.{IsOfTable, IsKeyed-apply, IsKeyed-database}
+use Rattle.inno_db.specs.Keyed.{IsKeyed}
 use Rattle.inno_model.specs.Past.{changed}
 use Rattle.log_format.specs.declared.group.Group.{Group}
 use Rattle.log_format.specs.declared.group.Record.{Record}

@@ -3,7 +3,7 @@
 
 ghost use Rattle.std.specs.Prelude.{◌≡◌, OnOk, IfOk};
 ghost use Rattle.inno_db.specs.Changes.{apply_one};
-ghost use Rattle.inno_db.proofs.Keys.{IsKeyed};
+ghost use Rattle.inno_db.specs.Keyed.{IsKeyed};
 ghost use Rattle.inno_model.specs.Past.{changed};
 ghost use Rattle.sql_history.specs.Counts.{rows_in, capped};
 ghost use Rattle.law_crashes.specs.Records.{change_of, changes_of, changes_in, no_db};

@@ -4,7 +4,7 @@
 ghost use Rattle.std.specs.Prelude.{◌≡◌, ◌+◌, ◌≤◌, ◌<◌, ◌^◌, ℕ, List, length, IfOk, IfErr, OnOk};
 ghost use Rattle.store_api.specs.Areas.{Contents};
 ghost use Rattle.store_api.specs.Past.{Now, Meanwhile};
-ghost use Rattle.inno_db.proofs.Keys.{IsKeyed};
+ghost use Rattle.inno_db.specs.Keyed.{IsKeyed};
 ghost use Rattle.inno_model.specs.Past.{changed};
 ghost use Rattle.law_crashes.specs.Files.{LeavesFiles};
 ghost use Rattle.law_crashes.specs.Records.{no_db, changes_in};

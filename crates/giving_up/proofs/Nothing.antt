@@ -10,7 +10,7 @@ use Rattle.inno_model.specs.Past.{before_item, of_item, did, begins_txn, commits
 use Rattle.inno_model.specs.Moments.{Sometime}
 use Rattle.sql_grammar.specs.Grammar.{Spells}
 use Rattle.sql_history.specs.Items.{of_turn, before_turn, is_over, own_before, point}
-use Rattle.sql_history.specs.Settings.{Setting, HasSet, Either}
+use Rattle.sql_history.specs.Settings.{Setting, HasSet, IfOwn}
 use Rattle.sql_history.specs.Legal.{LeavesIt}
 use Rattle.sql_history.specs.Statements.{is_on_rows}
 use Rattle.sql_history.specs.Waiting.{is_victim}
@@ -78,7 +78,7 @@ taken_fails s statement h on-rows taken =
 
 -- ---- what was set
 
-either_other : (b : Bool) (A B : Type 0) → b ≡ false → Either b A B → B
+either_other : (b : Bool) (A B : Type 0) → b ≡ false → IfOwn b A B → B
 either_other true A B is x = absurd (false≢true (sym is))
 either_other false A B is x = x
 

@@ -15,6 +15,7 @@ use Rattle.inno_db.specs.declared.change.Change.{Change}
 use Rattle.inno_db.specs.declared.change.Change.TheVariants.{Create, Put, Remove}
 use Rattle.inno_db.specs.Changes.{apply_one}
 use Rattle.inno_db.specs.Database.{Database, Place, place_cmp, value_cmp, key_of, key_in, rows_of, placed, all_placed, database_of, IsInOrder}
+use Rattle.inno_db.specs.Keyed.{IsAtItsKey, AreAtTheirKeys, IsKeyed}
 use Rattle.inno_db.specs.Order.{place_cmp_total}
 use Rattle.inno_db.specs.Outcome.{is_same_value, has_key}
 use Rattle.inno_db.proofs.Tables.{place_cmp-IsAntisymmetric, entries-from_rising}
@@ -22,18 +23,6 @@ use Rattle.inno_db.proofs.Applying.{apart_of, entries-remove}
 
 same_some : {A : Type 0} {x y : A} → Some x ≡ Some y → x ≡ y
 same_some e = cc
-
--- a row of a table that is there, at the key that it has
-abbrev pub IsAtItsKey : List Schema → Place × List Value → Type 0
-IsAtItsKey schemas e = (e.0.0 < length schemas) × (e.0.1 ≡ key_in schemas e.0.0 e.1)
-
-abbrev pub AreAtTheirKeys : List Schema → List (Place × List Value) → Type 0
-AreAtTheirKeys schemas [] = Unit {0}
-AreAtTheirKeys schemas (e ∷ es) = IsAtItsKey schemas e × AreAtTheirKeys schemas es
-
--- each row of a database stands at its key
-abbrev pub IsKeyed : Database → Type 0
-IsKeyed db = AreAtTheirKeys db.schemas (entries db.rows)
 
 -- the key of a row by the schema of its table
 pub key_in-at : (schemas : List Schema) (table : ℕ) (schema : Schema) (row : List Value) → slice_get schemas table ≡ Some schema → key_in schemas table row ≡ key_of schema row

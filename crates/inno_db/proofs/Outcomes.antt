@@ -12,22 +12,7 @@ use Rattle.inno_db.specs.Names.{table_place}
 use Rattle.inno_types.specs.declared.reply.Reply.TheVariants.{Done}
 use Rattle.inno_db.specs.Declarations.{schema_declared}
 use Rattle.inno_db.specs.Refusals.{refusal}
-use Rattle.inno_db.specs.Outcome.{on_schema, on_number, on_rows, created, answered, creation, answer_to, select_answer, insert_answer, update_answer, delete_answer, unless_refused, outcome}
-
--- the number of the table whose rows a statement reads
-abbrev pub table_read : List Schema → Stmt → Option ℕ
-table_read schemas (CreateTable table if_not_exists definitions) = None
-table_read schemas (Select selected table condition lock) = table_place schemas table
-table_read schemas (Insert table names tuples) = table_place schemas table
-table_read schemas (Update table sets condition) = table_place schemas table
-table_read schemas (Delete table condition) = table_place schemas table
-table_read schemas (Begin snapshot) = None
-table_read schemas Commit = None
-table_read schemas Rollback = None
-table_read schemas (RollbackTo savepoint) = None
-table_read schemas (Savepoint name) = None
-table_read schemas (SetAutocommit on) = None
-table_read schemas (SetLevel scope level) = None
+use Rattle.inno_db.specs.Outcome.{on_schema, on_number, on_rows, created, answered, creation, answer_to, select_answer, insert_answer, update_answer, delete_answer, unless_refused, outcome, table_read}
 
 on_number-same : (db other : Database) (place : Option ℕ) (answer : ℕ → Schema → List (List Value) → Outcome) → db.schemas ≡ other.schemas → ((n : ℕ) → place ≡ Some n → rows_of n db ≡ rows_of n other) → on_number db place answer ≡ on_number other place answer
 on_number-same db other None answer same rows = refl

@@ -3,7 +3,9 @@ pub mod Conditions
 pub mod Database
 pub mod Declarations
 pub mod Expressions
+pub mod Indexes
 pub mod Keeping
+pub mod Keyed
 pub mod Names
 pub mod Order
 pub mod Outcome

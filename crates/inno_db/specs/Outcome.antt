@@ -121,6 +121,21 @@ abbrev pub on_number : Database → Option ℕ → (ℕ → Schema → List (Lis
 on_number db None answer = answered Done
 on_number db (Some number) answer = on_schema number (slice_get db.schemas number) (rows_of number db) answer
 
+-- the number of the table whose rows a statement reads
+abbrev pub table_read : List Schema → Stmt → Option ℕ
+table_read schemas (CreateTable table if_not_exists definitions) = None
+table_read schemas (Select selected table condition lock) = table_place schemas table
+table_read schemas (Insert table names tuples) = table_place schemas table
+table_read schemas (Update table sets condition) = table_place schemas table
+table_read schemas (Delete table condition) = table_place schemas table
+table_read schemas (Begin snapshot) = None
+table_read schemas Commit = None
+table_read schemas Rollback = None
+table_read schemas (RollbackTo savepoint) = None
+table_read schemas (Savepoint name) = None
+table_read schemas (SetAutocommit on) = None
+table_read schemas (SetLevel scope level) = None
+
 abbrev pub on_rows : Database → List ℕ → (ℕ → Schema → List (List Value) → Outcome) → Outcome
 on_rows db table answer = on_number db (table_place db.schemas table) answer
 

@@ -6,6 +6,7 @@ mod change;
 mod data_type;
 mod datum;
 mod db;
+mod index_numbers;
 mod limits;
 mod outcome;
 mod rows;
@@ -15,7 +16,10 @@ pub use change::Change;
 pub use data_type::DataType;
 pub use datum::{Datum, at_place, is_null_datum, of_value, order, to_value};
 pub use db::Db;
-pub use limits::{MOST_BYTES_OF_INDEX, MOST_BYTES_OF_ROW, MOST_COLUMNS, MOST_KEYS, MOST_TABLES};
+pub use index_numbers::index_number;
+pub use limits::{
+    INDEXES_OF_TABLE, MOST_BYTES_OF_INDEX, MOST_BYTES_OF_ROW, MOST_COLUMNS, MOST_KEYS, MOST_TABLES,
+};
 pub use outcome::{Changes, Outcome, Written};
 pub use rows::key_of_row;
 pub use truth::Truth;

@@ -19,9 +19,9 @@ use Rattle.inno_db.specs.Expressions.{and_then}
 use Rattle.inno_db.specs.Names.{table_place}
 use Rattle.inno_db.specs.Refusals.{refusal}
 use Rattle.inno_db.specs.Storing.{row_of_tuple}
-use Rattle.inno_db.specs.Outcome.{outcome, unless_refused, answer_to, counted, inserted, insert_answer, has_key, new_row, put_then, nothing, on_rows, on_number}
-use Rattle.inno_db.specs.Outcome.{on_schema}
-use Rattle.inno_db.proofs.Keys.{IsKeyed, IsKeyed-apply, has_key-get}
+use Rattle.inno_db.specs.Outcome.{outcome, unless_refused, answer_to, counted, inserted, insert_answer, has_key, new_row, put_then, nothing, on_rows, on_number, on_schema}
+use Rattle.inno_db.proofs.Keys.{IsKeyed-apply, has_key-get}
+use Rattle.inno_db.specs.Keyed.{IsKeyed}
 use Rattle.inno_model.specs.Past.{changed}
 use Rattle.sql_history.specs.Legal.{IsWriting}
 use Rattle.law_db.specs.RowChanges.{AreOfTables}

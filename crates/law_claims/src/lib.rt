@@ -13,7 +13,7 @@ ghost use Rattle.inno_db.specs.declared.change.Change.{Change};
 ghost use Rattle.inno_db.specs.Database.{Database, Place};
 ghost use Rattle.inno_db.specs.Outcome.{outcome};
 ghost use Rattle.inno_db.specs.Refusals.{refusal};
-ghost use Rattle.inno_db.proofs.Keys.{IsKeyed};
+ghost use Rattle.inno_db.specs.Keyed.{IsKeyed};
 ghost use Rattle.inno_model.specs.declared.event.Event.{Event};
 ghost use Rattle.inno_model.specs.Past.{own, changed};
 ghost use Rattle.sql_history.specs.Legal.{IsWriting};

@@ -19,7 +19,8 @@ use Rattle.inno_db.specs.Keeping.{with_row, without_key}
 use Rattle.inno_db.specs.Order.{place_cmp_total}
 use Rattle.inno_db.proofs.Tables.{place_cmp-IsAntisymmetric}
 use Rattle.inno_db.proofs.Applying.{entries-remove, rows_of-elsewhere}
-use Rattle.inno_db.proofs.Keys.{IsAtItsKey, AreAtTheirKeys, IsKeyed, IsKeyed-apply, key_in-at}
+use Rattle.inno_db.proofs.Keys.{IsKeyed-apply, key_in-at}
+use Rattle.inno_db.specs.Keyed.{IsAtItsKey, AreAtTheirKeys, IsKeyed}
 use Rattle.law_db.specs.RowChanges.{row_change, rows_after, AreOfTables}
 
 abbrev rows_among : ℕ → List (Place × List Value) → List (List Value)

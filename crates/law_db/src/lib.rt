@@ -10,10 +10,9 @@ ghost use Rattle.inno_types.specs.declared.stmt.Literal.{Literal};
 ghost use Rattle.inno_db.specs.declared.change.Change.{Change};
 ghost use Rattle.inno_db.specs.Database.{Database, rows_of};
 ghost use Rattle.inno_db.specs.Changes.{apply};
-ghost use Rattle.inno_db.specs.Outcome.{outcome, inserted};
+ghost use Rattle.inno_db.specs.Outcome.{outcome, inserted, table_read};
 ghost use Rattle.inno_db.proofs.Applying.{AreElsewhere};
-ghost use Rattle.inno_db.proofs.Keys.{IsKeyed};
-ghost use Rattle.inno_db.proofs.Outcomes.{table_read};
+ghost use Rattle.inno_db.specs.Keyed.{IsKeyed};
 ghost use Rattle.law_db.specs.Fitting.{AreRowsOf, AllFit};
 ghost use Rattle.law_db.specs.RowChanges.{rows_after, AreOfTables, AreApplicable, AllStand};
 

@@ -6,8 +6,7 @@ use Rattle.inno_types.specs.declared.stmt.Stmt.TheVariants.{Select, Update, Dele
 use Rattle.inno_types.specs.{declared.value.Value.Value, declared.value.Schema.Schema, declared.stmt.Filter.Filter, declared.stmt.Range.Range}
 use Rattle.inno_types.specs.{declared.reply.Reply.TheVariants.Rows, declared.stmt.Selected.Selected, declared.stmt.Set.Set, declared.stmt.Stmt.Stmt}
 use Rattle.inno_types.specs.{Ranges.is_within}
-use Rattle.inno_db.specs.Outcome.{outcome, matching, unless_refused, on_rows, select_answer, update_answer, delete_answer, answered, counted, updated, deleted}
-use Rattle.inno_db.specs.Outcome.{selected_of}
+use Rattle.inno_db.specs.Outcome.{outcome, matching, unless_refused, on_rows, select_answer, update_answer, delete_answer, answered, counted, updated, deleted, selected_of}
 use Rattle.inno_db.specs.{declared.truth.Truth.Truth, declared.truth.Truth.TheVariants.True, declared.truth.Truth.TheVariants.False}
 use Rattle.inno_db.specs.{declared.truth.Truth.TheVariants.Unknown, Conditions.matches, Conditions.truth_of, Conditions.is_true, Database.Database}
 use Rattle.inno_db.specs.{Database.RowMap, Database.rows_of, Names.table_place, declared.outcome.Outcome.Outcome, Refusals.refusal}

@@ -8,7 +8,8 @@ use Rattle.law_stored_rows.specs.{Edits.clustered_index, Edits.key_index, Entrie
 use Rattle.row_search.specs.Tables.{most_versions, ShowsTable, HoldsTable, ShowsRows}
 use Rattle.row_search.specs.{declared.scan.Scan.Scan, declared.sight.Sight.Sight, Sights.sees_by, Sights.rows_seen}
 use Rattle.inno_types.specs.{declared.value.Value.Value, declared.value.Key.Key, declared.value.Schema.Schema}
-use Rattle.world.specs.{State.WorldState, State.index_of, Told.IsTold, Told.pairs_in, Told.pairs_of}
+use Rattle.world.specs.{State.WorldState, Told.IsTold, Told.pairs_in, Told.pairs_of}
+use Rattle.inno_db.specs.Indexes.{index_of}
 use Rattle.row_search.proofs.{Keys.key_there_at, Others.in_clustered, Others.in_keyed, Others.seen_among}
 
 told_pairs : (found : Option (List Pair)) → IsSome found → found ≡ Some (pairs_in found)

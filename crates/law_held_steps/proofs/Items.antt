@@ -9,7 +9,8 @@ use Rattle.std.specs.Prelude.{slice_get, is_some, option_map, ◌≤◌, slice_s
 use Rattle.inno_model.specs.Past.{own, started, under_way, of_item, awaits_ack, level, IsOpen, IsClosed}
 use Rattle.inno_model.specs.declared.event.Event.TheVariants.{Started, Ended, Acked, Signal, Begin, View, Committed, RolledBack, Changed}
 use Rattle.inno_model.specs.declared.event.Event.{Event}
-use Rattle.world.specs.State.{WorldState, Session, Work, IsSession, HasWork, index_of}
+use Rattle.world.specs.State.{WorldState, Session, Work, IsSession, HasWork}
+use Rattle.inno_db.specs.Indexes.{index_of}
 use Rattle.world.specs.EngineCalls.{item_started, acknowledged, signalled, fresh_session, joined}
 use Rattle.world.specs.{Told.IsTold, Told.LeavesRows, Told.pairs_in, Told.pairs_of, Sessions.fresh_work, Sessions.of_txn, Sessions.change_txn}
 use Rattle.world.specs.{Sessions.with_save, Endings.IsCommitted, Endings.IsRolledBack}

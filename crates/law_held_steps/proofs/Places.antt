@@ -14,7 +14,8 @@ use Rattle.row_changes.proofs.Sessions.{same_pairs, same_versions}
 use Rattle.world.proofs.Stores.{store_stays, store_goes_on}
 use Rattle.row_search.specs.Steps.{OnlyMoves}
 use Rattle.entries.specs.{Pairs.Pair, Index.AreKept, Calls.Leaves, Calls.released}
-use Rattle.world.specs.{State.WorldState, State.index_of, Told.IsTold, Told.LeavesRows, Indexes.Calls, Undoing.IsUnchanged}
+use Rattle.world.specs.{State.WorldState, Told.IsTold, Told.LeavesRows, Indexes.Calls, Undoing.IsUnchanged}
+use Rattle.inno_db.specs.Indexes.{index_of}
 use Rattle.inno_types.specs.declared.value.Schema.{Schema}
 use Rattle.row_changes.specs.Awaited.{IsOfTable}
 

@@ -22,7 +22,8 @@ use Rattle.row_versions.specs.Chains.{Chains, versions_at, sees}
 use Rattle.row_versions.specs.{declared.place.Place.Place, declared.version.Version.Version, declared.kept.Kept.Kept}
 use Rattle.law_past_agreement.specs.Rows.{is_at, is_place, row_of, row_opened, seen}
 use Rattle.law_past_agreement.specs.{Agreement.AreVersionsBy, Agreement.ViewAgrees, Agreement.versions_of, Ids.id_of, DatabaseTables.with_all_tables}
-use Rattle.world.specs.State.{WorldState, Logged, Session, Work, Seen, HasWork, id_of as work_id, standing_of, index_of}
+use Rattle.world.specs.State.{WorldState, Logged, Session, Work, Seen, HasWork, id_of as work_id, standing_of}
+use Rattle.inno_db.specs.Indexes.{index_of}
 use Rattle.world.specs.{Told.IsTold, Told.pairs_of, Told.pairs_in, Undoing.read_into, Sessions.IsShown, Indexes.Calls}
 use Rattle.row_search.specs.Searches.{BeginsWithNothing, MayBegin, IsSearching, place_in, pairs_behind, PhaseHolds, Finds, HasToGo}
 use Rattle.row_search.specs.declared.phase.Phase.TheVariants.{Seek, Follow, Fetch, Look, Walk, Keep, Sort, Leave}

@@ -1,6 +1,7 @@
 -- Searches that begin, the views by which they read, and the search of which a session's next step is one.
 use Rattle.std.specs.Prelude.{◌≡◌, ℕ, Some, ◌≢◌, ◌⊎◌, ◌+◌, ◌*◌, ◌^◌, ◌≤◌, Bool, if◌then◌else◌, List, length, slice_get}
-use Rattle.world.specs.{State.WorldState, State.Session, State.Work, State.Seen, State.HasWork, State.IsIndex, State.index_of, Told.pairs_of}
+use Rattle.world.specs.{State.WorldState, State.Session, State.Work, State.Seen, State.HasWork, State.IsIndex, Told.pairs_of}
+use Rattle.inno_db.specs.Indexes.{index_of}
 use Rattle.row_search.specs.Searches.{BeginsWithNothing, MayBegin, IsSearching, place_in}
 use Rattle.row_search.specs.{Others.KeepsFound, Others.KeepsSearching, Others.NeedsNoVersion, declared.sight.Sight.Sight, declared.scan.Scan.Scan}
 use Rattle.row_search.specs.{declared.search.RowSearch.RowSearch, Tables.HoldsTable, Tables.most_versions, Visits.phase_anew, declared.found.FoundRow.FoundRow}

@@ -14,7 +14,7 @@ use Rattle.inno_model.specs.declared.event.Event.TheVariants.{Begin, Started, Ch
 use Rattle.inno_model.specs.Moments.{starts}
 use Rattle.inno_model.specs.Past.{under_way, before_item, of_item, level, own, did, begins_txn, commits_txn, rolls_back_txn, IsOpen, IsClosed}
 use Rattle.sql_history.specs.Items.{Language, Asks, is_over, undoes}
-use Rattle.sql_history.specs.Settings.{Setting, HasSet, Either, SetByItem, at_begin, at_end, set_by}
+use Rattle.sql_history.specs.Settings.{Setting, HasSet, IfOwn, SetByItem, at_begin, at_end, set_by}
 use Rattle.sql_history.specs.Statements.{is_on_rows}
 use Rattle.sql_history.specs.Endings.{Goes, BacksOut}
 use Rattle.sql_history.specs.Legal.{IsLegal, ChangesBy, UndoesBy, BeginsBy}
@@ -113,7 +113,7 @@ set_kept says s item setting (e ∷ past) asked begun committed back set =
 
 -- ---- what each session has set
 
-by_either : {A B C D X : Type 0} (b : Bool) → Either b A B → Either b C D → (A → C → X) → (B → D → X) → X
+by_either : {A B C D X : Type 0} (b : Bool) → IfOwn b A B → IfOwn b C D → (A → C → X) → (B → D → X) → X
 by_either true x y f g = f x y
 by_either false x y f g = g x y
 

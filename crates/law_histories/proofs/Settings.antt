@@ -12,7 +12,7 @@ use Rattle.inno_model.specs.declared.event.Event.TheVariants.{Begin, Ended, Comm
 use Rattle.inno_model.specs.Past.{level, own, under_way}
 use Rattle.sql_grammar.specs.Grammar.{Spells}
 use Rattle.sql_history.specs.Items.{Asks}
-use Rattle.sql_history.specs.Settings.{Setting, at_begin, at_end, set_by, Either, SetByItem, HasSet}
+use Rattle.sql_history.specs.Settings.{Setting, at_begin, at_end, set_by, IfOwn, SetByItem, HasSet}
 use Rattle.law_histories.specs.Trees.{tree_of, SameStatement}
 use Rattle.law_histories.proofs.Statements.{one_tree}
 use Rattle.law_histories.proofs.OneOutcome.{plain_same}
@@ -21,7 +21,7 @@ pub asked_one : (s : ℕ) (a b : Stmt) (past : List Event) → Asks Spells s a p
 asked_one s a b past p q =
     let same_text : p.0 ≡ q.0 = cc in one_tree p.0 a b p.2 (subst (λ (text : List ℕ). Spells text b) (sym same_text) q.2)
 
-pub by_either : {A B C D X : Type 0} (b : Bool) → Either b A B → Either b C D → (A → C → X) → (B → D → X) → X
+pub by_either : {A B C D X : Type 0} (b : Bool) → IfOwn b A B → IfOwn b C D → (A → C → X) → (B → D → X) → X
 by_either true x y f g = f x y
 by_either false x y f g = g x y
 

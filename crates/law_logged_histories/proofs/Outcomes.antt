@@ -19,8 +19,7 @@ use Rattle.inno_db.specs.Names.{table_place}
 use Rattle.inno_db.specs.Expressions.{and_then}
 use Rattle.inno_db.specs.Storing.{all_assigned}
 use Rattle.inno_db.specs.Refusals.{refusal}
-use Rattle.inno_db.specs.Outcome.{matching, is_same_row, row_for, put_then, inserted, change_to, change_then, updated, deleted, answered, creation, on_schema}
-use Rattle.inno_db.specs.Outcome.{on_number, on_rows, select_answer, insert_answer, update_answer, delete_answer, answer_to, unless_refused, outcome}
+use Rattle.inno_db.specs.Outcome.{matching, is_same_row, row_for, put_then, inserted, change_to, change_then, updated, deleted, answered, creation, on_schema, on_number, on_rows, select_answer, insert_answer, update_answer, delete_answer, answer_to, unless_refused, outcome}
 
 module _ (P : Schema → Type 0) where
   -- if it makes a table, then one that is so

@@ -10,7 +10,7 @@ use Rattle.inno_types.specs.declared.stmt.Stmt.{Stmt}
 use Rattle.inno_db.specs.Database.{Place}
 use Rattle.inno_db.specs.Names.{table_place}
 use Rattle.inno_db.specs.Conditions.{matches}
-use Rattle.inno_db.proofs.Keys.{IsKeyed}
+use Rattle.inno_db.specs.Keyed.{IsKeyed}
 use Rattle.inno_model.specs.declared.event.Event.{Event}
 use Rattle.inno_model.specs.Moments.{Throughout, Sometime}
 use Rattle.sql_history.specs.Items.{base}

@@ -25,7 +25,8 @@ use Rattle.inno_db.specs.Storing.{stored, put_in, put_at, assigned, all_assigned
 use Rattle.inno_db.specs.Typing.{is_primary, column_type, whole_fits, set_fits, set_known, where_known, where_fits}
 use Rattle.inno_db.specs.Refusals.{refusal, refused_if, on_table, schema_at, update_refusal}
 use Rattle.inno_db.specs.Outcome.{matching, is_same_row, updated, deleted, change_to, change_then, answer_to, unless_refused, on_schema, on_number, update_answer, delete_answer}
-use Rattle.inno_db.proofs.Keys.{AreAtTheirKeys, IsKeyed, key_in-at}
+use Rattle.inno_db.proofs.Keys.{key_in-at}
+use Rattle.inno_db.specs.Keyed.{AreAtTheirKeys, IsKeyed}
 use Rattle.law_db.proofs.Values.{ok_same, and_then-ok, both_true}
 use Rattle.sql_history.specs.Answers.{IsSameAt, ChangesLatest, GivesLatest, GivesLatestOf, TakesLatest}
 use Rattle.law_loose_readings.specs.Searching.{Searches, is_missed, without_missed}

@@ -10,7 +10,7 @@ ghost use Rattle.inno_types.specs.declared.stmt.Stmt.{Stmt};
 ghost use Rattle.inno_db.specs.Database.{Database, rows_of};
 ghost use Rattle.inno_db.specs.Names.{table_place};
 ghost use Rattle.inno_db.specs.Conditions.{matches};
-ghost use Rattle.inno_db.proofs.Keys.{IsKeyed};
+ghost use Rattle.inno_db.specs.Keyed.{IsKeyed};
 ghost use Rattle.inno_model.specs.declared.event.Event.{Event};
 ghost use Rattle.sql_history.specs.Items.{base};
 ghost use Rattle.sql_history.specs.Statements.{Sight};

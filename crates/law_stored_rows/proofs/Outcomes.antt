@@ -12,9 +12,7 @@ use Rattle.inno_db.specs.{declared.change.Change.Change, declared.change.Change.
 use Rattle.inno_db.specs.{declared.change.Change.TheVariants.Remove, declared.outcome.Outcome.Outcome}
 use Rattle.inno_db.specs.{Database.Database, Database.rows_of, Database.key_of, Names.table_place, Conditions.matches, Expressions.and_then}
 use Rattle.inno_db.specs.{Storing.all_assigned, Storing.row_of_tuple, Declarations.schema_declared, Refusals.refusal}
-use Rattle.inno_db.specs.Outcome.{has_key, matching, is_same_row, new_row, row_for, put_then, inserted, change_to, change_then, updated, deleted, on_schema}
-use Rattle.inno_db.specs.Outcome.{on_number, on_rows, creation, created, answered, select_answer, insert_answer, update_answer, delete_answer, answer_to}
-use Rattle.inno_db.specs.Outcome.{unless_refused, outcome}
+use Rattle.inno_db.specs.Outcome.{has_key, matching, is_same_row, new_row, row_for, put_then, inserted, change_to, change_then, updated, deleted, on_schema, on_number, on_rows, creation, created, answered, select_answer, insert_answer, update_answer, delete_answer, answer_to, unless_refused, outcome}
 use Rattle.law_db.specs.{Fitting.AllFit}
 use Rattle.law_db.proofs.{Values.ok_same, Values.never, Values.and_then-ok, Fits.outcome-AllFit}
 use Rattle.law_stored_rows.specs.{Storable.IsStorable, Fitting.IsKeyFor, Fitting.FitsTable, Fitting.FitsTables, Fitting.AreFitting}

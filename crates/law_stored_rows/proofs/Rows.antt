@@ -11,7 +11,8 @@ use Rattle.std.proofs.lemmas.List.Elements.{All-from_recursion, recursion_from_A
 use Rattle.std.proofs.lemmas.Option.{slice_get_within}
 use Rattle.inno_types.specs.{declared.value.Value.Value, declared.value.Schema.Schema}
 use Rattle.inno_db.specs.{Database.Database, Database.Place, Database.place_cmp, Database.rows_of, Order.place_cmp_total}
-use Rattle.inno_db.proofs.{Tables.place_cmp-IsAntisymmetric, Keys.IsKeyed, Keys.AreAtTheirKeys, Keys.key_in-at}
+use Rattle.inno_db.proofs.{Tables.place_cmp-IsAntisymmetric, Keys.key_in-at}
+use Rattle.inno_db.specs.Keyed.{IsKeyed, AreAtTheirKeys}
 use Rattle.law_db.specs.Fitting.{AreRowsOf}
 use Rattle.law_stored_rows.specs.Fitting.{FitsTable, AreFitting}
 use Rattle.law_stored_rows.proofs.{FittingValues.fits_row, Values.eq_is}

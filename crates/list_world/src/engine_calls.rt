@@ -7,17 +7,14 @@ ghost use Rattle.list_world.specs.Parts.{world_of, AreAdded};
 
 use crate::list_world::ListWorld;
 use entries::ListIndex;
-use inno_db::Change;
+use inno_db::{Change, INDEXES_OF_TABLE};
 use inno_model::{Event, History};
 use inno_types::{Bytes, Item, Listed, Reply, Schema, Stmt};
-use sql_history::SessionSettings;
+use sql_history::{SessionSettings, rows_of_reply};
 use std::alloc::Global;
 use store_api::NoMemory;
 use world::EngineWorld;
 use world_parts::{SessionRoom, take_room};
-
-/// How many numbers of indexes a table has.
-pub(crate) const INDEXES_OF_TABLE: usize = 8;
 
 impl EngineWorld for ListWorld {
     ghost tells = { in_memory };
@@ -62,7 +59,7 @@ impl EngineWorld for ListWorld {
 
     fn end_item(&mut self, s: u32, j: u32, reply: Reply) {
         self.sessions[s as usize].let_reply(false);
-        self.rows += rows_of(&reply);
+        self.rows += rows_of_reply(&reply);
         self.history.add(Event::Ended { s, j, reply });
     }
 
@@ -82,7 +79,7 @@ impl EngineWorld for ListWorld {
     }
 
     fn add_table(&mut self, s: u32, schema: Schema) -> Result<(), NoMemory> {
-        let Ok(()) = self.indexes.reserve(INDEXES_OF_TABLE) else {
+        let Ok(()) = self.indexes.reserve(INDEXES_OF_TABLE as usize) else {
             drop(schema);
             return Err(NoMemory);
         };
@@ -109,16 +106,6 @@ fn push_copy(schemas: &mut Listed<Schema>, schema: &Schema) -> Result<(), NoMemo
 {
     schemas.push(schema.copied()?)?;
     Ok(())
-}
-
-/// How many rows a reply has.
-fn rows_of(reply: &Reply) -> u64
-    ensures { result ≡ rows_of_reply reply.now }
-{
-    match reply {
-        Reply::Rows(rows) => rows.len() as u64,
-        _ => 0,
-    }
 }
 
 /// Adds the indexes of a table, for which there is room. They are empty.

@@ -5,9 +5,9 @@ ghost use Rattle.std.specs.Prelude.{◌≡◌, ◌<◌, ◌^◌, [], IfOk, OnOk,
 ghost use Rattle.world.specs.EngineCalls.{IsNew, LaysTable, with_opening};
 ghost use Rattle.list_world.specs.Parts.{world_of};
 
-use crate::engine_calls::{INDEXES_OF_TABLE, add_indexes};
+use crate::engine_calls::add_indexes;
 use crate::list_world::ListWorld;
-use inno_db::Db;
+use inno_db::{Db, INDEXES_OF_TABLE};
 use inno_model::{Event, History};
 use inno_types::{Listed, Schema};
 use std::alloc::Global;
@@ -38,7 +38,7 @@ impl ListWorld {
         ensures err { OnErr result (world_of self.new ≡ world_of self.old) }
     {
         let copy = schema.copied()?;
-        self.indexes.reserve(INDEXES_OF_TABLE)?;
+        self.indexes.reserve(INDEXES_OF_TABLE as usize)?;
         self.schemas.push(copy)?;
         add_indexes(self.alloc, &mut self.indexes);
         Ok(())

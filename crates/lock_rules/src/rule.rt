@@ -7,6 +7,7 @@ ghost use Rattle.lock_rules.specs.Ranges as ranges;
 ghost use Rattle.lock_rules.specs.Rules as spec;
 
 use crate::conflict::{is_upper, same_kind, same_mode, same_reason, same_spot};
+use inno_db::INDEXES_OF_TABLE;
 use inno_types::{Bound, Bytes, Level, Lock, LockKind, Mode, Range, Reason, Spot};
 use std::cmp::Ordering;
 
@@ -185,7 +186,7 @@ impl Case {
     fn is_unique(&self) -> bool
         ensures { result ≡ spec.is_unique self.now }
     {
-        self.index % 8 == 0 && is_single(&self.range)
+        self.index % INDEXES_OF_TABLE == 0 && is_single(&self.range)
     }
 
     fn is_visited(&self) -> bool
@@ -221,8 +222,8 @@ impl Case {
     {
         match self.place {
             Place::Within => {
-                self.index % 8 != 0
-                    && self.spot.index == self.index / 8 * 8
+                self.index % INDEXES_OF_TABLE != 0
+                    && self.spot.index == self.index / INDEXES_OF_TABLE * INDEXES_OF_TABLE
                     && self.spot.key.is_some()
             }
             Place::Past | Place::New => false,

@@ -10,7 +10,8 @@ use Rattle.std.specs.FinMap.Entries.{below_all, is_sorted-where_key}
 use Rattle.inno_types.specs.declared.value.Value.{Value}
 use Rattle.inno_types.specs.declared.value.Schema.{Schema}
 use Rattle.inno_db.specs.Database.{Database, Place, place_cmp, value_cmp, key_of, key_in, rows_of, placed}
-use Rattle.inno_db.proofs.Keys.{IsKeyed, AreAtTheirKeys, key_in-at}
+use Rattle.inno_db.proofs.Keys.{key_in-at}
+use Rattle.inno_db.specs.Keyed.{IsKeyed, AreAtTheirKeys}
 use Rattle.opened_world.proofs.Last.{Entry}
 
 abbrev at : ℕ → List Entry → List Entry

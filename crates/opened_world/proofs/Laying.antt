@@ -18,7 +18,8 @@ use Rattle.law_stored_rows.proofs.{Applying.AreFitting-no_rows, Applying.AreFitt
 use Rattle.law_stored_rows.proofs.{Values.same_place, Tables.lag_stays, Tables.pushed_here, Tables.pushed_elsewhere, FromTables.absent, Made.no_tables}
 use Rattle.law_stored_rows.proofs.{Made.a_table_more}
 use Rattle.law_stored_rows.specs.Tables.{HasNoPairs, AreCoded, AreCodedAs, what_is_there, in_table}
-use Rattle.world.specs.{State.WorldState, State.index_of, Told.IsTold, Told.pairs_in, Told.pairs_of, EngineCalls.IsNew, EngineCalls.LaysTable}
+use Rattle.world.specs.{State.WorldState, Told.IsTold, Told.pairs_in, Told.pairs_of, EngineCalls.IsNew, EngineCalls.LaysTable}
+use Rattle.inno_db.specs.Indexes.{index_of}
 use Rattle.row_changes.specs.declared.row_edit.RowEdit.TheVariants as edits
 use Rattle.row_changes.specs.{Edits.IsKeyAt, Keys.IsChangingKeys, Awaited.IsOfTable}
 use Rattle.row_changes.proofs.Pushed.{key_at, first_rows}

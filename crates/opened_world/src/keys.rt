@@ -18,7 +18,7 @@ ghost use Rattle.law_held_steps.specs.Leaving.{MovesPlaces, LeavesTable};
 ghost use Rattle.opened_world.specs.Laid.{AwaitsNobody, PutsNewRecord, HasRecordThere, TakesKeysOver};
 
 use crate::opening::PutBad;
-use inno_db::{key_of_row, to_value};
+use inno_db::{index_number, key_of_row, to_value};
 use inno_types::{Bytes, Kind, Row, Schema, Value};
 use key_codec::put_key;
 use list_world::ListWorld;
@@ -26,7 +26,7 @@ use row_changes::KeysChange;
 use row_codec::encode;
 use std::alloc::Global;
 use store_api::{Move, NoMemory, Stepped, Version};
-use world::{World, index_number};
+use world::World;
 
 /// Nobody else uses the world.
 const ACTOR: u32 = 0;

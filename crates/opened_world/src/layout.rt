@@ -7,7 +7,7 @@ ghost use Rattle.inno_db.specs.Changes.{apply_one};
 ghost use Rattle.inno_db.specs.Database.{place_cmp, placed};
 ghost use Rattle.inno_db.specs.declared.change.Change.TheVariants.{Create};
 ghost use Rattle.inno_db.specs.declared.limits.TheConstants.{MOST_TABLES};
-ghost use Rattle.inno_db.proofs.Keys.{IsKeyed};
+ghost use Rattle.inno_db.specs.Keyed.{IsKeyed};
 ghost use Rattle.law_stored_rows.specs.Storable.{IsStorable};
 ghost use Rattle.law_stored_rows.specs.Fitting.{FitsTable};
 ghost use Rattle.shared_lists.specs.Fitting.{CanBeCoded};

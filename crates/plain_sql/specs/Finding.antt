@@ -8,8 +8,7 @@ use Rattle.inno_types.specs.declared.reply.Reply.TheVariants.{Done}
 use Rattle.inno_db.specs.declared.outcome.Outcome.{Outcome}
 use Rattle.inno_db.specs.Database.{Database, rows_of}
 use Rattle.inno_db.specs.Refusals.{refusal}
-use Rattle.inno_db.specs.Outcome.{answered, select_answer, insert_answer, update_answer, delete_answer}
-use Rattle.inno_db.proofs.Outcomes.{table_read}
+use Rattle.inno_db.specs.Outcome.{answered, select_answer, insert_answer, update_answer, delete_answer, table_read}
 use Rattle.plain_sql.specs.declared.interpreter.Found.{Found}
 
 abbrev pub on_found : Option Found → (ℕ → Schema → List (List Value) → Outcome) → Outcome

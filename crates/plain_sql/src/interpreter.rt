@@ -3,12 +3,11 @@
 ghost use Rattle.std.specs.Prelude.{◌≡◌, None, Some, IfOk, ℕ, List, option_copied};
 ghost use Rattle.inno_db.specs.Database.{Database};
 ghost use Rattle.inno_db.specs.Refusals.{refusal};
-ghost use Rattle.inno_db.proofs.Outcomes.{table_read};
+ghost use Rattle.inno_db.specs.Outcome.{table_read, answered, counted, on_number, created, creation, select_answer, insert_answer, update_answer, delete_answer, answer_to, outcome};
 ghost use Rattle.inno_types.specs.declared.value.Value.{Value};
 ghost use Rattle.inno_types.specs.declared.value.Schema.{Schema};
 ghost use Rattle.inno_db.specs.declared.outcome.Outcome.{Outcome};
 ghost use Rattle.plain_sql.specs.Finding.{on_found, answer_on, IsTableOf, IsReadFrom, IsOnTable};
-ghost use Rattle.inno_db.specs.Outcome.{answered, counted, on_number, created, creation, select_answer, insert_answer, update_answer, delete_answer, answer_to, outcome};
 
 use crate::changes::{delete, insert, update};
 use crate::selection::select;

@@ -13,8 +13,7 @@ use Rattle.inno_db.specs.Database.{Database, RowMap, rows_of}
 use Rattle.inno_db.specs.Names.{table_place}
 use Rattle.inno_db.specs.Typing.{filter_fits, where_known}
 use Rattle.inno_db.specs.Refusals.{refused_if, on_table, schema_at, selected_known, select_refusal, refusal}
-use Rattle.inno_db.specs.Outcome.{outcome, answer_to, unless_refused}
-use Rattle.inno_db.proofs.Outcomes.{table_read}
+use Rattle.inno_db.specs.Outcome.{outcome, answer_to, unless_refused, table_read}
 use Rattle.sql_plan.specs.declared.choice.Plan.{Plan}
 use Rattle.sql_plan.specs.Plans.{whole_index}
 use Rattle.inno_types.specs.Ranges.{is_within}

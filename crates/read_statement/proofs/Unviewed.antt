@@ -8,8 +8,7 @@ use Rattle.inno_types.specs.declared.value.Schema.{Schema}
 use Rattle.inno_types.specs.declared.stmt.Stmt.{Stmt}
 use Rattle.inno_db.specs.Database.{Database, rows_of}
 use Rattle.inno_db.specs.declared.outcome.Outcome.{Outcome}
-use Rattle.inno_db.specs.Outcome.{outcome}
-use Rattle.inno_db.proofs.Outcomes.{table_read}
+use Rattle.inno_db.specs.Outcome.{outcome, table_read}
 use Rattle.inno_model.specs.declared.event.Event.{Event}
 use Rattle.inno_model.specs.Past.{own, level, commits, opening, changed}
 use Rattle.plain_sql.specs.Finding.{IsReadFrom}

@@ -4,7 +4,7 @@ ghost use Rattle.std.specs.Prelude.{◌≡◌, ◌≤◌, ℕ, IfOk, IfSome, Som
 ghost use Rattle.std.specs.List.{list_all};
 ghost use Rattle.inno_db.specs.declared.limits.TheConstants.{MOST_KEYS, MOST_TABLES};
 ghost use Rattle.inno_db.specs.Declarations.{is_short, is_indexable};
-ghost use Rattle.inno_db.proofs.Outcomes.{table_read};
+ghost use Rattle.inno_db.specs.Outcome.{table_read};
 ghost use Rattle.sql_history.specs.Readings.{is_plain_select};
 ghost use Rattle.law_stored_rows.specs.Storable.{AreStorable};
 ghost use Rattle.sql_plan.specs.Visits.{are_indexable};

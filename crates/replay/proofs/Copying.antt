@@ -13,7 +13,8 @@ use Rattle.inno_types.specs.declared.value.Value.{Value}
 use Rattle.inno_types.specs.declared.value.Schema.{Schema}
 use Rattle.inno_db.specs.declared.limits.TheConstants.{MOST_TABLES}
 use Rattle.inno_db.specs.Database.{Database, Place, place_cmp, value_cmp, key_of, key_in, rows_of, placed, all_placed, database_of, IsInOrder}
-use Rattle.inno_db.proofs.Keys.{IsKeyed, AreAtTheirKeys, key_in-at}
+use Rattle.inno_db.proofs.Keys.{key_in-at}
+use Rattle.inno_db.specs.Keyed.{IsKeyed, AreAtTheirKeys}
 use Rattle.inno_db.proofs.Tables.{entries-from_rising}
 use Rattle.inno_db.specs.Changes.{apply_one}
 use Rattle.inno_db.specs.declared.change.Change.{Change}

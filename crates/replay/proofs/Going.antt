@@ -7,7 +7,7 @@ use Rattle.std.proofs.lemmas.Bool.Decides.{nat_tests}
 use Rattle.std.proofs.lemmas.List.{take-append-drop, take_more, reverse-append, length-reverse}
 use Rattle.inno_db.specs.declared.change.Change.{Change}
 use Rattle.inno_db.specs.Database.{Database}
-use Rattle.inno_db.proofs.Keys.{IsKeyed}
+use Rattle.inno_db.specs.Keyed.{IsKeyed}
 use Rattle.inno_model.specs.declared.event.Event.{Event}
 use Rattle.inno_model.specs.declared.event.Event.TheVariants.{Opened, Begin, Changed, Undone, Committed, RolledBack}
 use Rattle.inno_model.specs.Past.{own, oldest, opening, changed, commits, committed, db_after}

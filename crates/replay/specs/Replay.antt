@@ -3,7 +3,7 @@ use Rattle.std.specs.Prelude.{◌≡◌, List, [], ◌∷◌}
 use Rattle.inno_db.specs.Database.{Database}
 use Rattle.inno_db.specs.Keeping.{CanApply}
 use Rattle.inno_db.specs.declared.change.Change.{Change}
-use Rattle.inno_db.proofs.Keys.{IsKeyed}
+use Rattle.inno_db.specs.Keyed.{IsKeyed}
 use Rattle.inno_model.specs.declared.event.Event.{Event}
 use Rattle.inno_model.specs.declared.event.Event.TheVariants.{Opened}
 use Rattle.inno_model.specs.Past.{opening, changed, committed, commits}

@@ -1,7 +1,7 @@
 //! The replay itself: entry by entry, the oldest first.
 
 ghost use Rattle.std.specs.Prelude.{◌≡◌, reverse, IfOk, OnOk};
-ghost use Rattle.inno_db.proofs.Keys.{IsKeyed};
+ghost use Rattle.inno_db.specs.Keyed.{IsKeyed};
 ghost use Rattle.inno_model.specs.Past.{changed, commits, opening, db_after};
 ghost use Rattle.replay.specs.Replay.{CanReplay, OpensOnce};
 ghost use Rattle.replay.specs.Entries.{GoesOn};

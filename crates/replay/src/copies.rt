@@ -3,7 +3,7 @@
 ghost use Rattle.std.specs.Prelude.{◌≡◌, ◌≤◌, ◌++◌, map, reverse, IfOk, OnOk, length};
 ghost use Rattle.inno_db.specs.declared.limits.TheConstants.{MOST_TABLES};
 ghost use Rattle.inno_db.specs.declared.change.Change.TheVariants.{Create, Put};
-ghost use Rattle.inno_db.proofs.Keys.{IsKeyed};
+ghost use Rattle.inno_db.specs.Keyed.{IsKeyed};
 ghost use Rattle.replay.specs.Tables.{puts_below};
 
 use crate::changes::make_from_back;

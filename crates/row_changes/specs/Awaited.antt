@@ -1,7 +1,8 @@
 -- Whom a step of a change makes awaited at indexes: nobody but who makes it, and only at the indexes of the table.
 use Rattle.std.specs.Prelude.{◌≡◌, ◌⊎◌, ℕ, ◌≤◌, List, length, slice_get, Some}
 use Rattle.inno_types.specs.declared.value.Schema.{Schema}
-use Rattle.world.specs.State.{WorldState, index_of}
+use Rattle.world.specs.State.{WorldState}
+use Rattle.inno_db.specs.Indexes.{index_of}
 
 -- Who is awaited anywhere was so before, or is this actor at this index.
 pub record AwaitsAt (actor index : ℕ) (old new : WorldState) : Type 0 where

@@ -5,12 +5,11 @@ ghost use Rattle.row_codec.specs.Rows.{IsRowOf};
 ghost use Rattle.law_stored_rows.specs.Edits.{key_index};
 ghost use Rattle.row_changes.specs.Keys.{value_stays, StayBetween, IsFirstToChange, IsEntryIn, IsEntryFor, AreEntries, HasColumnOf};
 
-use inno_db::{at_place, order, to_value};
+use inno_db::{at_place, index_number, order, to_value};
 use inno_types::{Bytes, Row, Schema};
 use key_codec::put_entry;
 use std::alloc::Global;
 use store_api::NoMemory;
-use world::index_number;
 
 /// The entries of the old and of the new row in one key.
 #[derive(Drop)]

@@ -17,11 +17,12 @@ ghost use Rattle.row_changes.specs.RecordReached.{Went};
 use crate::coding::{coded, decoded, undo_of_former, undo_of_new, writer_of};
 use crate::entering::enter;
 use crate::row_edit::RowEdit;
+use inno_db::index_number;
 use inno_types::{Bytes, Row, Value};
 use std::alloc::Global;
 use std::mem;
 use store_api::{MOST_BYTES_OF_VALUE, Move, NoMemory, Stepped, Undo, Version};
-use world::{World, index_number};
+use world::World;
 
 /// The longest undo record: seven bytes, a key and a value.
 const MOST_UNDO_BYTES: u16 = 1098;

@@ -15,7 +15,8 @@ use Rattle.row_versions.specs.{Chains.first_seen, Chains.older}
 use Rattle.law_stored_rows.specs.{Records.IsCodeOf, Records.LeadTo, Records.IsRecordWith, Records.shown, Records.row_shown, Entries.value_in}
 use Rattle.law_stored_rows.proofs.RowRecords.{leads_nowhere, record_read, pointer_leads, pointer_followed}
 use Rattle.sql_plan.specs.Visits.{primary_key, index_key, kind_at}
-use Rattle.world.specs.{State.WorldState, State.index_of, Indexes.Calls, Undoing.IsUnchanged}
+use Rattle.world.specs.{State.WorldState, Indexes.Calls, Undoing.IsUnchanged}
+use Rattle.inno_db.specs.Indexes.{index_of}
 use Rattle.row_search.specs.declared.phase.Phase.TheVariants.{Follow, Fetch, Look, Walk, Keep, Sort, Leave}
 use Rattle.row_search.specs.{declared.found.FoundRow.FoundRow, declared.scan.Scan.Scan, declared.phase.Phase.Phase, Sights.sees_by, Sights.rows_seen}
 use Rattle.row_search.specs.{FoundRows.AreFound, Ranges.primary_part, Ranges.lies_in, Ranges.lies_up_to, Tables.most_versions, Tables.ShowsTable}

@@ -9,7 +9,8 @@ use Rattle.row_versions.specs.{declared.kept.Kept.Kept, declared.version.Version
 use Rattle.law_stored_rows.specs.Records.{IsRecordWith, kept_of}
 use Rattle.law_stored_rows.proofs.RowRecords.{record_of}
 use Rattle.sql_plan.specs.Visits.{kind_if, kind_at}
-use Rattle.world.specs.{State.WorldState, State.index_of, Undoing.IsUnchanged, Indexes.Calls}
+use Rattle.world.specs.{State.WorldState, Undoing.IsUnchanged, Indexes.Calls}
+use Rattle.inno_db.specs.Indexes.{index_of}
 use Rattle.row_search.specs.{declared.found.FoundRow.FoundRow, declared.scan.Scan.Scan, declared.phase.Phase.Phase, Sights.rows_seen, Others.KeepsWay}
 use Rattle.row_search.specs.{Tables.ShowsTable, Tables.HoldsTable, Tables.ShowsRows, Steps.OnlyMoves, Steps.GoesOn, Steps.Waits, Steps.PhaseWaits}
 use Rattle.row_search.specs.{Steps.MayWait, Searches.place_in, Searches.PhaseHolds, Searches.IsSearching, Searches.IsRecordKept, Searches.IsSeenAmong}

@@ -11,7 +11,8 @@ use Rattle.store_api.specs.{declared.moves.Move.Move, declared.moves.Move.TheVar
 use Rattle.row_versions.specs.{declared.kept.Kept.Kept, declared.version.Version.Version}
 use Rattle.law_stored_rows.specs.Records.{IsRecordWith}
 use Rattle.sql_plan.specs.Visits.{index_key}
-use Rattle.world.specs.{State.WorldState, State.index_of, Indexes.Calls, Undoing.IsUnchanged}
+use Rattle.world.specs.{State.WorldState, Indexes.Calls, Undoing.IsUnchanged}
+use Rattle.inno_db.specs.Indexes.{index_of}
 use Rattle.row_search.specs.{declared.side.Side.Side, declared.side.Side.TheVariants.Before, declared.side.Side.TheVariants.Within}
 use Rattle.row_search.specs.{declared.side.Side.TheVariants.Behind, declared.scan.Scan.Scan, declared.phase.Phase.Phase, Sights.rows_seen, FoundRows.AreFound}
 use Rattle.row_search.specs.{Tables.ShowsTable, Tables.HoldsTable, Tables.ShowsRows, Tables.most_versions, Visits.phase_at, Visits.IsGivenPhase}

@@ -9,7 +9,8 @@ use Rattle.entries.specs.{Pairs.Pair, Pairs.key_cmp, Calls.HasKey as IsAtKey}
 use Rattle.row_versions.specs.{declared.kept.Kept.Kept, declared.version.Version.Version, Chains.first_seen}
 use Rattle.law_stored_rows.specs.Records.{LeadTo, IsRecordWith}
 use Rattle.sql_plan.specs.Visits.{kind_at, primary_key}
-use Rattle.world.specs.State.{WorldState, index_of}
+use Rattle.world.specs.State.{WorldState}
+use Rattle.inno_db.specs.Indexes.{index_of}
 use Rattle.row_search.specs.declared.phase.Phase.TheVariants.{Seek, Follow, Fetch, Look, Walk, Keep, Sort, Leave}
 use Rattle.row_search.specs.{declared.scan.Scan.Scan, declared.phase.Phase.Phase, declared.search.RowSearch.RowSearch, Sights.sees_by, Sights.rows_seen}
 use Rattle.row_search.specs.{Tables.most_versions, FoundRows.AreFound, FoundRows.RiseByKey, Ranges.primary_part, Ranges.lies_in, Ranges.lies_up_to}

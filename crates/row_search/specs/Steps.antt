@@ -6,7 +6,8 @@ use Rattle.store_api.specs.{declared.moves.Move.Move, declared.moves.Move.TheVar
 use Rattle.store_api.specs.{declared.moves.Move.TheVariants.Bad, declared.moves.Move.TheVariants.NoMemory}
 use Rattle.entries.specs.{Index.Index, Index.AreKept, Calls.Delays, Calls.Leaves}
 use Rattle.row_versions.specs.{Versions.Versions, Versions.Stays, Calls.IsUnseen, declared.version.Version.Version}
-use Rattle.world.specs.{State.WorldState, State.index_of, Stores.StoreGoes, Indexes.Calls, Undoing.IsUnchanged}
+use Rattle.world.specs.{State.WorldState, Stores.StoreGoes, Indexes.Calls, Undoing.IsUnchanged}
+use Rattle.inno_db.specs.Indexes.{index_of}
 use Rattle.store_api.specs.declared.stepped.Stepped.{Stepped}
 use Rattle.store_api.specs.declared.stepped.Stepped.TheVariants.{Went, Done, Hindered}
 use Rattle.row_search.specs.declared.search.Hindrance.{Hindrance}

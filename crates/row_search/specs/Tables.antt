@@ -5,7 +5,8 @@ use Rattle.entries.specs.Pairs.{Pair, AreRising, value_of}
 use Rattle.row_versions.specs.declared.version.Version.{Version}
 use Rattle.law_stored_rows.specs.{Records.IsClustered, Tables.HasItsColumns}
 use Rattle.sql_plan.specs.Visits.{index_key}
-use Rattle.world.specs.State.{WorldState, index_of}
+use Rattle.world.specs.State.{WorldState}
+use Rattle.inno_db.specs.Indexes.{index_of}
 use Rattle.row_search.specs.{declared.scan.Scan.Scan, Sights.rows_seen}
 
 -- no row has more versions than this

@@ -13,10 +13,11 @@ use crate::search::{Came, Hindrance};
 use crate::side::Side;
 use crate::sight::Sight;
 use entries::{Buffer, PairBuffers};
+use inno_db::index_number;
 use inno_types::{Bytes, Range, Schema};
 use std::alloc::Global;
 use store_api::{MOST_BYTES_OF_VALUE, Move};
-use world::{World, index_number};
+use world::World;
 
 /// What is searched, how its rows are read, and those that were found. `which` is 0 for the table's clustered index, and
 /// the number of a secondary key from 1.

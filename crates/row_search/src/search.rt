@@ -2,7 +2,7 @@
 
 ghost use Rattle.std.specs.Prelude.{◌≡◌, true, if◌then◌else◌};
 ghost use Rattle.entries.specs.Calls.{Leaves};
-ghost use Rattle.world.specs.State.{index_of};
+ghost use Rattle.inno_db.specs.Indexes.{index_of};
 ghost use Rattle.world.specs.Indexes.{Calls};
 ghost use Rattle.row_search.specs.Searches.{IsSearching, BeginsWithNothing, MayBegin};
 ghost use Rattle.row_search.specs.Others.{KeepsFound, KeepsSearching, NeedsNoVersion};
@@ -15,12 +15,13 @@ use crate::phase::Phase;
 use crate::scan::Scan;
 use crate::sight::Sight;
 use entries::{Buffer, PairBuffers};
+use inno_db::index_number;
 use inno_types::Schema;
 use sql_plan::Plan;
 use std::alloc::Global;
 use std::mem;
 use store_api::{Move, Stepped};
-use world::{World, index_number};
+use world::World;
 
 /// A search for rows.
 #[derive(Drop)]

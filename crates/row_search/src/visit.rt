@@ -13,12 +13,13 @@ use crate::glance::Glance;
 use crate::phase::Phase;
 use crate::scan::Scan;
 use crate::search::{Came, Hindrance};
+use inno_db::index_number;
 use inno_types::{Bytes, Row, Schema};
 use row_codec::RowBad;
 use std::alloc::Global;
 use std::mem;
 use store_api::{MOST_BYTES_OF_VALUE, Move, Visit};
-use world::{World, index_number};
+use world::World;
 
 fn move_of(why: Visit) -> Move
     ensures { result ≡ move_for why }

@@ -1,7 +1,7 @@
 -- What is printed of a history: what its sessions were answered, or what a generated script has done.
 use Rattle.std.specs.Prelude.{◌≡◌, ℕ, List, [], Option}
 use Rattle.std.specs.Io.KnownBytes.{Appends}
-use Rattle.inno_db.proofs.Keys.{IsKeyed}
+use Rattle.inno_db.specs.Keyed.{IsKeyed}
 use Rattle.inno_model.specs.Recorded.{Recorded}
 use Rattle.inno_model.specs.Past.{opening}
 use Rattle.inno_model.specs.Text.{text}

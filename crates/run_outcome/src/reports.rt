@@ -2,7 +2,7 @@
 
 ghost use Rattle.std.specs.Prelude.{◌≡◌};
 ghost use Rattle.store_api.specs.Causes.{Rose};
-ghost use Rattle.inno_db.proofs.Keys.{IsKeyed};
+ghost use Rattle.inno_db.specs.Keyed.{IsKeyed};
 ghost use Rattle.inno_model.specs.Past.{opening};
 ghost use Rattle.inno_model.specs.Text.{text};
 ghost use Rattle.replay.specs.Replay.{OpensOnce};

@@ -15,7 +15,7 @@ use Rattle.inno_model.specs.declared.event.Event.{Event}
 use Rattle.inno_model.specs.declared.event.Event.TheVariants.{Begin, Started, Ended, Committed}
 use Rattle.inno_model.specs.Past.{did, begins_txn, under_way, opening, commits, db_after}
 use Rattle.sql_history.specs.Items.{Language, Asks}
-use Rattle.sql_history.specs.Settings.{Either}
+use Rattle.sql_history.specs.Settings.{IfOwn}
 use Rattle.sql_history.specs.Statements.{is_on_rows}
 
 -- a piece of a transaction's work: a statement with its reply, where that is known, or a savepoint
@@ -58,9 +58,9 @@ DoesItem says item reply before after = after ≡ before
 -- what the session's last transaction has done in items that have ended
 abbrev pub HasDone : Language → ℕ → List Event → List Piece → Type 0
 HasDone says s [] pieces = pieces ≡ []
-HasDone says s (Begin t n l ∷ past) pieces = Either (t == s) (pieces ≡ []) (HasDone says s past pieces)
+HasDone says s (Begin t n l ∷ past) pieces = IfOwn (t == s) (pieces ≡ []) (HasDone says s past pieces)
 HasDone says s (Ended t j reply ∷ past) pieces =
-    Either (t == s) ((before : List Piece) × HasDone says s past before × DoesItem says (under_way s past) reply before pieces) (HasDone says s past pieces)
+    IfOwn (t == s) ((before : List Piece) × HasDone says s past before × DoesItem says (under_way s past) reply before pieces) (HasDone says s past pieces)
 HasDone says s (other ∷ past) pieces = HasDone says s past pieces
 
 -- a reply that is compared; an item that stopped, or was broken off behind its commit, has none

@@ -72,9 +72,9 @@ abbrev pub at_end : Setting → Setting
 at_end setting = record setting { saves = [] }
 
 -- of an entry of the session the one holds, of an entry of another the other
-abbrev pub Either : Bool → Type 0 → Type 0 → Type 0
-Either true mine other = mine
-Either false mine other = other
+abbrev pub IfOwn : Bool → Type 0 → Type 0 → Type 0
+IfOwn true mine other = mine
+IfOwn false mine other = other
 
 -- What an item makes of it that ended so: only a statement that was done sets anything.
 abbrev pub SetByItem : Language → Option Item → Reply → ℕ → Bool → Setting → Setting → Type 0
@@ -85,12 +85,12 @@ SetByItem says item reply made is_open before after = after ≡ before
 abbrev pub HasSet : Language → ℕ → List Event → Setting → Type 0
 HasSet says s [] setting = setting ≡ at_first
 HasSet says s (Begin t n l ∷ past) setting =
-    Either (t == s) ((before : Setting) × HasSet says s past before × (setting ≡ at_begin before)) (HasSet says s past setting)
+    IfOwn (t == s) ((before : Setting) × HasSet says s past before × (setting ≡ at_begin before)) (HasSet says s past setting)
 HasSet says s (Committed t ∷ past) setting =
-    Either (t == s) ((before : Setting) × HasSet says s past before × (setting ≡ at_end before)) (HasSet says s past setting)
+    IfOwn (t == s) ((before : Setting) × HasSet says s past before × (setting ≡ at_end before)) (HasSet says s past setting)
 HasSet says s (RolledBack t ∷ past) setting =
-    Either (t == s) ((before : Setting) × HasSet says s past before × (setting ≡ at_end before)) (HasSet says s past setting)
+    IfOwn (t == s) ((before : Setting) × HasSet says s past before × (setting ≡ at_end before)) (HasSet says s past setting)
 HasSet says s (Ended t j reply ∷ past) setting =
-    Either (t == s) ((before : Setting) × HasSet says s past before × SetByItem says (under_way s past) reply (length (own s past)) (is_some (level s past))
+    IfOwn (t == s) ((before : Setting) × HasSet says s past before × SetByItem says (under_way s past) reply (length (own s past)) (is_some (level s past))
     before setting) (HasSet says s past setting)
 HasSet says s (other ∷ past) setting = HasSet says s past setting

@@ -6,12 +6,20 @@ ghost use Rattle.sql_history.specs.Counts.{capped, rows_of_reply, rows_in, rows_
 use inno_model::{Change, Db, Event, History};
 use inno_types::Reply;
 
-fn rows_of_reply(reply: &Reply) -> u64
-    ensures { result ≡ capped (rows_of_reply reply.now) }
+/// How many rows a reply has.
+pub fn rows_of_reply(reply: &Reply) -> u64
+    ensures exact { result ≡ rows_of_reply reply.now }
+    ensures capped { result ≡ capped (rows_of_reply reply.now) }
 {
     match reply {
         Reply::Rows(rows) => rows.len() as u64,
-        _ => 0,
+        Reply::Done
+        | Reply::Count(_)
+        | Reply::Fail(_)
+        | Reply::RunLimit { .. }
+        | Reply::NotSignalled { .. }
+        | Reply::Stopped
+        | Reply::NoMemory => 0,
     }
 }
 
@@ -35,7 +43,18 @@ fn rows_of_entry(event: &Event) -> u64
             ..
         } => 1,
         Event::Ended { reply, .. } => rows_of_reply(reply),
-        _ => 0,
+        Event::Started { .. }
+        | Event::Begin { .. }
+        | Event::View { .. }
+        | Event::Changed { .. }
+        | Event::Undone { .. }
+        | Event::Committed { .. }
+        | Event::RolledBack { .. }
+        | Event::Waits { .. }
+        | Event::Victim { .. }
+        | Event::Acked { .. }
+        | Event::Signal { .. }
+        | Event::Stopped { .. } => 0,
     }
 }
 

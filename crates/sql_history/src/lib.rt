@@ -12,7 +12,7 @@ mod save_list;
 mod savepoints;
 mod settings;
 
-pub use counts::rows_kept;
+pub use counts::{rows_kept, rows_of_reply};
 pub use databases::{
     a_commit_adds_its_changes, a_commit_leaves_others_snapshots, a_later_view_sees_the_commit,
     all_changes_put_back_leave_the_database, without_own_changes_a_snapshot_is_committed,

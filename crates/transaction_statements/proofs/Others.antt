@@ -18,7 +18,7 @@ use Rattle.sql_lists.proofs.Moving.{AddingOne, stays_running}
 use Rattle.sql_lists.proofs.Staying.{other_of}
 use Rattle.transaction_statements.specs.declared.statement.TransactionStatement.{TransactionStatement}
 use Rattle.transaction_statements.specs.declared.statement.TransactionStatement.TheVariants as statements
-use Rattle.transaction_statements.specs.Committing.{stmt_of, Fits, SetsAlone}
+use Rattle.transaction_statements.specs.Committing.{stmt_of, Fits, SetsAlone, set_by}
 use Rattle.transaction_statements.specs.Knowing.{IsAt, HasOpened, SavesIn, IsGoingBack, IsMissing}
 use Rattle.transaction_statements.specs.Running.{RunsBy, HasTask, IsRunning}
 use Rattle.giving_up.proofs.Ends.{Spares, spares_other, none_made, emptied_on, gives_up_on}
@@ -91,7 +91,7 @@ module _ (e : Event) (h : List Event) (s : ℕ) (other : is_of s e ≡ false) wh
   quiet_on statement quiet = tt
 
   runs_on : (m : TransactionStatement) → RunsBy h s m → RunsBy (e ∷ h) s m
-  runs_on (statements.Quiet statement) r = (at_other statement (SetsAlone statement) r.0, same.entries ∙ r.1, quiet_on statement r.2)
+  runs_on (statements.Quiet setter) r = (at_other (set_by setter) (SetsAlone (set_by setter)) r.0, same.entries ∙ r.1, quiet_on (set_by setter) r.2)
   runs_on (statements.Missing name) r = missing_on name r
   runs_on (statements.Committing c) r = (at_other (stmt_of c) (Fits c) r.0, same.entries ∙ r.1)
   runs_on (statements.Unacked c) r = (at_other (stmt_of c) (Fits c) r.0, emptied_on e h s spared r.1, acks ∙ r.2)
@@ -124,7 +124,7 @@ stays = stays_running IsRunning (λ old new t s m differ adding keeps same_task 
 
 -- a running statement has an item under way
 pub has_item : (state : State) (s : ℕ) (m : TransactionStatement) → IsRunning state s m → under_way s state.past ≢ None
-has_item state s (statements.Quiet statement) r none = (let x = r.0.0.takes.asks.1 in cc)
+has_item state s (statements.Quiet setter) r none = (let x = r.0.0.takes.asks.1 in cc)
 has_item state s (statements.Missing name) r none = (let x = r.0.asks.1 in cc)
 has_item state s (statements.Committing c) r none = (let x = r.0.0.takes.asks.1 in cc)
 has_item state s (statements.Unacked c) r none = (let x = r.0.0.takes.asks.1 in cc)

@@ -5,6 +5,8 @@ use Rattle.inno_types.specs.declared.stmt.Stmt.TheVariants as stmt
 use Rattle.sql_history.specs.Settings.{Setting, next_level}
 use Rattle.transaction_statements.specs.declared.committer.Committer.{Committer}
 use Rattle.transaction_statements.specs.declared.committer.Committer.TheVariants as committers
+use Rattle.transaction_statements.specs.declared.setter.Setter.{Setter}
+use Rattle.transaction_statements.specs.declared.setter.Setter.TheVariants as setters
 
 -- a statement of this crate
 abbrev pub IsOnTransactions : Stmt → Type 0
@@ -21,6 +23,11 @@ abbrev pub stmt_of : Committer → Stmt
 stmt_of committers.Commit = stmt.Commit
 stmt_of committers.TurnOn = stmt.SetAutocommit true
 stmt_of (committers.Begin snapshot l) = stmt.Begin snapshot
+
+abbrev pub set_by : Setter → Stmt
+set_by (setters.Autocommit on) = stmt.SetAutocommit on
+set_by (setters.Level scope l) = stmt.SetLevel scope l
+set_by (setters.Savepoint name) = stmt.Savepoint name
 
 -- what was set before it
 abbrev pub Fits : Committer → Setting → Type 0

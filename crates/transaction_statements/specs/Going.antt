@@ -8,7 +8,7 @@ use Rattle.transaction_statements.specs.declared.statement.TransactionStatement.
 use Rattle.transaction_statements.specs.declared.statement.TransactionStatement.TheVariants as statements
 
 abbrev pub to_go : ℕ → State → TransactionStatement → List ℕ
-to_go s state (statements.Quiet statement) = left 0 0 0 0
+to_go s state (statements.Quiet setter) = left 0 0 0 0
 to_go s state (statements.Missing name) = left 0 0 0 0
 to_go s state (statements.Committing committer) = left 5 0 0 0
 to_go s state (statements.Unacked committer) = left 4 0 0 0

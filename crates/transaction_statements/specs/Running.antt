@@ -11,7 +11,7 @@ use Rattle.shared_lists.specs.State.{State, task_of}
 use Rattle.sql_lists.specs.Kept.{SetsQuietly}
 use Rattle.transaction_statements.specs.declared.statement.TransactionStatement.{TransactionStatement}
 use Rattle.transaction_statements.specs.declared.statement.TransactionStatement.TheVariants as statements
-use Rattle.transaction_statements.specs.Committing.{stmt_of, Fits, SetsAlone}
+use Rattle.transaction_statements.specs.Committing.{stmt_of, set_by, Fits, SetsAlone}
 use Rattle.giving_up.specs.Ends.{IsEmptied, IsGivingUp}
 use Rattle.transaction_statements.specs.Knowing.{IsAt, HasOpened, SavesIn, IsGoingBack, IsMissing}
 
@@ -21,7 +21,8 @@ Nothing setting = Unit {0}
 
 -- what a statement knows of the past
 abbrev pub RunsBy : List Event → ℕ → TransactionStatement → Type 0
-RunsBy past s (statements.Quiet statement) = IsAt s statement (SetsAlone statement) past × (of_item s past ≡ []) × SetsQuietly statement s past
+RunsBy past s (statements.Quiet setter) =
+    IsAt s (set_by setter) (SetsAlone (set_by setter)) past × (of_item s past ≡ []) × SetsQuietly (set_by setter) s past
 RunsBy past s (statements.Missing name) = IsMissing s name past
 RunsBy past s (statements.Committing committer) = IsAt s (stmt_of committer) (Fits committer) past × (of_item s past ≡ [])
 RunsBy past s (statements.Unacked committer) = IsAt s (stmt_of committer) (Fits committer) past × IsEmptied s past × (awaits_ack (of_item s past) ≡ true)

@@ -10,6 +10,7 @@ ghost use Rattle.transaction_statements.specs.Knowing.{IsFinished};
 ghost use Rattle.transaction_statements.specs.Running.{IsRunning};
 ghost use Rattle.transaction_statements.specs.Going.{to_go};
 
+use crate::setter::Setter;
 use crate::statement::TransactionStatement;
 use inno_types::{Bytes, Reply, SqlError, Stmt};
 use shared_lists::SharedLists;
@@ -33,16 +34,16 @@ pub fn finish<L: SharedLists>(
 }
 
 pub fn step_quiet<L: SharedLists>(
-    stmt: Stmt,
+    setter: Setter,
     session: u32,
     lists: &mut SqlLists<L>,
 ) -> (TransactionStatement, Advance)
     requires joined { session < length lists.old.names }
-    requires running { IsRunning lists.old session (TransactionStatement.Quiet stmt) }
+    requires running { IsRunning lists.old session (TransactionStatement.Quiet setter) }
     ensures steps { Steps IsRunning session lists.old lists.new result.0 result.1 }
-    ensures nears { Nears to_go session lists.old (TransactionStatement.Quiet stmt) lists.new result.0 result.1 }
+    ensures nears { Nears to_go session lists.old (TransactionStatement.Quiet setter) lists.new result.0 result.1 }
 {
-    finish(stmt, session, lists)
+    finish(setter.into_stmt(), session, lists)
 }
 
 /// A savepoint that is not there refuses its statement.

@@ -7,7 +7,9 @@ mod committer;
 mod endings;
 mod rollbacks;
 mod savepoints;
+mod setter;
 mod statement;
 
 pub use committer::Committer;
+pub use setter::Setter;
 pub use statement::TransactionStatement;

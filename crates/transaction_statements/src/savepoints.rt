@@ -8,6 +8,7 @@ ghost use Rattle.sql_lists.specs.Going.{Nears};
 ghost use Rattle.transaction_statements.specs.Running.{IsRunning};
 ghost use Rattle.transaction_statements.specs.Going.{to_go};
 
+use crate::setter::Setter;
 use crate::statement::TransactionStatement;
 use inno_types::{Bytes, Level, Reply, Stmt};
 use shared_lists::SharedLists;
@@ -32,8 +33,8 @@ pub fn new_savepoint<L: SharedLists>(
     }
     let setting = lists.setting(session);
     if setting.autocommit() {
-        let stmt = Stmt::Savepoint { name: savepoint };
-        return TransactionStatement::Quiet { stmt };
+        let setter = Setter::Savepoint { name: savepoint };
+        return TransactionStatement::Quiet { setter };
     }
     let level = setting.next_level();
     TransactionStatement::Opening { savepoint, level }

@@ -15,6 +15,7 @@ use crate::committer::Committer;
 use crate::endings::{step_failed, step_missing, step_quiet};
 use crate::rollbacks::{new_rollback_to, step_rollback, step_rollback_to};
 use crate::savepoints::{new_savepoint, step_opening, step_saving};
+use crate::setter::Setter;
 use inno_types::{Bytes, Level, Stmt};
 use shared_lists::SharedLists;
 use sql_lists::{Advance, SqlLists};
@@ -24,7 +25,7 @@ use std::alloc::Global;
 #[derive(Drop)]
 pub enum TransactionStatement {
     /// Nothing is to be done but what it sets, if anything.
-    Quiet { stmt: Stmt },
+    Quiet { setter: Setter },
     /// A ROLLBACK TO whose savepoint is not there.
     Missing { savepoint: Bytes },
     /// Nothing is done yet.
@@ -73,7 +74,7 @@ impl TransactionStatement {
             Stmt::Savepoint { name } => new_savepoint(name, session, lists),
             Stmt::SetAutocommit(on) => new_autocommit(on, session, lists),
             Stmt::SetLevel { scope, level } => TransactionStatement::Quiet {
-                stmt: Stmt::SetLevel { scope, level },
+                setter: Setter::Level { scope, level },
             },
             Stmt::CreateTable { .. }
             | Stmt::Select { .. }
@@ -123,7 +124,7 @@ impl TransactionStatement {
         ensures nears { Nears to_go session lists.old self lists.new result.0 result.1 }
     {
         match self {
-            TransactionStatement::Quiet { stmt } => step_quiet(stmt, session, lists),
+            TransactionStatement::Quiet { setter } => step_quiet(setter, session, lists),
             TransactionStatement::Missing { savepoint } => step_missing(savepoint, session, lists),
             TransactionStatement::Committing { committer } => step_committing(
                 committer, session, lists,
@@ -170,6 +171,6 @@ fn new_autocommit<L: SharedLists>(
         };
     }
     TransactionStatement::Quiet {
-        stmt: Stmt::SetAutocommit(on),
+        setter: Setter::Autocommit(on),
     }
 }

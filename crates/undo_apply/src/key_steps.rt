@@ -20,15 +20,16 @@ use crate::entry_room::EntryRoom;
 use crate::moves::{go_on, go_on_or_end, go_to};
 use crate::record_bytes::{is_marked, pointer_of};
 use crate::work_room::{Stage, WorkRoom};
+use inno_db::index_number;
 use store_api::{Move, Undo, Visit};
-use world::{World, index_number};
+use world::World;
 
 /// The undo record of a new row.
 const NEW_ROW: u8 = 1;
 
 /// The number of the index of a key.
 fn entries_of(undo: &Undo, which: u8) -> u32
-    ensures { result ≡ 8 * undo.now.table + (1 + which) }
+    ensures { result ≡ key_index undo.now.table which }
 {
     index_number(undo.table, which) + 1
 }

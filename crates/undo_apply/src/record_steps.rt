@@ -11,15 +11,16 @@ ghost use Rattle.undo_apply.specs.Stages.{IsPuttingBack, PutsBack};
 
 use crate::moves::{end, go_on_or_end, go_to};
 use crate::work_room::{Stage, WorkRoom};
+use inno_db::index_number;
 use store_api::{Move, Undo};
-use world::{World, index_number};
+use world::World;
 
 /// The undo record of a new row.
 const NEW_ROW: u8 = 1;
 
 /// The number of the table's clustered index.
 fn records_of(undo: &Undo) -> u32
-    ensures { result ≡ 8 * undo.now.table }
+    ensures { result ≡ clustered_index undo.now.table }
 {
     index_number(undo.table, 0)
 }

@@ -10,7 +10,8 @@ use Rattle.inno_model.specs.declared.event.Event.TheVariants.{Opened, Started, E
 use Rattle.entries.specs.Lists.{empty_index}
 use Rattle.sql_history.specs.Settings.{at_first, set_by}
 use Rattle.sql_history.specs.Counts.{rows_of_reply}
-use Rattle.world.specs.State.{WorldState, Session, Work, HasWork, IsIndex, index_of, with_session, with_work, with_entry}
+use Rattle.world.specs.State.{WorldState, Session, Work, HasWork, IsIndex, with_session, with_work, with_entry}
+use Rattle.inno_db.specs.Indexes.{index_of}
 
 -- a world without tables, which is yet to be opened
 pub record IsNew (state : WorldState) : Type 0 where

@@ -66,10 +66,6 @@ pub record WorldState : Type 0 where
   -- A world in memory has no pages.
   pub paged : Option Paged
 
--- the number of a table's clustered index, or of one of its keys
-abbrev pub index_of : ℕ → ℕ → ℕ
-index_of table which = 8 * table + which
-
 -- the index is there
 pub record IsIndex (schemas : List Schema) (index : ℕ) : Type 0 where
   pub table : ℕ

@@ -4,13 +4,11 @@
 #![tactic(auto)]
 
 mod engine_world;
-mod index_numbers;
 mod laws;
 mod undo_room;
 mod world;
 
 pub use engine_world::EngineWorld;
-pub use index_numbers::index_number;
 pub use laws::{memory_ends_at_once, stores_go_on};
 pub use undo_room::UndoRoom;
 pub use world::World;

@@ -7,7 +7,8 @@ use Rattle.inno_model.specs.declared.event.Event.TheVariants.{Started, Ended, Vi
 use Rattle.inno_model.specs.{Past.own, Past.txn, Past.started, Past.under_way, Past.IsOpen, Past.begins, Past.IsClosed, declared.event.Event.Event}
 use Rattle.sql_history.specs.{Settings.Setting, Settings.at_first, Settings.at_end, Settings.set_by, Settings.saved, Settings.at_begin, Counts.rows_of_reply}
 use Rattle.txn_table.specs.Txns.{ids_of, Txns, is_there, id_at}
-use Rattle.world.specs.State.{WorldState, Session, Work, IsSession, HasWork, standing_of, id_of, index_of}
+use Rattle.world.specs.State.{WorldState, Session, Work, IsSession, HasWork, standing_of, id_of}
+use Rattle.inno_db.specs.Indexes.{index_of}
 use Rattle.world.specs.Sessions.{change_txn, with_save, view_added, begun, with_room, fresh_work, begin_added, identified}
 use Rattle.world.specs.EngineCalls.{joined as with_joined, item_started, item_ended, acknowledged, signalled, with_setting, MakesTable}
 use Rattle.world.specs.{Told.IsTold, Endings.IsCommitted, Endings.IsRolledBack}

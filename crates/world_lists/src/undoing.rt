@@ -22,13 +22,13 @@ ghost use Rattle.world_lists.specs.Between.{IsKept, store_of};
 
 use crate::lists::is_short;
 use desks::{Desk, Doing, give_doing};
-use inno_db::Change;
+use inno_db::{Change, index_number};
 use row_changes::{RowChange, RowEdit};
 use shared_lists::{ChangePart, Changed, Undone};
 use std::alloc::Global;
 use store_api::{Move, NoMemory, Stepped};
 use undo_apply::RecordRoom;
-use world::{EngineWorld, index_number};
+use world::EngineWorld;
 
 /// Whether the session takes a change back.
 pub fn is_undoing(desks: &[Desk], session: u32) -> bool

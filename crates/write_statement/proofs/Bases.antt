@@ -17,9 +17,8 @@ use Rattle.inno_db.specs.declared.change.Change.{Change}
 use Rattle.inno_db.specs.Database.{Database, Place}
 use Rattle.inno_db.specs.Changes.{apply}
 use Rattle.inno_db.specs.Refusals.{refusal}
-use Rattle.inno_db.specs.Outcome.{outcome, insert_answer}
-use Rattle.inno_db.proofs.Keys.{IsKeyed}
-use Rattle.inno_db.proofs.Outcomes.{table_read}
+use Rattle.inno_db.specs.Outcome.{outcome, insert_answer, table_read}
+use Rattle.inno_db.specs.Keyed.{IsKeyed}
 use Rattle.inno_model.specs.declared.event.Event.{Event}
 use Rattle.inno_model.specs.Past.{own, changed, current}
 use Rattle.law_past_agreement.specs.Order.{IsOfRow}

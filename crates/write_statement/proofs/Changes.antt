@@ -12,8 +12,7 @@ use Rattle.inno_types.specs.declared.stmt.Stmt.{Stmt}
 use Rattle.inno_db.specs.declared.change.Change.{Change}
 use Rattle.inno_db.specs.declared.change.Change.TheVariants.{Create, Put, Remove}
 use Rattle.inno_db.specs.Database.{Database}
-use Rattle.inno_db.specs.Outcome.{outcome}
-use Rattle.inno_db.proofs.Outcomes.{table_read}
+use Rattle.inno_db.specs.Outcome.{outcome, table_read}
 use Rattle.inno_db.specs.Changes.{apply}
 use Rattle.inno_db.specs.declared.outcome.Outcome.{Outcome}
 use Rattle.inno_model.specs.declared.event.Event.{Event}

@@ -19,12 +19,11 @@ use Rattle.inno_db.specs.declared.change.Change.TheVariants.{Create, Put, Remove
 use Rattle.inno_db.specs.declared.outcome.Outcome.{Outcome}
 use Rattle.inno_db.specs.Database.{Database, RowMap, key_in, rows_of}
 use Rattle.inno_db.specs.Names.{table_place}
-use Rattle.inno_db.specs.Outcome.{outcome, answer_to, unless_refused, counted, inserted, insert_answer, on_number, on_schema}
+use Rattle.inno_db.specs.Outcome.{outcome, answer_to, unless_refused, counted, inserted, insert_answer, on_number, on_schema, table_read}
 use Rattle.inno_db.specs.Refusals.{refusal, refused_if, on_table, schema_at, schema_named, insert_refusal, update_refusal, delete_refusal, names_known}
 use Rattle.inno_db.specs.Refusals.{names_twice, width_of, leaves_out}
 use Rattle.inno_db.specs.Typing.{filter_fits, set_fits, set_known, tuple_fits, where_fits, where_known}
-use Rattle.inno_db.proofs.Keys.{IsKeyed}
-use Rattle.inno_db.proofs.Outcomes.{table_read}
+use Rattle.inno_db.specs.Keyed.{IsKeyed}
 use Rattle.inno_model.specs.declared.event.Event.{Event}
 use Rattle.inno_model.specs.Past.{own, commits, opening, changed, current}
 use Rattle.law_past_agreement.specs.Order.{created, IsOrdered}

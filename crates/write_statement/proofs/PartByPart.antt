@@ -18,10 +18,8 @@ use Rattle.inno_db.specs.Database.{Database, Place, rows_of}
 use Rattle.inno_db.specs.Changes.{apply}
 use Rattle.inno_db.specs.Names.{table_place}
 use Rattle.inno_db.specs.Refusals.{refusal}
-use Rattle.inno_db.specs.Outcome.{outcome, answer_to, unless_refused, counted, count_unless, on_rows, on_number, on_schema, insert_answer, update_answer}
-use Rattle.inno_db.specs.Outcome.{delete_answer, deleted, matching}
-use Rattle.inno_db.proofs.Keys.{IsKeyed}
-use Rattle.inno_db.proofs.Outcomes.{table_read}
+use Rattle.inno_db.specs.Outcome.{outcome, answer_to, unless_refused, counted, count_unless, on_rows, on_number, on_schema, insert_answer, update_answer, delete_answer, deleted, matching, table_read}
+use Rattle.inno_db.specs.Keyed.{IsKeyed}
 use Rattle.inno_db.proofs.Applying.{apply-append}
 use Rattle.inno_model.specs.declared.event.Event.{Event}
 use Rattle.inno_model.specs.Past.{own, commits, committed, opening, changed, current}

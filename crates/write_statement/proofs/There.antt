@@ -26,10 +26,10 @@ use Rattle.inno_db.specs.Conditions.{matches}
 use Rattle.inno_db.specs.Changes.{apply_one, apply}
 use Rattle.inno_db.specs.Refusals.{refusal}
 use Rattle.inno_db.specs.Storing.{all_assigned}
-use Rattle.inno_db.specs.Outcome.{matching, is_same_row, row_for, put_then, inserted, change_to, change_then, updated, deleted, on_schema, on_number, on_rows}
-use Rattle.inno_db.specs.Outcome.{insert_answer, update_answer, delete_answer, answer_to, unless_refused, outcome}
+use Rattle.inno_db.specs.Outcome.{matching, is_same_row, row_for, put_then, inserted, change_to, change_then, updated, deleted, on_schema, on_number, on_rows, insert_answer, update_answer, delete_answer, answer_to, unless_refused, outcome}
 use Rattle.inno_db.proofs.Applying.{get_removed_other}
-use Rattle.inno_db.proofs.Keys.{IsKeyed, AreAtTheirKeys, IsAtItsKey, key_in-at}
+use Rattle.inno_db.proofs.Keys.{key_in-at}
+use Rattle.inno_db.specs.Keyed.{IsKeyed, AreAtTheirKeys, IsAtItsKey}
 use Rattle.inno_model.specs.declared.event.Event.{Event}
 use Rattle.inno_model.specs.Past.{commits, changed, current}
 use Rattle.sql_history.specs.Items.{base}

@@ -28,9 +28,9 @@ use Rattle.inno_db.specs.Expressions.{and_then}
 use Rattle.inno_db.specs.Storing.{row_of_tuple}
 use Rattle.inno_db.specs.Typing.{tuple_fits}
 use Rattle.inno_db.specs.Refusals.{refusal, refused_if, on_table, schema_at, schema_named, insert_refusal, names_known, names_twice, width_of, leaves_out}
-use Rattle.inno_db.specs.Outcome.{outcome, counted, count_unless, inserted, nothing}
-use Rattle.inno_db.specs.Outcome.{is_same_value, has_key, new_row, row_for, put_then, then_written}
-use Rattle.inno_db.proofs.Keys.{IsKeyed, IsKeyed-apply, has_key-get, key_in-at}
+use Rattle.inno_db.specs.Outcome.{outcome, counted, count_unless, inserted, nothing, is_same_value, has_key, new_row, row_for, put_then, then_written}
+use Rattle.inno_db.proofs.Keys.{IsKeyed-apply, has_key-get, key_in-at}
+use Rattle.inno_db.specs.Keyed.{IsKeyed}
 use Rattle.law_claims.proofs.Outcomes.{whole_is}
 use Rattle.write_statement.specs.Following.{counted_on, followed_by}
 

@@ -12,9 +12,8 @@ use Rattle.inno_types.specs.declared.reply.SqlError.TheVariants.{Duplicate}
 use Rattle.inno_db.specs.declared.change.Change.{Change}
 use Rattle.inno_db.specs.declared.outcome.Outcome.{Outcome}
 use Rattle.inno_db.specs.Database.{Database, Place}
-use Rattle.inno_db.specs.Outcome.{outcome}
+use Rattle.inno_db.specs.Outcome.{outcome, table_read}
 use Rattle.inno_db.specs.Refusals.{refusal}
-use Rattle.inno_db.proofs.Outcomes.{table_read}
 use Rattle.inno_model.specs.declared.event.Event.{Event}
 use Rattle.inno_model.specs.declared.event.Event.TheVariants.{Changed}
 use Rattle.inno_model.specs.Past.{did, own, commits, current}

@@ -3,7 +3,7 @@
 ghost use Rattle.std.specs.Prelude.{◌≡◌, ◌≢◌, ◌<◌, ◌≤◌, ◌+◌, ◌*◌, ℕ, IfOk, [], length, Some, None};
 ghost use Rattle.inno_db.specs.Refusals.{refusal};
 ghost use Rattle.sql_history.specs.Legal.{IsWriting};
-ghost use Rattle.inno_db.proofs.Outcomes.{table_read};
+ghost use Rattle.inno_db.specs.Outcome.{table_read};
 ghost use Rattle.inno_db.specs.declared.limits.TheConstants.{MOST_TABLES};
 ghost use Rattle.inno_types.specs.declared.value.Schema.{Schema};
 ghost use Rattle.inno_model.specs.Past.{own, IsOpen, IsClosed};

@@ -9,7 +9,7 @@ ghost use Rattle.inno_db.specs.Database.{Database};
 ghost use Rattle.inno_db.specs.Changes.{apply};
 ghost use Rattle.inno_db.specs.Outcome.{outcome};
 ghost use Rattle.inno_db.specs.Refusals.{refusal};
-ghost use Rattle.inno_db.proofs.Keys.{IsKeyed};
+ghost use Rattle.inno_db.specs.Keyed.{IsKeyed};
 ghost use Rattle.write_statement.specs.Following.{followed_by};
 ghost use Rattle.write_statement.specs.Parts.{IsFirstPart, has_parts, with_tuple};
 

@@ -2,9 +2,8 @@
 
 ghost use Rattle.std.specs.Prelude.{◌≡◌, None, Some, true, IfOk, reverse};
 ghost use Rattle.inno_db.specs.Database.{Database};
-ghost use Rattle.inno_db.specs.Outcome.{outcome};
+ghost use Rattle.inno_db.specs.Outcome.{outcome, table_read};
 ghost use Rattle.inno_db.specs.Refusals.{refusal};
-ghost use Rattle.inno_db.proofs.Outcomes.{table_read};
 ghost use Rattle.plain_sql.specs.Finding.{IsReadFrom};
 ghost use Rattle.giving_up.specs.Replies.{is_refusal};
 ghost use Rattle.write_statement.specs.Settling.{IsSettledBy};

@@ -20,11 +20,11 @@ returns-in_err-root-clause-reason g c =
 pub returns-in_err-push_root-clause-kept : goal.returns-in_err-push_root-clause-kept
 returns-in_err-push_root-clause-kept g c =
     let before = c.loop-which.invariant in
-    let more = makes_more c.args.schema.now c.args.table c.loop-which.which _ _ c.in_ok-root.root c.loop-which.roots.items (g.M.Mtr.state c.args.m.now) (g.M.Mtr.state c.loop-which.m) (g.M.Mtr.state c.make_root.new.m) before c.in_ok-root.ensures.made (omega arith) c.len_of_record.ensures.exact in
+    let more = makes_more c.args.schema.now c.args.table c.loop-which.which _ _ c.in_ok-root.root c.loop-which.roots.items (g.M.Mtr.state c.args.m.now) (g.M.Mtr.state c.loop-which.m) (g.M.Mtr.state c.make_root.new.m) before c.in_ok-root.ensures.made (omega (arith, c.index_number-index.ensures)) c.len_of_record.ensures.exact in
     on_err _ _ (attempts_taken (c.loop-which.roots.items ++ c.in_ok-root.root ∷ []) (g.M.Mtr.state c.args.m.now) (g.M.Mtr.state c.make_root.new.m) (1 + length c.args.schema.now.keys) more.reserves (omega (arith, more.count_is)))
 
 pub loop-which-preserved : goal.loop-which-preserved
 loop-which-preserved g c =
     let before = c.loop-which.invariant in
-    let more = makes_more c.args.schema.now c.args.table c.loop-which.which _ _ c.in_ok-root.root c.loop-which.roots.items (g.M.Mtr.state c.args.m.now) (g.M.Mtr.state c.loop-which.m) (g.M.Mtr.state c.make_root.new.m) before c.in_ok-root.ensures.made (omega arith) c.len_of_record.ensures.exact in
+    let more = makes_more c.args.schema.now c.args.table c.loop-which.which _ _ c.in_ok-root.root c.loop-which.roots.items (g.M.Mtr.state c.args.m.now) (g.M.Mtr.state c.loop-which.m) (g.M.Mtr.state c.make_root.new.m) before c.in_ok-root.ensures.made (omega (arith, c.index_number-index.ensures)) c.len_of_record.ensures.exact in
     subst (λ (roots : List ℕ). MakesRoots c.args.schema.now c.args.table (c.loop-which.which + 1) roots (g.M.Mtr.state c.args.m.now) (g.M.Mtr.state c.make_root.new.m)) (sym c.in_ok-push_root.ensures) more

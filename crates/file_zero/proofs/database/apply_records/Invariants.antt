@@ -1,5 +1,5 @@
 use Rattle.std.specs.Prelude.{◌≡◌, drop}
-use Rattle.inno_db.proofs.Keys.{IsKeyed}
+use Rattle.inno_db.specs.Keyed.{IsKeyed}
 use Rattle.inno_model.specs.Past.{changed}
 use Rattle.law_crashes.specs.Records.{changes_of}
 use Rattle.file_zero.proofs.database.apply_records.Given as goal

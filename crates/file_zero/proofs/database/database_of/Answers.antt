@@ -1,6 +1,6 @@
 use Rattle.std.proofs.Common.{◌+◌, ◌∙◌, List, drop, ap, sym, subst}
 use Rattle.inno_db.specs.Database.{Database}
-use Rattle.inno_db.proofs.Keys.{IsKeyed}
+use Rattle.inno_db.specs.Keyed.{IsKeyed}
 use Rattle.inno_model.specs.Past.{changed}
 use Rattle.log_format.specs.declared.group.Record.{Record}
 use Rattle.law_crashes.specs.Records.{changes_of, changes_in}

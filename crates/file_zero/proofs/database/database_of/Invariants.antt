@@ -1,5 +1,5 @@
 use Rattle.std.specs.Prelude.{◌≡◌, drop}
-use Rattle.inno_db.proofs.Keys.{IsKeyed}
+use Rattle.inno_db.specs.Keyed.{IsKeyed}
 use Rattle.inno_model.specs.Past.{changed}
 use Rattle.law_crashes.specs.Records.{no_db, changes_in}
 use Rattle.file_zero.proofs.database.database_of.Given as goal

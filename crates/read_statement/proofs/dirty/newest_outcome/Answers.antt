@@ -1,7 +1,7 @@
 use Rattle.std.proofs.Common.{◌≡◌, Some, None, List, sym, subst}
 use Rattle.inno_types.specs.declared.value.Schema.{Schema}
 use Rattle.inno_db.specs.Refusals.{refusal}
-use Rattle.inno_db.proofs.Outcomes.{table_read}
+use Rattle.inno_db.specs.Outcome.{table_read}
 use Rattle.law_past_agreement.specs.Order.{created}
 use Rattle.read_statement.proofs.Unviewed.{newest_outcome}
 use Rattle.read_statement.proofs.dirty.newest_outcome.Goals as goal

@@ -1,5 +1,5 @@
 use Rattle.std.proofs.Common.{◌≡◌}
-use Rattle.inno_db.proofs.Keys.{IsKeyed}
+use Rattle.inno_db.specs.Keyed.{IsKeyed}
 use Rattle.inno_model.specs.Past.{opening, commits, db_after}
 use Rattle.replay.proofs.Going.{given}
 use Rattle.replay.proofs.commits.committed_db.Goals as goal

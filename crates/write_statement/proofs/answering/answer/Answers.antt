@@ -1,7 +1,7 @@
 use Rattle.std.proofs.Common.{◌≡◌, None, List, [], subst, sym, ap, ◌∙◌, refl, inl}
 use Rattle.inno_types.specs.declared.value.Schema.{Schema}
 use Rattle.inno_db.specs.Refusals.{refusal}
-use Rattle.inno_db.proofs.Outcomes.{table_read}
+use Rattle.inno_db.specs.Outcome.{table_read}
 use Rattle.shared_lists.specs.Tasks.{Idle}
 use Rattle.shared_lists.specs.State.{State}
 use Rattle.law_past_agreement.specs.Order.{created}

@@ -1,7 +1,7 @@
 use Rattle.std.proofs.Common.{◌≡◌, ◌+◌, ◌*◌, None, List, length, sym, subst, ap, ◌∙◌, arith}
 use Rattle.inno_types.specs.declared.value.Schema.{Schema}
 use Rattle.inno_db.specs.Refusals.{refusal}
-use Rattle.inno_db.proofs.Outcomes.{table_read}
+use Rattle.inno_db.specs.Outcome.{table_read}
 use Rattle.inno_model.specs.Past.{own}
 use Rattle.law_past_agreement.specs.Order.{created}
 use Rattle.shared_lists.specs.State.{State}

@@ -21,10 +21,10 @@ invariant_of-self c =
     let session = c.requires.may.0 in
     let there : slice_get l.sessions.items c.args.s ≡ Some session = there_of c.args.s session c.self.view_is c.requires.may.1 in
     let here : c.index_mut.result.now ≡ session = read_of c.args.s session c.index_mut.result.now c.self.view_is c.requires.may.1 c.index_mut.ensures.value in
-    let few : l.rows + c.rows_of.result < 2 ^ 63 = omega (arith, c.requires.few, c.rows_of.ensures, ap (λ (p : Parts). p.rows) c.self.view_is) in
+    let few : l.rows + c.rows_of_reply.result < 2 ^ 63 = omega (arith, c.requires.few, c.rows_of_reply.ensures.exact, ap (λ (p : Parts). p.rows) c.self.view_is) in
     let new : Session = record session { can_reply = false } in
     rw (c.let_reply.ensures, here) (sound_set l.history.room l.rows (length l.schemas) (length l.indexes.items) l.slots l.txns.begun l.sessions.items
-    c.args.s session new c.add.new.self.room (l.rows + c.rows_of.result) l.slots c.self.invariant there (λ txn is. is)
+    c.args.s session new c.add.new.self.room (l.rows + c.rows_of_reply.result) l.slots c.self.invariant there (λ txn is. is)
     (promised_same l.slots l.sessions.items c.args.s session new c.self.invariant.promised there refl refl)
     (omega (arith, c.add.ensures.room, ap (bit 1) c.requires.may.2, c.self.invariant.enough))
     (omega (arith, c.self.invariant.small, ap (bit 1) c.requires.may.2)) (omega (arith, few, puts_few l.sessions.items, c.self.invariant.few)))
@@ -32,4 +32,4 @@ invariant_of-self c =
 pub returns : goal.returns
 returns c session is =
     let here : c.index_mut.result.now ≡ session = read_of c.args.s session c.index_mut.result.now c.self.view_is is c.index_mut.ensures.value in
-    rw (← c.self.view_is, c.let_reply.ensures, here, c.add.ensures.past, c.add.ensures.names, c.rows_of.ensures) refl
+    rw (← c.self.view_is, c.let_reply.ensures, here, c.add.ensures.past, c.add.ensures.names, c.rows_of_reply.ensures.exact) refl
