@@ -4,7 +4,7 @@ use Rattle.page_format.specs.Words.{records_of}
 use Rattle.btree.specs.declared.tree.Tree.{Tree}
 use Rattle.btree.specs.Sound.{lows_of, HoldsKey}
 use Rattle.btree_merge.specs.Parents.{IsParent}
-use Rattle.law_tree_merges.specs.Merges.{child_under}
+use Rattle.btree_split.specs.Halves.{child_under}
 use Rattle.btree_merge.specs.Merged.{HoldsFew, CanMerge, MergesCouple}
 
 -- The leaf of the key is the child of this parent's record of that number.

@@ -4,10 +4,10 @@
 ghost use Rattle.std.specs.Prelude.{◌≡◌, ◌≤◌, ◌&&◌, length, slice_get};
 ghost use Rattle.std.specs.List.{list_all, list_any};
 ghost use Rattle.std.specs.Str.{str_eq_ignore_ascii_case};
-ghost use Rattle.inno_db.specs.Declarations.{has_twins, is_sized, is_short, is_indexable, key_bytes, row_bytes, are_good_columns};
+ghost use Rattle.inno_db.specs.Declarations.{has_twins, is_sized, is_indexable, key_bytes, row_bytes, are_good_columns};
 ghost use Rattle.catalog.specs.Makeable.{is_name, are_named, takes_no_null, has_primary, has_good_keys, is_narrow, is_makeable};
 
-use inno_db::{MOST_BYTES_OF_INDEX, MOST_BYTES_OF_ROW, MOST_COLUMNS, MOST_KEYS};
+use inno_db::{MOST_BYTES_OF_ROW, MOST_COLUMNS, MOST_KEYS, is_short, is_sized};
 use inno_types::{Bytes, Column, Kind, Schema};
 
 /// The most bytes of a name.
@@ -47,24 +47,6 @@ fn good_keys_names(schema: &Schema) -> bool
         .as_slice()
         .iter()
         .all(|key| is_good_name(&key.name))
-}
-
-fn is_large_enough(kind: Kind) -> bool
-    ensures { result ≡ is_sized kind }
-{
-    match kind {
-        Kind::BigInt => true,
-        Kind::VarBinary(size) => size != 0,
-    }
-}
-
-fn is_short_enough(kind: Kind) -> bool
-    ensures { result ≡ is_short kind }
-{
-    match kind {
-        Kind::BigInt => true,
-        Kind::VarBinary(size) => size <= MOST_BYTES_OF_INDEX,
-    }
 }
 
 fn is_narrow_enough(kind: Kind) -> bool
@@ -119,7 +101,7 @@ fn names_twice(columns: &[Column]) -> bool
 fn are_large_enough(columns: &[Column]) -> bool
     ensures { result ≡ list_all (λ c. is_sized c.kind) columns.now }
 {
-    columns.iter().all(|column| is_large_enough(column.kind))
+    columns.iter().all(|column| is_sized(column.kind))
 }
 
 fn are_narrow_enough(columns: &[Column]) -> bool
@@ -141,7 +123,7 @@ fn can_be_indexed(columns: &[Column], place: u8) -> bool
     ensures { result ≡ is_indexable (slice_get columns.now place) }
 {
     match columns.get(usize::from(place)) {
-        Some(column) => is_short_enough(column.kind),
+        Some(column) => is_short(column.kind),
         None => false,
     }
 }

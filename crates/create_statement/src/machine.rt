@@ -62,7 +62,10 @@ impl CreateStatement {
         match self {
             CreateStatement::Unacked { stmt, level } => CreateStatement::Closed { stmt, level },
             CreateStatement::Committed { stmt } => CreateStatement::Ending { stmt },
-            other => other,
+            other @ (CreateStatement::Asked { .. }
+            | CreateStatement::Closed { .. }
+            | CreateStatement::Ending { .. }
+            | CreateStatement::Failed) => other,
         }
     }
 
@@ -90,7 +93,11 @@ impl CreateStatement {
                 drop(stmt);
                 CreateStatement::Failed
             }
-            other => other,
+            other @ (CreateStatement::Asked { .. }
+            | CreateStatement::Unacked { .. }
+            | CreateStatement::Committed { .. }
+            | CreateStatement::Ending { .. }
+            | CreateStatement::Failed) => other,
         }
     }
 

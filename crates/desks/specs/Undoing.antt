@@ -5,6 +5,7 @@ use Rattle.row_versions.specs.declared.kept.Kept.{Kept}
 use Rattle.world.specs.State.{WorldState}
 use Rattle.desks.specs.declared.desk.Desk.{Desk}
 use Rattle.undo_apply.specs.{declared.work_room.Stage.Stage, declared.work_room.Stage.TheVariants.Walk, Rooms.steps_left}
+use Rattle.row_search.specs.Tables.{most_versions}
 
 abbrev pub one_more : Option Kept → (ℕ → ℕ) → ℕ
 one_more None further = 0
@@ -23,10 +24,6 @@ left_at keys most kept stage = steps_left keys stage * 2 ^ 64
 abbrev pub keys_if : Option Schema → ℕ
 keys_if None = 0
 keys_if (Some schema) = length schema.keys
-
--- no place has as many versions as this: fewer than 2 ^ 63 are of this history, and not more than 2 ^ 62 are older
-abbrev pub most_versions : ℕ
-most_versions = 2 ^ 63 + 2 ^ 62
 
 abbrev pub undo_left_in : ℕ → Stage → WorldState → ℕ
 undo_left_in table stage state = left_at (keys_if (slice_get state.schemas table)) most_versions state.versions.kept_at stage

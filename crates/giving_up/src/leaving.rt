@@ -65,7 +65,8 @@ impl Leaving {
     {
         match self {
             Leaving::Unacked { kept, given } => Leaving::Ending { kept, given },
-            other => other,
+            other @ (Leaving::BackingOut(_) | Leaving::Failed { .. } | Leaving::Ending { .. }) =>
+                other,
         }
     }
 

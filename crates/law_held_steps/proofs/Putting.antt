@@ -10,7 +10,8 @@ use Rattle.world.specs.{Undoing.read_into, Undoing.ReadsLast, Undoing.newest, Un
 use Rattle.world.specs.{Told.pairs_of, Told.TellsTogether, Told.LeavesRows, declared.undo_room.UndoRoom.UndoRoom, Memory.IsInMemory, Sessions.undone_added}
 use Rattle.desks.specs.Holding.{IsLast, IsLastIfTold, IsGoingBack, SearchHeld, IsHeld}
 use Rattle.law_held_steps.proofs.AnyStep.{HoldsAlone, HoldsAloneAt, held_alone, coded_all, rows_by}
-use Rattle.desks.specs.Undoing.{left_at, keys_if, undo_left_in, most_versions, left_in}
+use Rattle.desks.specs.Undoing.{left_at, keys_if, undo_left_in, left_in}
+use Rattle.row_search.specs.Tables.{most_versions}
 use Rattle.desks.specs.declared.desk.Doing.TheVariants.{Nothing, Changing, Lagging, Undoing}
 use Rattle.desks.specs.Desks.{desk_at, doing_in, doing_at, started_in, is_quiet_doing, is_undoing, with_read, with_room, HasRooms, with_doing, Store}
 use Rattle.desks.specs.{Shown.shown, Shown.task_at, Shown.lists_of, declared.desk.Desk.Desk, declared.desk.Doing.Doing, Leaves.Does}

@@ -11,7 +11,8 @@ use Rattle.btree.specs.declared.tree.Tree.{Tree}
 use Rattle.btree.specs.Sound.{levels_of, IsTreePage, tree_pairs}
 use Rattle.law_tree_changes.proofs.Alike.{levels_same, sound_stays, same_pairs}
 use Rattle.btree_split.specs.Placed.{BeginsLow, IsPlacedPage, IsPlacedTree}
-use Rattle.law_tree_merges.specs.Merges.{child_under, IsAboveLeaves, MergesLeaves, FreesPage, LosesPage, Shrinks}
+use Rattle.law_tree_merges.specs.Merges.{IsAboveLeaves, MergesLeaves, FreesPage, LosesPage, Shrinks}
+use Rattle.btree_split.specs.Halves.{child_under}
 use Rattle.law_tree_merges.proofs.Merging as merging
 
 module _ (tree : Tree) (old new : ℕ → List ℕ) (page : ℕ) (placed : IsPlacedTree tree old) (nowhere : StandsNowhere page (levels_of tree old))

@@ -37,7 +37,8 @@ use Rattle.btree_change.proofs.Whole.{keys_rise}
 use Rattle.space_map.specs.Map.{byte_of, mark_of}
 use Rattle.law_tree_changes.proofs.Alike.{page_stays}
 use Rattle.btree_split.specs.Placed.{least_key, BeginsLow, IsPlacedPage, IsPlacedTree}
-use Rattle.law_tree_merges.specs.Merges.{child_under, IsAboveLeaves, MergesLeaves, LosesPage}
+use Rattle.law_tree_merges.specs.Merges.{IsAboveLeaves, MergesLeaves, LosesPage}
+use Rattle.btree_split.specs.Halves.{child_under}
 use Rattle.law_tree_merges.proofs.Lists.{of_all, cut_one, cut_two, length-entries, named_child, has_entries, first_left, same_index}
 use Rattle.law_tree_merges.proofs.Lists.{with_page, without_page, both_sides, on_all}
 

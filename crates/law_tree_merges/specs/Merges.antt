@@ -9,10 +9,7 @@ use Rattle.law_flat_tree.specs.PageSplits.{StandsNowhere}
 use Rattle.btree.specs.declared.tree.Tree.{Tree}
 use Rattle.btree.specs.Sound.{levels_of, tree_pairs}
 use Rattle.btree_split.specs.Placed.{IsPlacedTree}
-
--- the page that the parent's record of that number leads to
-abbrev pub child_under : ℕ → (ℕ → List ℕ) → ℕ → ℕ → ℕ
-child_under key_len pages u j = child_of key_len (slice_index_or (records_of (pages u)) j [])
+use Rattle.btree_split.specs.Halves.{child_under}
 
 -- The page stands on the level above the leaves.
 pub record IsAboveLeaves (tree : Tree) (pages : ℕ → List ℕ) (u : ℕ) : Type 0 where

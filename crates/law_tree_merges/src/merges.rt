@@ -6,7 +6,8 @@ ghost use Rattle.law_flat_tree.specs.PageSplits.{StandsNowhere};
 ghost use Rattle.btree.specs.declared.tree.Tree.{Tree};
 ghost use Rattle.btree.specs.Sound.{levels_of, tree_pairs};
 ghost use Rattle.btree_split.specs.Placed.{IsPlacedTree};
-ghost use Rattle.law_tree_merges.specs.Merges.{child_under, IsAboveLeaves, MergesLeaves, FreesPage, LosesPage, Shrinks};
+ghost use Rattle.law_tree_merges.specs.Merges.{IsAboveLeaves, MergesLeaves, FreesPage, LosesPage, Shrinks};
+ghost use Rattle.btree_split.specs.Halves.{child_under};
 
 /// A leaf gets the records of the one to its right under the same parent, which loses the record of that one. The tree is
 /// placed still, with the same pairs, and the leaf to the right stands in it no longer.

@@ -27,7 +27,8 @@ use Rattle.row_changes.proofs.Telling.{HasPut, pairs_told, puts_pairs, tells, co
 use Rattle.law_logged_changes.proofs.{Entering.with_version, Leaving.has_rows_left}
 use Rattle.law_held_steps.proofs.Items.{its_columns}
 use Rattle.shared_lists.specs.Fitting.{FitsWell}
-use Rattle.opened_world.specs.Laid.{no_db, version_of, IsLaid, PutsNewRecord, HasRecordThere, TakesKeysOver, AwaitsNobody}
+use Rattle.opened_world.specs.Laid.{version_of, IsLaid, PutsNewRecord, HasRecordThere, TakesKeysOver, AwaitsNobody}
+use Rattle.law_crashes.specs.Records.{no_db}
 use Rattle.std.proofs.lemmas.Bool.{cases_eq}
 use Rattle.world.specs.Told.{LeavesRows}
 use Rattle.law_held_steps.specs.Leaving.{MovesPlaces, LeavesTable}

@@ -27,10 +27,6 @@ use Rattle.desks.specs.Holding.{IsFresh}
 use Rattle.opened_world.specs.declared.opening.OpenBad.{OpenBad}
 use Rattle.opened_world.specs.declared.opening.OpenBad.TheVariants.{TooManyRows, NoMemory}
 
--- a database without tables
-abbrev pub no_db : Database
-no_db = record { schemas = []; rows = from_entries [] }
-
 -- a row has one version, which nobody wrote who is known here
 abbrev pub version_of : Option (List Value) → List Version
 version_of None = []

@@ -10,7 +10,8 @@ ghost use Rattle.inno_db.specs.declared.limits.TheConstants.{MOST_TABLES};
 ghost use Rattle.list_world.specs.Parts.{world_of};
 ghost use Rattle.law_stored_rows.specs.Storable.{IsStorable};
 ghost use Rattle.shared_lists.specs.Fitting.{FitsWell};
-ghost use Rattle.opened_world.specs.Laid.{no_db, IsFreshOf, IsTooLarge, AwaitsNobody};
+ghost use Rattle.opened_world.specs.Laid.{IsFreshOf, IsTooLarge, AwaitsNobody};
+ghost use Rattle.law_crashes.specs.Records.{no_db};
 
 use crate::counting::rows_in;
 use crate::keys::{enter_keys, leave_table, put_record};

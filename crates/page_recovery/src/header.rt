@@ -6,6 +6,7 @@ ghost use Rattle.page_recovery.specs.Reading.{IsFileHeader};
 ghost use Rattle.page_recovery.specs.Refused.{IsOther};
 
 use crate::bad::RecoverBad;
+use store_api::MOST_PAGES;
 use stored_pages::{read_u32, read_u64};
 
 /// The bytes `INNODPRF`.
@@ -16,8 +17,6 @@ const VERSION: u32 = 1;
 
 /// A new file has so many pages.
 const FEWEST: u32 = 21;
-
-const MOST: u32 = 65536;
 
 /// What page 0 says: how many pages the file may have, the run of the log, and the LSN of its first group.
 #[derive(Clone, Copy)]
@@ -41,7 +40,7 @@ pub fn header_of(page: &[u8]) -> Result<Header, RecoverBad>
         return Err(RecoverBad::Version { found: version });
     }
     let capacity = read_u32(page, 44);
-    if !(FEWEST..=MOST).contains(&capacity) {
+    if !(FEWEST..=MOST_PAGES).contains(&capacity) {
         return Err(RecoverBad::Capacity { found: capacity });
     }
     Ok(Header {

@@ -95,7 +95,11 @@ impl ReadStatement {
     {
         match self {
             ReadStatement::Leaving(leaving) => leaving.owes_ack(),
-            _ => false,
+            ReadStatement::Opening(_)
+            | ReadStatement::Open { .. }
+            | ReadStatement::Viewed { .. }
+            | ReadStatement::Searching(_)
+            | ReadStatement::Found(_) => false,
         }
     }
 
@@ -105,7 +109,11 @@ impl ReadStatement {
     {
         match self {
             ReadStatement::Leaving(leaving) => ReadStatement::Leaving(leaving.acked()),
-            other => other,
+            other @ (ReadStatement::Opening(_)
+            | ReadStatement::Open { .. }
+            | ReadStatement::Viewed { .. }
+            | ReadStatement::Searching(_)
+            | ReadStatement::Found(_)) => other,
         }
     }
 

@@ -3,7 +3,7 @@
 ghost use Rattle.std.specs.Prelude.{◌≡◌, ◌≤◌, ℕ, IfOk, IfSome, Some, length, slice_get, true};
 ghost use Rattle.std.specs.List.{list_all};
 ghost use Rattle.inno_db.specs.declared.limits.TheConstants.{MOST_KEYS, MOST_TABLES};
-ghost use Rattle.inno_db.specs.Declarations.{is_short, is_indexable};
+ghost use Rattle.inno_db.specs.Declarations.{is_indexable};
 ghost use Rattle.inno_db.specs.Outcome.{table_read};
 ghost use Rattle.sql_history.specs.Readings.{is_plain_select};
 ghost use Rattle.law_stored_rows.specs.Storable.{AreStorable};
@@ -11,8 +11,8 @@ ghost use Rattle.sql_plan.specs.Visits.{are_indexable};
 ghost use Rattle.law_past_agreement.specs.Order.{created};
 ghost use Rattle.read_statement.specs.Planning.{IsChosen, IsPlanned};
 
-use inno_db::MOST_BYTES_OF_INDEX;
-use inno_types::{Columns, Keys, Kind, Listed, Schema, Stmt};
+use inno_db::is_short;
+use inno_types::{Columns, Keys, Listed, Schema, Stmt};
 use shared_lists::SharedLists;
 use sql_lists::SqlLists;
 use sql_plan::{Plan, choose};
@@ -128,14 +128,5 @@ fn is_short_at(columns: &Columns, place: u8) -> bool
     match columns.as_slice().get(usize::from(place)) {
         Some(column) => is_short(column.kind),
         None => false,
-    }
-}
-
-fn is_short(kind: Kind) -> bool
-    ensures { result ≡ is_short kind }
-{
-    match kind {
-        Kind::BigInt => true,
-        Kind::VarBinary(size) => size <= MOST_BYTES_OF_INDEX,
     }
 }

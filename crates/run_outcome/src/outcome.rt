@@ -18,7 +18,7 @@ use inno_model::{Event, History};
 use inno_types::Reply;
 use script::{Directives, Script, read_script};
 use std::alloc::Global;
-use store_api::{Failed, MountBad, Sink, Source};
+use store_api::{Failed, MOST_ROWS, MountBad, Sink, Source};
 
 /// Why a run is no full success.
 #[derive(Clone, Copy, Debug, PartialEq, Eq)]
@@ -123,9 +123,13 @@ pub fn fault_of(bad: MountBad) -> Fault
         MountBad::TooLarge { rows } => Fault::Limit {
             what: 5,
             found: rows,
-            most: 1_000_000,
+            most: MOST_ROWS,
         },
-        other => Fault::File(other),
+        MountBad::NotInitialised
+        | MountBad::Version { .. }
+        | MountBad::Damaged { .. }
+        | MountBad::Malformed { .. }
+        | MountBad::NotEmpty { .. } => Fault::File(bad),
     }
 }
 

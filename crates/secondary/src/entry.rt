@@ -13,7 +13,7 @@ ghost use Rattle.secondary.specs.Entries.{HasSecondary, place_of, front_at, entr
 use crate::fields::{column_kind, field_at};
 use big_endian::u64_bytes;
 use inno_types::{Kind, Schema};
-use key_codec::u64_of;
+use key_codec::{SIGN, u64_of};
 use std::alloc::AllocError;
 use store_api::NoMemory;
 
@@ -21,8 +21,6 @@ use store_api::NoMemory;
 const PRESENT: u8 = 1;
 
 /// Added to a number in two's complement, it gives the number whose bytes are the key.
-const SIGN: u64 = 1 << 63;
-
 /// The number whose bytes are the key of the number that has these in two's complement.
 fn raised_bits(bits: u64) -> u64
     ensures { (n : ℤ) → FitsSigned w64 n → u64_bytes bits ≡ u64_bytes (cast_unsigned w64 n) → result ≡ raised n }

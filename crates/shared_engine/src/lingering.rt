@@ -7,10 +7,10 @@ ghost use Rattle.durable_engine.specs.Calls.{StepsBy};
 ghost use Rattle.durable_engine.specs.Going.{Nears};
 ghost use Rattle.shared_engine.specs.Lingering.{MayCommit, Lingers};
 
-use crate::patience::{LONGEST, Patience, SESSIONS};
+use crate::patience::{LONGEST, Patience};
 use durable_engine::{DurableEngine, Root};
 use shared_lists::SharedLists;
-use store_api::{Disk, Progress};
+use store_api::{Disk, MOST_SESSIONS, Progress};
 
 /// A step of the session. While its commit may wait for others, the step lingers: nothing is done, and one step less is left.
 /// Otherwise it is the engine's. Where that flushes, every commit is served.
@@ -25,7 +25,7 @@ pub(crate) fn step_of<D: Disk, R: Root, L: SharedLists>(
     ensures steps { StepsBy s result engine.old engine.new }
     ensures lingers { Lingers s (slice_index left.old s) engine.old → (result ≡ Progress.Went) × (engine.new ≡ engine.old) × (slice_index left.new s + 1 ≡ slice_index left.old s) }
     ensures goes { (Lingers s (slice_index left.old s) engine.old → ⊥) → Nears s result engine.old engine.new }
-    ensures begins { owes_ack s engine.old ≡ false → owes_ack s engine.new ≡ true → s < SESSIONS → (0 < slice_index left.new s) × (slice_index left.new s ≤ LONGEST) }
+    ensures begins { owes_ack s engine.old ≡ false → owes_ack s engine.new ≡ true → s < MOST_SESSIONS → (0 < slice_index left.new s) × (slice_index left.new s ≤ LONGEST) }
     // What is left to a commit never grows.
     ensures bounded { owes_ack s engine.old ≡ true → slice_index left.new s ≤ slice_index left.old s }
 {
@@ -51,7 +51,7 @@ fn note<D: Disk, R: Root, L: SharedLists>(
     s: u32,
 )
     requires { IsJoined s engine.now }
-    ensures waits { owes_ack s engine.now ≡ true → s < SESSIONS → (0 < slice_index left.new s) × (slice_index left.new s ≤ LONGEST) }
+    ensures waits { owes_ack s engine.now ≡ true → s < MOST_SESSIONS → (0 < slice_index left.new s) × (slice_index left.new s ≤ LONGEST) }
     ensures rests { owes_ack s engine.now ≡ false → left.new ≡ left.old }
 {
     if engine.owes_ack(s) {
@@ -82,7 +82,7 @@ pub(crate) fn lingers<D: Disk, R: Root, L: SharedLists>(
 fn has_company<D: Disk, R: Root, L: SharedLists>(engine: &DurableEngine<D, R, L>, s: u32) -> bool
     ensures { IsTrue result ↔ (other : ℕ) × MayCommit s other engine.now }
 {
-    for other in 0..SESSIONS {
+    for other in 0..MOST_SESSIONS {
         if may_commit(engine, s, other as u32) {
             return true;
         }
@@ -96,7 +96,7 @@ fn may_commit<D: Disk, R: Root, L: SharedLists>(
     s: u32,
     other: u32,
 ) -> bool
-    requires { other < SESSIONS }
+    requires { other < MOST_SESSIONS }
     ensures { IsTrue result ↔ MayCommit s other engine.now }
 {
     if other == s {

@@ -3,9 +3,7 @@
 ghost use Rattle.std.specs.Prelude.{◌≡◌, ◌≢◌, ℕ, ◌+◌, ◌<◌, ◌≤◌, slice_index};
 
 use std::marker::Model;
-
-/// How many sessions may join.
-pub(crate) const SESSIONS: usize = 68;
+use store_api::MOST_SESSIONS;
 
 /// How many steps a commit lingers at most, and one more, by which it is flushed.
 pub(crate) const LONGEST: u8 = 251;
@@ -18,7 +16,7 @@ const WORTH_A_WAIT: u64 = 20;
 /// thread was put aside counts for nothing.
 #[derive(Drop)]
 pub(crate) struct Patience {
-    left: [u8; 68],
+    left: [u8; MOST_SESSIONS],
     /// Whether the step under way flushes.
     flushes: bool,
     /// How many microseconds the last flush took, and the one before it.
@@ -43,7 +41,7 @@ impl Patience {
         ensures { (y : ℕ) → slice_index result y ≡ 0 }
     {
         Patience {
-            left: [0; 68],
+            left: [0; MOST_SESSIONS],
             flushes: false,
             last: 0,
             before: 0,
@@ -78,7 +76,7 @@ impl Patience {
         ensures { result ≡ slice_index self.now s }
     {
         let place = s as usize;
-        if place < SESSIONS {
+        if place < MOST_SESSIONS {
             self.left[place]
         } else {
             0
@@ -92,18 +90,18 @@ impl Patience {
         ensures others { (y : ℕ) → y ≢ s → slice_index self.new y ≡ slice_index self.old y }
     {
         let place = s as usize;
-        if place < SESSIONS {
+        if place < MOST_SESSIONS {
             self.left[place] -= 1;
         }
     }
 
     /// A commit of the session begins to wait.
     pub(crate) fn renew(&mut self, s: u32)
-        ensures own { s < SESSIONS → (0 < slice_index self.new s) × (slice_index self.new s ≤ LONGEST) }
+        ensures own { s < MOST_SESSIONS → (0 < slice_index self.new s) × (slice_index self.new s ≤ LONGEST) }
         ensures others { (y : ℕ) → y ≢ s → slice_index self.new y ≡ slice_index self.old y }
     {
         let place = s as usize;
-        if place < SESSIONS {
+        if place < MOST_SESSIONS {
             self.left[place] = self.longest();
         }
     }
@@ -112,7 +110,7 @@ impl Patience {
     pub(crate) fn end_all(&mut self)
         ensures { (y : ℕ) → slice_index self.new y ≡ 0 }
     {
-        self.left = [0; 68];
+        self.left = [0; MOST_SESSIONS];
         self.flushes = true;
     }
 }

@@ -6,6 +6,7 @@ use Rattle.inno_model.specs.contracts.event.Event as of_event
 use Rattle.inno_model.specs.{declared.event.Event.Event, declared.event.Event.TheVariants.Opened}
 use Rattle.sql_history.specs.{Settings.Setting, Counts.rows_in, Counts.most_rows}
 use Rattle.shared_lists.specs.Tasks.{Task, Idle, task_code}
+use Rattle.law_past_agreement.specs.Slots.{writer_without}
 
 -- what a search has before it: the keys of its index that it has not come past; how many entries of the history may each have
 -- dropped an older version since its last step, so that it comes to its key anew; and what is left of its visit of that key
@@ -68,11 +69,6 @@ pub record IsNow (past : List Event) (s : ℕ) (task : Task) (writer : Option �
 -- new is old with one entry more
 abbrev pub Adds : Event → ℕ → State → State → Type 0
 Adds event s old new = IsNow (event ∷ old.past) s (task_of s old) old.writer old new
-
--- the session that may write, where it is another one
-abbrev pub writer_without : Option ℕ → ℕ → Option ℕ
-writer_without None s = None
-writer_without (Some w) s = if w == s then None else Some w
 
 -- new is old with one entry more, by which a transaction ends: its session may write no longer
 abbrev pub Closes : Event → ℕ → State → State → Type 0

@@ -13,7 +13,8 @@ ghost use Rattle.law_stored_rows.specs.Storable.{IsStorable};
 ghost use Rattle.law_past_agreement.specs.Order.{created, IsOfRow, MayCome, IsOrdered};
 ghost use Rattle.shared_lists.specs.Fitting.{FitsWell, FitsThen, RemovesOne};
 ghost use Rattle.shared_lists.specs.Tasks.{Idle, Searching, is_changing, asked, steps_left, MayTakeBack};
-ghost use Rattle.shared_lists.specs.State.{Lists, task_of, places_before, counted, Adds, Closes, Turns, Stays, IsNow, writer_without};
+ghost use Rattle.shared_lists.specs.State.{Lists, task_of, places_before, counted, Adds, Closes, Turns, Stays, IsNow};
+ghost use Rattle.law_past_agreement.specs.Slots.{writer_without};
 ghost use Rattle.shared_lists.specs.Steps.{Searches, AreNewestRows, Changes, rows_entered, TakesBack};
 
 use crate::answers::{Changed, Reading, Searched, Undone};

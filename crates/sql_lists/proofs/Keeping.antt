@@ -23,7 +23,8 @@ use Rattle.shared_lists.specs.declared.answers.ChangePart.TheVariants as part
 use Rattle.shared_lists.specs.Answers.{Undone}
 use Rattle.store_api.specs.declared.stepped.Stepped.TheVariants as stepped
 use Rattle.shared_lists.specs.Tasks.{Task, Idle, asked}
-use Rattle.shared_lists.specs.State.{State, Lists, IsFirst, IsNow, Adds, Closes, Stays, task_of, writer_without}
+use Rattle.shared_lists.specs.State.{State, Lists, IsFirst, IsNow, Adds, Closes, Stays, task_of}
+use Rattle.law_past_agreement.specs.Slots.{writer_without}
 use Rattle.shared_lists.specs.Steps.{Changes, TakesBack, rows_of_change, rows_entered}
 use Rattle.sql_lists.specs.Tables.{MayMake, begun, created_by, table_made, none_made}
 use Rattle.sql_lists.specs.Kept.{IsKept, MayReply, is_of_signal, OwesAck, SetsQuietly, AreStanding, IsInOrder, made as tables_made}

@@ -12,7 +12,8 @@ use Rattle.inno_db.specs.declared.change.Change.TheVariants.{Create}
 use Rattle.shared_lists.specs.Answers.{Undone}
 use Rattle.store_api.specs.declared.stepped.Stepped.TheVariants as stepped
 use Rattle.shared_lists.specs.Tasks.{Task, Idle, asked}
-use Rattle.shared_lists.specs.State.{State, IsNow, Adds, Closes, Turns, Stays, task_of, places_before, counted, writer_without}
+use Rattle.shared_lists.specs.State.{State, IsNow, Adds, Closes, Turns, Stays, task_of, places_before, counted}
+use Rattle.law_past_agreement.specs.Slots.{writer_without}
 use Rattle.shared_lists.specs.Steps.{GoesOn, Enters, TakesBack}
 use Rattle.law_past_agreement.specs.Order.{IsNoOthers}
 use Rattle.sql_grammar.specs.Grammar.{Spells}

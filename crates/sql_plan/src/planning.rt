@@ -2,15 +2,15 @@
 
 ghost use Rattle.std.specs.Prelude.{◌≡◌, ◌≤◌, true, IfOk, length, slice_get};
 ghost use Rattle.std.specs.List.{list_all};
-ghost use Rattle.inno_db.specs.Declarations.{is_short, is_indexable};
+ghost use Rattle.inno_db.specs.Declarations.{is_indexable};
 ghost use Rattle.inno_db.specs.declared.limits.TheConstants.{MOST_KEYS};
 ghost use Rattle.sql_plan.specs.Visits.{are_indexable};
 ghost use Rattle.sql_plan.specs.Planning.{plan_for, plan_by_keys, plan_by_tuples, HoldsMatches, HoldsKeys, Covers};
 
 use crate::keys::{has_given_key, is_plain_key};
 use crate::{Plan, choose};
-use inno_db::MOST_BYTES_OF_INDEX;
-use inno_types::{Column, Filter, Kind, Names, Schema, Stmt, Tuples};
+use inno_db::is_short;
+use inno_types::{Column, Filter, Names, Schema, Stmt, Tuples};
 use std::alloc::Global;
 use store_api::NoMemory;
 
@@ -110,14 +110,5 @@ fn is_indexable(columns: &[Column], place: u8) -> bool
     match columns.get(usize::from(place)) {
         Some(column) => is_short(column.kind),
         None => false,
-    }
-}
-
-fn is_short(kind: Kind) -> bool
-    ensures { result ≡ is_short kind }
-{
-    match kind {
-        Kind::BigInt => true,
-        Kind::VarBinary(size) => size <= MOST_BYTES_OF_INDEX,
     }
 }

@@ -4,10 +4,10 @@ ghost use Rattle.std.specs.Prelude.{◌≡◌, ◌≤◌, ◌<◌, ◌++◌, ◌
 ghost use Rattle.std.specs.List.{list_all, list_any};
 ghost use Rattle.std.specs.Str.{str_eq_ignore_ascii_case};
 ghost use Rattle.inno_db.specs.Names.{column_at, column_place};
-ghost use Rattle.inno_db.specs.Declarations.{has_twins, kind_of, says_not_null, says_null, column_of, columns_of, primary_of, primaries_of, key_column_of, key_columns_of, declares_null, declared_name, key_name, key_of, keys_of, is_sized, is_short, is_indexable, key_bytes, row_bytes, are_good_columns, are_good_keys, schema_of, schema_if, schema_declared};
+ghost use Rattle.inno_db.specs.Declarations.{has_twins, kind_of, says_not_null, says_null, column_of, columns_of, primary_of, primaries_of, key_column_of, key_columns_of, declares_null, declared_name, key_name, key_of, keys_of, is_sized, is_indexable, key_bytes, row_bytes, are_good_columns, are_good_keys, schema_of, schema_if, schema_declared};
 
 use crate::{is_same_column, place_of_column};
-use inno_db::{MOST_BYTES_OF_INDEX, MOST_BYTES_OF_ROW, MOST_COLUMNS, MOST_KEYS};
+use inno_db::{MOST_BYTES_OF_ROW, MOST_COLUMNS, MOST_KEYS, is_short, is_sized};
 use inno_types::{
     Bytes, Column, Columns, DeclaredKind, Definition, Definitions, Key, Keys, Kind, Listed, Names,
     Schema,
@@ -206,29 +206,11 @@ fn declared_keys(
     Ok(Listed::from_vec(keys))
 }
 
-fn is_large_enough(kind: Kind) -> bool
-    ensures { result ≡ is_sized kind }
-{
-    match kind {
-        Kind::BigInt => true,
-        Kind::VarBinary(size) => size != 0,
-    }
-}
-
-fn is_short_enough(kind: Kind) -> bool
-    ensures { result ≡ is_short kind }
-{
-    match kind {
-        Kind::BigInt => true,
-        Kind::VarBinary(size) => size <= MOST_BYTES_OF_INDEX,
-    }
-}
-
 fn can_be_indexed(columns: &Columns, name: &Bytes) -> bool
     ensures { result ≡ is_indexable (column_at columns.now (column_place columns.now name.now)) }
 {
     match found(columns, name) {
-        Some(column) => is_short_enough(column.kind),
+        Some(column) => is_short(column.kind),
         None => false,
     }
 }
@@ -298,7 +280,7 @@ fn are_large_enough(columns: &Columns) -> bool
     columns
         .as_slice()
         .iter()
-        .all(|column| is_large_enough(column.kind))
+        .all(|column| is_sized(column.kind))
 }
 
 fn makes_null(name: &Bytes, definition: &Definition) -> bool

@@ -99,7 +99,18 @@ impl TransactionStatement {
             TransactionStatement::Unacked { committer } => {
                 TransactionStatement::Closed { committer }
             }
-            other => other,
+            other @ (TransactionStatement::Quiet { .. }
+            | TransactionStatement::Missing { .. }
+            | TransactionStatement::Committing { .. }
+            | TransactionStatement::Closed { .. }
+            | TransactionStatement::Viewing
+            | TransactionStatement::Unviewed
+            | TransactionStatement::Begun { .. }
+            | TransactionStatement::Rollback
+            | TransactionStatement::RollbackTo { .. }
+            | TransactionStatement::Opening { .. }
+            | TransactionStatement::Saving { .. }
+            | TransactionStatement::Failed) => other,
         }
     }
 

@@ -13,7 +13,7 @@ ghost use Rattle.tree_use.specs.Beginning.{IsEmptyLeaf, AreReserved, IsCountedRo
 use crate::reading::sure;
 use btree::Tree;
 use mtr::{Mtr, Resident};
-use store_api::Visit;
+use store_api::{MOST_PAGES, Visit};
 use stored_pages::{read_u16, read_u32};
 
 /// Where page 0 has the number of pages.
@@ -57,7 +57,7 @@ fn is_counted(root: u32, header: &[u8; 4096], map: &[u8; 4096]) -> bool
     ensures { MatchBool result (IsCountedRoot root header.now map.now) (IsCountedRoot root header.now map.now → ⊥) }
 {
     let count = read_u32(header, PAGE_COUNT);
-    if root < RESERVED || root >= COVERED || root >= count || count > 65_536 {
+    if root < RESERVED || root >= COVERED || root >= count || count > MOST_PAGES {
         return false;
     }
     are_reserved(map) && is_used(map, root)

@@ -11,7 +11,8 @@ use Rattle.world.specs.State.{WorldState, Session, Work, IsSession, HasWork, sta
 use Rattle.world_lists.specs.Between.{IsKept, AwaitsWriter, AwaitsOnly, AwaitsNobody, table_in, table_at}
 use Rattle.world_lists.specs.Parts.{StepsChange, LeavesIfOver}
 use Rattle.law_past_agreement.specs.{Agreement.IsIdle, Agreement.IsWorkOf, Agreement.ViewAgrees, Order.MayCome, Rows.place_in}
-use Rattle.shared_lists.specs.{State.Lists, State.task_of, State.writer_without, Tasks.Idle}
+use Rattle.shared_lists.specs.{State.Lists, State.task_of, Tasks.Idle}
+use Rattle.law_past_agreement.specs.Slots.{writer_without}
 use Rattle.desks.specs.Desks.{Store, desk_at, doing_at, started_in, with_desk, with_doing, with_start, doing_in}
 use Rattle.desks.specs.declared.desk.Doing.TheVariants.{Nothing, Changing}
 use Rattle.desks.specs.{declared.desk.Desk.Desk, Shown.lists_of, Holding.IsHeld, declared.desk.Doing.Doing}

@@ -13,7 +13,8 @@ use Rattle.world.specs.Sessions.{change_txn, with_save, view_added, begun, with_
 use Rattle.world.specs.EngineCalls.{joined as with_joined, item_started, item_ended, acknowledged, signalled, with_setting, MakesTable}
 use Rattle.world.specs.{Told.IsTold, Endings.IsCommitted, Endings.IsRolledBack}
 use Rattle.law_world_agreement.specs.Steps.{viewed, opened, session_begun, IsChangedBy}
-use Rattle.shared_lists.specs.{State.Lists, State.task_of, State.IsNow, State.Stays, State.writer_without, State.Adds, Tasks.Idle}
+use Rattle.shared_lists.specs.{State.Lists, State.task_of, State.IsNow, State.Stays, State.Adds, Tasks.Idle}
+use Rattle.law_past_agreement.specs.Slots.{writer_without}
 use Rattle.law_held_steps.proofs.Items.{joined_held, started_held, ended_held, acked_held, signal_held, unentered_held, txn_here, txn_elsewhere, viewed_held}
 use Rattle.law_held_steps.proofs.Items.{saved_held, committed_held, rolled_back_held, opened_held, created_held}
 use Rattle.law_held_steps.proofs.{Showing.tasks_same, Showing.now_of, Showing.settings_by, Showing.settings_same, Showing.settings_now, AnyStep.some_same}

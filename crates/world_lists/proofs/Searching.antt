@@ -12,7 +12,8 @@ use Rattle.store_api.specs.declared.moves.Move.{Move}
 use Rattle.entries.specs.Calls.{Leaves}
 use Rattle.row_versions.specs.Chains.{Chains}
 use Rattle.sql_plan.specs.declared.choice.Plan.{Plan}
-use Rattle.shared_lists.specs.State.{State, Lists, Places, task_of, places_before, counted, Turns, Stays, writer_without}
+use Rattle.shared_lists.specs.State.{State, Lists, Places, task_of, places_before, counted, Turns, Stays}
+use Rattle.law_past_agreement.specs.Slots.{writer_without}
 use Rattle.shared_lists.specs.{declared.answers.Reading.Reading, Answers.Searched, Steps.AreFoundBy, Steps.Searches, Steps.AreNewestRows}
 use Rattle.desks.proofs.Showing.{task_is, places_are}
 use Rattle.law_held_steps.specs.Begun.{ComesAnew, IsTakenUp, MayStep, IsSearchOf, plan_of}

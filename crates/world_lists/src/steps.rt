@@ -324,7 +324,7 @@ impl<W: EngineWorld> WorldLists<W> {
 ghost use Rattle.std.specs.Prelude.{◌≡◌, ◌≢◌, ◌-◌, ◌<◌, ◌^◌, false, IfOk, Some};
 ghost use Rattle.txn_table.specs.Txns.{is_there, id_at, ids_of};
 ghost use Rattle.world.specs.Sessions.{identified};
-ghost use Rattle.shared_lists.specs.State.{writer_without};
+ghost use Rattle.law_past_agreement.specs.Slots.{writer_without};
 ghost use Rattle.law_held_steps.specs.Begun.{plan_read};
 
 /// The ids that were given and not ended.

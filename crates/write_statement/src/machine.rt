@@ -90,7 +90,12 @@ impl WriteStatement {
     {
         match self {
             WriteStatement::Leaving(leaving) => leaving.owes_ack(),
-            _ => false,
+            WriteStatement::Fresh { .. }
+            | WriteStatement::Locking { .. }
+            | WriteStatement::Searching(_)
+            | WriteStatement::Changing { .. }
+            | WriteStatement::Making { .. }
+            | WriteStatement::Finishing { .. } => false,
         }
     }
 
@@ -100,7 +105,12 @@ impl WriteStatement {
     {
         match self {
             WriteStatement::Leaving(leaving) => WriteStatement::Leaving(leaving.acked()),
-            other => other,
+            other @ (WriteStatement::Fresh { .. }
+            | WriteStatement::Locking { .. }
+            | WriteStatement::Searching(_)
+            | WriteStatement::Changing { .. }
+            | WriteStatement::Making { .. }
+            | WriteStatement::Finishing { .. }) => other,
         }
     }
 

@@ -62,7 +62,17 @@ fn cut(alloc: Global, stmt: Stmt, table: u8, alone: bool, before: usize) -> Resu
             later.reverse();
             cut_off(alloc, name, columns, later, table, alone, before)
         }
-        stmt => Ok(Part {
+        stmt @ (Stmt::CreateTable { .. }
+        | Stmt::Select { .. }
+        | Stmt::Update { .. }
+        | Stmt::Delete { .. }
+        | Stmt::Begin { .. }
+        | Stmt::Commit
+        | Stmt::Rollback
+        | Stmt::RollbackTo { .. }
+        | Stmt::Savepoint { .. }
+        | Stmt::SetAutocommit(_)
+        | Stmt::SetLevel { .. }) => Ok(Part {
             stmt: Boxed::new(alloc, stmt)?,
             later: Vec::new(alloc),
             table,
@@ -149,7 +159,17 @@ fn with_tuple(stmt: Stmt, tuple: Literals) -> Result<Stmt, NoMemory>
             tuples.clear();
             of_tuple(table, columns, tuples, tuple)
         }
-        other => {
+        other @ (Stmt::CreateTable { .. }
+        | Stmt::Select { .. }
+        | Stmt::Update { .. }
+        | Stmt::Delete { .. }
+        | Stmt::Begin { .. }
+        | Stmt::Commit
+        | Stmt::Rollback
+        | Stmt::RollbackTo { .. }
+        | Stmt::Savepoint { .. }
+        | Stmt::SetAutocommit(_)
+        | Stmt::SetLevel { .. }) => {
             drop(tuple);
             Ok(other)
         }

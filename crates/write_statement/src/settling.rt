@@ -41,7 +41,13 @@ pub fn settle(
             todo.reverse();
             Ok(Settled::Todo(todo))
         }
-        refused => {
+        refused @ (Reply::Fail(_)
+        | Reply::Done
+        | Reply::Rows(_)
+        | Reply::RunLimit { .. }
+        | Reply::NotSignalled { .. }
+        | Reply::Stopped
+        | Reply::NoMemory) => {
             drop(changes);
             let given = copied(&refused)?;
             Ok(Settled::Refused {
