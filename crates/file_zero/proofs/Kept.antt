@@ -14,7 +14,8 @@ use Rattle.law_crashes.specs.Since.{KeepsSince, HasHeader, LogRests, IsBegun, Is
 use Rattle.law_crashes.proofs.AtRest.{left_at_rest}
 use Rattle.law_crashes.proofs.Keeps.{files_before, leaves_opened}
 use Rattle.law_crashes.proofs.Mount.{keeps_scanned}
-use Rattle.file_zero.specs.Looks.{HoldsSame, HoldsAs, Looks, LeavesState, LeavesPages}
+use Rattle.file_zero.specs.Looks.{LeavesPages}
+use Rattle.store_api.specs.Looks.{HoldsSame, HoldsAs, Looks, LeavesState}
 use Rattle.file_zero.specs.Reading.{SaysHeader, IsOfRun, IsFound}
 
 -- what a disk holds by its own law

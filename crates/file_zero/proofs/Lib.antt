@@ -1,7 +1,6 @@
 pub mod Applied
 mod FirstPage
 mod Kept
-mod Looking
 mod NewFiles
 mod Places
 mod Refusals

@@ -22,9 +22,9 @@ use Rattle.law_crashes.specs.Files.{IsAtRest, StandsFor}
 use Rattle.law_crashes.proofs.AtRest.{left_at_rest}
 use Rattle.store_api.specs.declared.answers.MountBad.{MountBad}
 use Rattle.store_api.specs.declared.answers.MountBad.TheVariants.{Disk, NotEmpty}
-use Rattle.file_zero.specs.Looks.{HoldsSame, Looks}
+use Rattle.store_api.specs.Looks.{HoldsSame, Looks}
 use Rattle.file_zero.specs.Making.{IsEmptyArea, AreEmpty, AreNew, AreBeingMade, HasBytes, IsNotMade, IsPageAlone}
-use Rattle.file_zero.proofs.Looking.{looks_join}
+use Rattle.store_api.proofs.Looks.{looks_join}
 
 -- ---- pages that are good or not
 

@@ -12,10 +12,10 @@ use Rattle.stored_pages.specs.Reading.{IsPageIn}
 use Rattle.law_crashes.specs.Header.{IsHeader}
 use Rattle.law_crashes.specs.Records.{no_db, changes_in}
 use Rattle.law_crashes.specs.RowScan.{HasRowsOnly}
-use Rattle.file_zero.specs.Looks.{Looks, LeavesState}
+use Rattle.store_api.specs.Looks.{Looks, LeavesState}
 use Rattle.file_zero.specs.Reading.{IsRead, SaysHeader, HasGroups, IsFound}
 use Rattle.file_zero.specs.Refused.{IsRefused, IsTooMany, IsOther, IsMissing, IsFirstPage, HasNoFirstPage, IsFailure, IsLeft}
-use Rattle.file_zero.proofs.Looking.{Now-stays}
+use Rattle.store_api.proofs.Looks.{Now-stays}
 
 pub refused_later : (old mid new : Past) (why : MountBad) → old.faults ≤ mid.faults → IsRefused mid new why → IsRefused old new why
 refused_later old mid new Disk le rose = omega (arith, le, rose)

@@ -10,7 +10,7 @@ use Rattle.stored_pages.specs.Reading.{IsGoodPage, IsPageIn}
 use Rattle.law_crashes.specs.Header.{IsHeader}
 use Rattle.law_crashes.specs.Records.{no_db}
 use Rattle.law_crashes.specs.Files.{IsAtRest, StandsFor}
-use Rattle.file_zero.specs.Looks.{Looks}
+use Rattle.store_api.specs.Looks.{Looks}
 
 abbrev pub IsEmptyArea : Contents → Type 0
 IsEmptyArea c = (c.synced ≡ []) × (c.writes ≡ [])

@@ -16,7 +16,7 @@ use Rattle.stored_pages.specs.Reading.{IsPageIn, place_of}
 use Rattle.law_crashes.specs.Header.{HasMagic, version_of}
 use Rattle.law_crashes.specs.RowScan.{IsRowScan}
 use Rattle.law_crashes.specs.Records.{no_db, changes_in}
-use Rattle.file_zero.specs.Looks.{Looks}
+use Rattle.store_api.specs.Looks.{Looks}
 use Rattle.file_zero.specs.Reading.{SaysHeader}
 
 -- page 0 can be read, and is this

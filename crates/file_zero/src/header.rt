@@ -4,7 +4,7 @@
 ghost use Rattle.std.specs.Prelude.{◌≡◌, ◌≤◌, ℕ, List, length, IfOk, IfErr, OnOk, MatchBool};
 ghost use Rattle.store_api.specs.Past.{Now};
 ghost use Rattle.stored_pages.specs.Reading.{IsGoodPage, place_of};
-ghost use Rattle.file_zero.specs.Looks.{Looks, LeavesState};
+ghost use Rattle.store_api.specs.Looks.{Looks, LeavesState};
 ghost use Rattle.file_zero.specs.Reading.{IsRead, SaysHeader};
 ghost use Rattle.file_zero.specs.Refused.{IsRefused, IsMissing};
 

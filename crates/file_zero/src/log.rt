@@ -4,7 +4,7 @@
 ghost use Rattle.std.specs.Prelude.{◌≡◌, ◌≤◌, ◌^◌, ◌↔◌, length, replicate, IsTrue, All, IfOk, IfErr, OnOk};
 ghost use Rattle.store_api.specs.Past.{Now};
 ghost use Rattle.law_crashes.specs.RowScan.{is_of_rows, HasRowsOnly};
-ghost use Rattle.file_zero.specs.Looks.{Looks, LeavesState};
+ghost use Rattle.store_api.specs.Looks.{Looks, LeavesState};
 ghost use Rattle.file_zero.specs.Reading.{HasGroups};
 ghost use Rattle.file_zero.specs.Refused.{IsRefused};
 

@@ -6,7 +6,7 @@ ghost use Rattle.store_api.specs.Past.{Now, Meanwhile};
 ghost use Rattle.stored_pages.specs.Reading.{IsGoodPage};
 ghost use Rattle.law_crashes.specs.Header.{IsHeader};
 ghost use Rattle.law_crashes.specs.Files.{IsAtRest};
-ghost use Rattle.file_zero.specs.Looks.{Looks, LeavesState};
+ghost use Rattle.store_api.specs.Looks.{Looks, LeavesState};
 ghost use Rattle.file_zero.specs.Making.{AreEmpty, AreNew, AreBeingMade, HasBytes, IsNotMade, IsPageAlone};
 
 use crate::fields::PAGE;

@@ -10,7 +10,8 @@ ghost use Rattle.law_crashes.specs.Files.{LeavesFiles};
 ghost use Rattle.law_crashes.specs.Records.{no_db, changes_in};
 ghost use Rattle.law_crashes.specs.Since.{LogRests, IsBegun, IsScanned, StillScans, IsMounted};
 ghost use Rattle.log_format.specs.declared.group.Group.{Group as GroupValue};
-ghost use Rattle.file_zero.specs.Looks.{Looks, LeavesState, LeavesPages};
+ghost use Rattle.file_zero.specs.Looks.{LeavesPages};
+ghost use Rattle.store_api.specs.Looks.{Looks, LeavesState};
 ghost use Rattle.file_zero.specs.Reading.{IsFound, IsOfRun};
 ghost use Rattle.file_zero.specs.Refused.{IsRefused, IsTooMany, HasFewRows, IsFailure, IsLeft};
 

@@ -7,7 +7,8 @@ use Rattle.log_format.specs.declared.group.Group.{Group}
 use Rattle.doublewrite.specs.Repairing.{WasRead, ReadsAs, IsRepaired}
 use Rattle.page_recovery.specs.declared.bad.RecoverBad.{RecoverBad}
 use Rattle.page_recovery.specs.declared.recovering.Recovered.{Recovered}
-use Rattle.page_recovery.specs.Looking.{Looks, LeavesState, Since}
+use Rattle.page_recovery.specs.Looking.{Since}
+use Rattle.store_api.specs.Looks.{Looks, LeavesState}
 use Rattle.page_recovery.specs.Reading.{StandsIn}
 use Rattle.page_recovery.specs.Leaving.{Is, IsStill, StillReads, LeavesRun, LeavesSame}
 use Rattle.page_recovery.specs.Recovering.{IsRecovered, IsCause}

@@ -18,12 +18,12 @@ use Rattle.log_format.specs.Scan.{stream_of, IsScan}
 use Rattle.log_format.specs.Given.{ReaderView, HasGiven, Reads, FailedRose}
 use Rattle.log_format.proofs.Behind.{payloads-front}
 use Rattle.law_logged_pages.specs.Applied.{names, with_group}
-use Rattle.page_recovery.specs.Looking.{Looks, LeavesState}
+use Rattle.store_api.specs.Looks.{Looks, LeavesState}
 use Rattle.page_recovery.specs.Pages.{BecomeBy}
 use Rattle.page_recovery.specs.Applying.{IsWithin, AreWithin, ArePast, AreBroughtOn}
 use Rattle.page_recovery.specs.Reading.{IsFollowed, EndsBefore}
 use Rattle.page_recovery.specs.Refused.{of_reading, IsFailed}
-use Rattle.page_recovery.proofs.Looking.{looks_goes, stays_goes}
+use Rattle.store_api.proofs.Looks.{looks_goes, stays_goes}
 use Rattle.page_recovery.proofs.Becoming.{groups_next}
 
 abbrev Slots : Type 0

@@ -14,7 +14,7 @@ use Rattle.law_logged_pages.specs.Stages.{IsStage}
 use Rattle.law_logged_pages.specs.Keeping.{durable}
 use Rattle.stored_pages.specs.Reading.{IsCopyIn, IsPageIn}
 use Rattle.doublewrite.specs.Repairing.{IsQuietAs, WasRead, ReadsAs, IsRepaired}
-use Rattle.page_recovery.specs.Looking.{HoldsSame, HoldsAs, Looks}
+use Rattle.store_api.specs.Looks.{HoldsSame, HoldsAs, Looks}
 use Rattle.page_recovery.specs.Reading.{StandsIn}
 use Rattle.page_recovery.specs.Leaving.{Is, IsStill, StillReads, LeavesRun, LeavesSame}
 

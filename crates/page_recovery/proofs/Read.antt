@@ -8,7 +8,8 @@ use Rattle.store_api.specs.Past.{Past, Ticks, Now}
 use Rattle.stored_pages.specs.Reading.{IsGoodPage, place_of}
 use Rattle.page_recovery.specs.declared.bad.RecoverBad.{RecoverBad}
 use Rattle.page_recovery.specs.declared.bad.RecoverBad.TheVariants.{Failed, NoMemory, NoHeader, NoDatabase, Version, Capacity, PastTheEnd}
-use Rattle.page_recovery.specs.Looking.{Looks, LeavesState, Since}
+use Rattle.page_recovery.specs.Looking.{Since}
+use Rattle.store_api.specs.Looks.{Looks, LeavesState}
 use Rattle.page_recovery.specs.Reading.{StandsIn, AreStanding, IsTaken, IsFollowed, EndsBefore}
 use Rattle.log_format.specs.declared.group.Group.{Group}
 use Rattle.log_format.specs.Scan.{IsScan, EndsAt}

@@ -8,7 +8,7 @@ use Rattle.doublewrite.specs.Repairing.{IsQuiet, WasRead}
 use Rattle.law_logged_pages.specs.Stages.{IsStage}
 use Rattle.law_logged_pages.specs.Heads.{SpareHead}
 use Rattle.law_logged_pages.specs.Keeping.{IsRun, durable}
-use Rattle.page_recovery.specs.Looking.{HoldsSame}
+use Rattle.store_api.specs.Looks.{HoldsSame}
 use Rattle.page_recovery.specs.Reading.{IsFileHeader}
 
 -- Nothing is pending in any area, and a read of pages gives none by chance.

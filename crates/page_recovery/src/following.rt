@@ -6,7 +6,7 @@ ghost use Rattle.store_api.specs.Causes.{HasCause};
 ghost use Rattle.store_api.specs.Past.{Now};
 ghost use Rattle.log_format.specs.declared.group.Group.{Group as GroupValue};
 ghost use Rattle.log_format.specs.Given.{HasGiven};
-ghost use Rattle.page_recovery.specs.Looking.{Looks, LeavesState};
+ghost use Rattle.store_api.specs.Looks.{Looks, LeavesState};
 ghost use Rattle.page_recovery.specs.Reading.{IsFollowed, EndsBefore};
 ghost use Rattle.page_recovery.specs.Refused.{IsFailed};
 

@@ -5,7 +5,8 @@ ghost use Rattle.std.specs.Prelude.{◌≡◌, ◌≤◌, ◌<◌, ℕ, List, le
 ghost use Rattle.store_api.specs.Causes.{HasCause};
 ghost use Rattle.store_api.specs.Past.{Now};
 ghost use Rattle.stored_pages.specs.Reading.{place_of};
-ghost use Rattle.page_recovery.specs.Looking.{Looks, LeavesState, Since};
+ghost use Rattle.page_recovery.specs.Looking.{Since};
+ghost use Rattle.store_api.specs.Looks.{Looks, LeavesState};
 ghost use Rattle.page_recovery.specs.Reading.{StandsIn, AreStanding, IsTaken};
 ghost use Rattle.page_recovery.specs.Recovering.{SaysHeader, IsCause, IsFault};
 ghost use Rattle.page_recovery.specs.Refused.{IsFailed};

@@ -1,3 +1,4 @@
 pub mod Areas
 pub mod Causes
+pub mod Looks
 pub mod Past

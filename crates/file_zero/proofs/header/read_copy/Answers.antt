@@ -3,10 +3,10 @@ use Rattle.std.specs.Prelude.{is_ok}
 use Rattle.std.proofs.lemmas.Result.{IfOk-weaker, IfErr-weaker}
 use Rattle.store_api.specs.declared.disk.Area.TheVariants.{Double}
 use Rattle.store_api.specs.Past.{Now}
-use Rattle.file_zero.specs.Looks.{LeavesState}
+use Rattle.store_api.specs.Looks.{LeavesState}
 use Rattle.file_zero.specs.Reading.{IsRead}
 use Rattle.file_zero.specs.Refused.{IsFirstPage, HasNoFirstPage}
-use Rattle.file_zero.proofs.Looking.{looks_once, stays_goes, Now-stays}
+use Rattle.store_api.proofs.Looks.{looks_once, stays_goes, Now-stays}
 use Rattle.file_zero.proofs.Places.{read_into, page_of_copy, no_first_page}
 use Rattle.file_zero.proofs.Refusals.{says_header, other_refused, missing_refused}
 use Rattle.file_zero.proofs.Results.{on_ok}

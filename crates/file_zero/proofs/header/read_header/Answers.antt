@@ -2,9 +2,9 @@ use Rattle.std.specs.Prelude.{is_ok}
 use Rattle.std.proofs.lemmas.Result.{IfOk-weaker, IfErr-weaker, on_ok_weaker}
 use Rattle.store_api.specs.declared.disk.Area.TheVariants.{Pages}
 use Rattle.store_api.specs.Past.{Now}
-use Rattle.file_zero.specs.Looks.{LeavesState}
+use Rattle.store_api.specs.Looks.{LeavesState}
 use Rattle.file_zero.specs.Refused.{IsFirstPage}
-use Rattle.file_zero.proofs.Looking.{looks_once, looks_join, stays_goes, stays_join}
+use Rattle.store_api.proofs.Looks.{looks_once, looks_join, stays_goes, stays_join}
 use Rattle.file_zero.proofs.Places.{page_in_place, bad_in_place}
 use Rattle.file_zero.proofs.Refusals.{says_header, other_refused}
 use Rattle.file_zero.proofs.Results.{on_ok}

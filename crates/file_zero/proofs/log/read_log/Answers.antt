@@ -3,7 +3,7 @@ use Rattle.std.specs.Prelude.{is_ok}
 use Rattle.std.proofs.lemmas.List.{take_all}
 use Rattle.store_api.specs.declared.disk.Area.TheVariants.{Log}
 use Rattle.file_zero.specs.Reading.{HasGroups}
-use Rattle.file_zero.proofs.Looking.{looks_once, looks_twice, stays_goes, stays_join}
+use Rattle.store_api.proofs.Looks.{looks_once, looks_twice, stays_goes, stays_join}
 use Rattle.file_zero.proofs.Places.{read_into}
 use Rattle.file_zero.proofs.log.read_log.Goals as goal
 

@@ -1,7 +1,7 @@
 use Rattle.std.proofs.Common.{arith}
 use Rattle.std.specs.Prelude.{is_ok}
 use Rattle.store_api.specs.declared.disk.Area.TheVariants.{Log, Double, Pages}
-use Rattle.file_zero.proofs.Looking.{looks_none, looks_goes, stays_goes, stays_join}
+use Rattle.store_api.proofs.Looks.{looks_none, looks_goes, stays_goes, stays_join}
 use Rattle.file_zero.proofs.making.bytes_in.Goals as goal
 
 pub returns-in_default-clause-looks : goal.returns-in_default-clause-looks

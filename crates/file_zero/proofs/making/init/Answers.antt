@@ -2,7 +2,7 @@ use Rattle.std.proofs.lemmas.Result.{on_ok_weaker, IfErr-weaker}
 use Rattle.store_api.proofs.Moments.{Meanwhile-join}
 use Rattle.law_crashes.specs.Files.{IsAtRest}
 use Rattle.file_zero.specs.Making.{AreEmpty, AreBeingMade}
-use Rattle.file_zero.proofs.Looking.{Now-stays}
+use Rattle.store_api.proofs.Looks.{Now-stays}
 use Rattle.file_zero.proofs.NewFiles.{looks_made, now_empty, no_bytes, not_made_later}
 use Rattle.file_zero.proofs.making.init.Goals as goal
 

@@ -4,7 +4,7 @@ use Rattle.log_format.specs.declared.group.Group.{Group}
 use Rattle.law_crashes.specs.Records.{no_db, changes_in}
 use Rattle.file_zero.specs.Reading.{IsFound}
 use Rattle.file_zero.specs.Refused.{IsTooMany}
-use Rattle.file_zero.proofs.Looking.{stays_join}
+use Rattle.store_api.proofs.Looks.{stays_join}
 use Rattle.file_zero.proofs.Refusals.{many_refused, is_found}
 use Rattle.file_zero.proofs.mounting.read_files.Goals as goal
 

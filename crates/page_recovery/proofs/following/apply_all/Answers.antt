@@ -1,7 +1,7 @@
 use Rattle.std.proofs.Common.{◌+◌, ◌≤◌, arith, ◌∙◌, subst, refl}
 use Rattle.std.specs.Prelude.{is_ok}
 use Rattle.log_format.specs.Given.{Gives}
-use Rattle.page_recovery.proofs.Looking.{looks_none, stays_join}
+use Rattle.store_api.proofs.Looks.{looks_none, stays_join}
 use Rattle.page_recovery.proofs.Followed.{SoFar, looks_reads, stays_reads, none_so_far, one_more, a_piece, all_followed}
 use Rattle.page_recovery.proofs.following.apply_all.Goals as goal
 use Rattle.page_recovery.proofs.following.apply_all.Goals.{in-Group+in_ok-past-in-Group, in-More}

@@ -1,5 +1,5 @@
 use Rattle.std.proofs.Common.{◌≡◌, ◌≤◌}
-use Rattle.page_recovery.specs.Looking.{Looks, LeavesState}
+use Rattle.store_api.specs.Looks.{Looks, LeavesState}
 use Rattle.page_recovery.proofs.Followed.{SoFar}
 use Rattle.page_recovery.proofs.following.apply_all.Given as goal
 

@@ -1,6 +1,6 @@
 use Rattle.std.proofs.Common.{ℕ, arith, sym, subst}
 use Rattle.std.specs.Prelude.{is_ok}
-use Rattle.page_recovery.proofs.Looking.{looks_none, stays_join}
+use Rattle.store_api.proofs.Looks.{looks_none, stays_join}
 use Rattle.page_recovery.proofs.Followed.{looks_reads, stays_reads, WalksBack, back_from_the_end, behind_here, behind_nowhere, one_back, behind_within}
 use Rattle.page_recovery.proofs.following.block_behind.Goals as goal
 

@@ -2,7 +2,7 @@ use Rattle.std.proofs.Common.{◌≤◌, ℕ, List}
 use Rattle.store_api.specs.Past.{Now}
 use Rattle.log_format.specs.declared.group.Group.{Group}
 use Rattle.log_format.specs.Given.{HasGiven}
-use Rattle.page_recovery.specs.Looking.{Looks, LeavesState}
+use Rattle.store_api.specs.Looks.{Looks, LeavesState}
 use Rattle.page_recovery.proofs.Followed.{WalksBack}
 use Rattle.page_recovery.proofs.following.block_behind.Given as goal
 

@@ -1,7 +1,7 @@
 use Rattle.std.proofs.Common.{arith, ◌∙◌, ◌≡◌, subst, ℕ}
 use Rattle.std.proofs.lemmas.Result.{err_from_is_err_and}
 use Rattle.page_recovery.specs.Reading.{AreStanding}
-use Rattle.page_recovery.proofs.Looking.{looks_none, looks_join, stays_join}
+use Rattle.store_api.proofs.Looks.{looks_none, looks_join, stays_join}
 use Rattle.page_recovery.proofs.Read.{standing_next, standing_all, failed_from}
 use Rattle.page_recovery.proofs.reading.read_pages.Goals as goal
 

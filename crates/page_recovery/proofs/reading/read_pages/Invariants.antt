@@ -1,6 +1,6 @@
 use Rattle.std.proofs.Common.{◌≡◌, ◌≤◌, length}
 use Rattle.store_api.specs.Past.{Now}
-use Rattle.page_recovery.specs.Looking.{Looks, LeavesState}
+use Rattle.store_api.specs.Looks.{Looks, LeavesState}
 use Rattle.page_recovery.specs.Reading.{AreStanding}
 use Rattle.page_recovery.proofs.reading.read_pages.Given as goal
 

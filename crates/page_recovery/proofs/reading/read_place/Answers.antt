@@ -1,7 +1,7 @@
 use Rattle.std.proofs.Common.{◌≡◌, ◌*◌, length, take, drop, ◌∙◌, rules}
 use Rattle.std.specs.Prelude.{is_ok}
 use Rattle.store_api.specs.declared.disk.Area.TheVariants.{Pages}
-use Rattle.page_recovery.proofs.Looking.{looks_once, stays_goes}
+use Rattle.store_api.proofs.Looks.{looks_once, stays_goes}
 use Rattle.page_recovery.proofs.reading.read_place.Goals as goal
 
 pub returns-in_err-len-clause-looks : goal.returns-in_err-len-clause-looks

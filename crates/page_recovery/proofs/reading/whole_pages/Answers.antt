@@ -1,7 +1,7 @@
 use Rattle.std.proofs.Common.{◌/◌, arith}
 use Rattle.std.specs.Prelude.{is_ok}
 use Rattle.store_api.specs.declared.disk.Area.TheVariants.{Pages}
-use Rattle.page_recovery.proofs.Looking.{looks_once, stays_goes}
+use Rattle.store_api.proofs.Looks.{looks_once, stays_goes}
 use Rattle.page_recovery.proofs.Places.{past_end}
 use Rattle.page_recovery.proofs.reading.whole_pages.Goals as goal
 

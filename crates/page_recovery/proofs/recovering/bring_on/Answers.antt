@@ -3,7 +3,8 @@ use Rattle.std.proofs.lemmas.Result.{err_from_is_err_and}
 use Rattle.page_recovery.specs.declared.bad.RecoverBad.TheVariants.{Failed}
 use Rattle.page_recovery.specs.Reading.{IsFollowed}
 use Rattle.page_recovery.specs.Recovering.{IsRead}
-use Rattle.page_recovery.proofs.Looking.{looks_none, looks_join, Since-looks}
+use Rattle.page_recovery.proofs.Looking.{Since-looks}
+use Rattle.store_api.proofs.Looks.{looks_none, looks_join}
 use Rattle.page_recovery.proofs.Read.{Cause, past_the_end, brought}
 use Rattle.page_recovery.proofs.recovering.bring_on.Goals as goal
 

@@ -1,7 +1,7 @@
 use Rattle.std.proofs.lemmas.Result.{err_from_is_err_and, IfErr-weaker, on_ok_weaker}
 use Rattle.page_recovery.specs.Reading.{StandsIn}
 use Rattle.page_recovery.specs.Recovering.{IsRead, IsRecovered}
-use Rattle.page_recovery.proofs.Looking.{looks_join, stays_join}
+use Rattle.store_api.proofs.Looks.{looks_join, stays_join}
 use Rattle.page_recovery.proofs.Read.{Cause, no_cause, ok_since_read, since_known}
 use Rattle.page_recovery.proofs.recovering.read_on.Goals as goal
 

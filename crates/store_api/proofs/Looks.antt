@@ -6,7 +6,7 @@ use Rattle.store_api.specs.declared.disk.Area.TheVariants.{Log, Double, Pages}
 use Rattle.store_api.specs.Areas.{Contents, State, Looked, Within}
 use Rattle.store_api.specs.Causes.{next_count}
 use Rattle.store_api.specs.Past.{Past, Ticks, Now, Goes}
-use Rattle.file_zero.specs.Looks.{HoldsSame, HoldsAs, Looks, LeavesState}
+use Rattle.store_api.specs.Looks.{HoldsSame, HoldsAs, Looks, LeavesState}
 
 ticked : (before now : ℕ) → now ≡ next_count before → Ticks now → Ticks before × (now ≡ before + 1)
 ticked before now is ticks = (omega arith, omega arith)
