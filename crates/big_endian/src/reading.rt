@@ -1,4 +1,5 @@
 //! Numbers at places of bytes.
+//! Who calls makes sure that the bytes are there; nothing here fails or takes memory.
 
 ghost use Rattle.std.specs.Prelude.{◌≡◌, ◌+◌, ◌≤◌, length, take, drop};
 ghost use Rattle.std.specs.Int.{w16, w32, w64, from_be_bytes, to_be_bytes};

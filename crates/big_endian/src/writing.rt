@@ -1,4 +1,5 @@
 //! The bytes of numbers, alone or put behind other bytes.
+//! Only the `put_` calls take memory: the codecs and `log_format` append by them, pages take the arrays.
 
 ghost use Rattle.std.specs.Prelude.{◌≡◌, ◌+◌, ◌<◌, ◌≤◌, ◌++◌, vec_len, vec_capacity, OnOk, OnErr};
 ghost use Rattle.std.specs.Int.{w16, w32, w64, to_be_bytes};

@@ -1,4 +1,5 @@
 //! Where a leaf has a key, and whether it has room for one record more. The page is read where it stands.
+//! `leaf_changes` looks for keys here; `btree_split` and `btree_grow` ask whether a page has room.
 
 ghost use Rattle.std.specs.Prelude.{◌≡◌, ◌+◌, ◌*◌, ◌≤◌, length, take, map, MatchBool, OnOk, IfOk, IfErr};
 ghost use Rattle.store_api.specs.declared.visits.Visit.TheVariants.{Bad};

@@ -1,4 +1,5 @@
-//! Pages that a mini-transaction asks for while it goes on: one that is copied, and a free one that is taken and made zeros.
+//! Pages that a mini-transaction asks for while it goes on: one that is copied, and a free one that is taken and made
+//! zeros. Only splits and raises ask here.
 
 ghost use Rattle.std.specs.Prelude.{◌≡◌, ◌+◌, ◌≤◌, length, IsTrue, IfOk, IfErr};
 ghost use Rattle.mtr.specs.Seen.{visit, is_in, claim, IsShown};

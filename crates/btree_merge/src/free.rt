@@ -1,4 +1,5 @@
 //! A page that is given back: it is made zeros, and the map marks it as free.
+//! `merge_in` alone calls it, once the page's records stand in the leaf to its left.
 
 ghost use Rattle.std.specs.Prelude.{◌≡◌, ◌+◌, ◌<◌, ◌≤◌, length, IsTrue, IfErr, OnOk};
 ghost use Rattle.mtr.specs.Seen.{IsWithin};

@@ -1,4 +1,5 @@
 //! Two leaves in one page, laid out from their bytes. Nothing here asks for a page.
+//! `merge_in` puts what `joined` lays out; `look` and `tidying` ask the two questions.
 
 ghost use Rattle.std.specs.Prelude.{◌≡◌, ◌+◌, ◌*◌, ◌<◌, ◌≤◌, length, MatchBool};
 ghost use Rattle.page_format.specs.Shape.{HasTreeFields};

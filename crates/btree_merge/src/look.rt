@@ -1,4 +1,5 @@
 //! Two leaves side by side under one parent, read before they are merged.
+//! `merge_in` alone looks, before it writes; no page is changed here.
 
 ghost use Rattle.std.specs.Prelude.{◌≡◌, ◌≢◌, ◌+◌, ◌≤◌, suc, length, IsTrue, IfOk, IfErr, IfSome, MatchOption};
 ghost use Rattle.store_api.specs.declared.visits.Visit.TheVariants.{Bad};

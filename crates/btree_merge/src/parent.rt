@@ -1,4 +1,5 @@
 //! The page above the leaf of a key, by the descent that ends at that leaf. Each page that was read is given up.
+//! `tidy` alone asks, before it merges.
 
 ghost use Rattle.std.specs.Prelude.{◌≡◌, IsTrue, IfOk, IfErr};
 ghost use Rattle.mtr.specs.Calls.{GivesUp};

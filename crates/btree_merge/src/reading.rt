@@ -1,4 +1,5 @@
 //! A page that a mini-transaction asks for while it goes on, copied, so that others can be asked for.
+//! Only `look` and `tidying` ask here, and no page is changed by it.
 
 ghost use Rattle.std.specs.Prelude.{◌≡◌, ◌≤◌, [], ◌∷◌, length, IsTrue, IfOk, IfErr, OnOk};
 ghost use Rattle.mtr.specs.Seen.{visit, is_in, IsShown};

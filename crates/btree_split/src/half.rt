@@ -1,4 +1,5 @@
 //! The two halves of a page that is split, each laid out from the page's bytes. Nothing here asks for a page.
+//! `btree_grow` alone calls these, and puts the halves.
 
 ghost use Rattle.std.specs.Prelude.{◌≡◌, ◌+◌, ◌*◌, ◌≤◌, length};
 ghost use Rattle.page_format.specs.Changes.{IsLowerHalf, IsUpperHalf};

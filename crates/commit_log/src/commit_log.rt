@@ -1,4 +1,5 @@
 //! The log of an engine's commits.
+//! A mount (`engine`) makes one, and `durable_engine` alone calls it from then on. Only its flushes meet the disk.
 
 ghost use Rattle.std.specs.Prelude.{◌≡◌, ◌+◌, ◌<◌, ◌≤◌, ℕ, List, [], ◌∷◌, length, nat_le, slice_set, true, false, IfOk, OnOk, OnErr};
 ghost use Rattle.inno_db.specs.Database.{Database};

@@ -1,4 +1,5 @@
 //! Appending where there is room. Only drafts ask here.
+//! Room for the group was promised before, so nothing fails.
 
 ghost use Rattle.std.specs.Prelude.{◌≡◌, ◌+◌, ◌≤◌, List};
 ghost use Rattle.log_format.specs.declared.group.Record.{Record as RecordValue};

@@ -1,4 +1,5 @@
 //! Laws: which changes have a record, and that the record tells its change.
+//! Nothing calls them; their contracts speak of the records of `law_crashes`, not of drafts.
 
 ghost use Rattle.std.specs.Prelude.{◌≡◌, [], ◌∷◌};
 ghost use Rattle.inno_db.specs.declared.change.Change.{Change};

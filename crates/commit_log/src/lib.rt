@@ -1,7 +1,6 @@
-//! What an engine keeps of its log beside the lists of its sessions: the log, the drafts of open transactions (changes as
-//! records of the log, with room promised to them), and how far the log has to be flushed before each session's last commit
-//! may be acknowledged. It takes over each entry that a session adds to the history, and keeps what a crash leaves of the
-//! files (`law_crashes`) in step with it. Engines have one; mounts read its records.
+//! What an engine keeps of its log: the log, each session's draft (its open transaction's changes as records, with room
+//! promised to them), and the LSN up to which its last commit needs the log flushed. It takes over each entry of a
+//! session, so that what a crash leaves (`law_crashes`) keeps in step. Only `durable_engine` enters and flushes.
 #![tactic(auto)]
 
 mod commit_log;

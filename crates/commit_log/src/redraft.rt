@@ -1,4 +1,5 @@
 //! What an entry of a session makes of its draft.
+//! `CommitLog::enter` alone calls it, for each entry but commits; no entry goes to the log here.
 
 ghost use Rattle.std.specs.Prelude.{◌≡◌, ◌≢◌, ◌<◌, ◌≤◌, ◌∷◌, ℕ, List, length, true, false};
 ghost use Rattle.inno_model.specs.declared.event.Event.{Event as EventValue};

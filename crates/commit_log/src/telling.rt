@@ -1,4 +1,5 @@
-//! The change that a record of the log tells. A mount asks here; nothing is copied.
+//! The change that a record of the log tells; nothing is copied.
+//! No crate calls it yet.
 
 ghost use Rattle.std.specs.Prelude.{◌≡◌, [], ◌∷◌, IfSome, IfNone};
 ghost use Rattle.law_crashes.specs.Records.{change_of};

@@ -1,4 +1,5 @@
 //! How a CREATE TABLE ends: done, or for want of memory.
+//! Only the machine's steps come here; the reply goes to the history by the lists.
 
 ghost use Rattle.std.specs.Prelude.{◌≡◌, ◌<◌, length, count_by};
 ghost use Rattle.inno_types.specs.declared.reply.Reply.TheVariants.{Done as DoneReply};

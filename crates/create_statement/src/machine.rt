@@ -1,4 +1,5 @@
 //! A CREATE TABLE under way, its beginning and its steps.
+//! `statement` makes one and steps it; only here, in `asking` and in `ending` does its state change.
 
 ghost use Rattle.std.specs.Prelude.{◌≡◌, ◌<◌, ℕ, true, false, length, count_by};
 ghost use Rattle.sql_history.specs.Legal.{IsCreation};

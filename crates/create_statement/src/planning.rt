@@ -1,4 +1,5 @@
 //! Whether a table is there, and the one that is to be made.
+//! `asking` alone calls these. They read the schemas and change none.
 
 ghost use Rattle.std.specs.Prelude.{◌≡◌, false, None, IfSome};
 ghost use Rattle.inno_db.specs.Refusals.{refusal};

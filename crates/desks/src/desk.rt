@@ -1,4 +1,5 @@
 //! What is kept of each session between its steps.
+//! `world_lists` alone makes desks and changes them; a step changes that of its session alone.
 
 ghost use Rattle.std.specs.Prelude.{◌≡◌, ◌<◌, length, IfOk};
 ghost use Rattle.desks.specs.Desks.{with_doing, doing_at, IsNewDesk};

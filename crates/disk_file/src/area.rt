@@ -1,4 +1,5 @@
 //! One file of a disk. It is opened at its first use, for this process alone, and made by its first write.
+//! `FileDisk` alone holds areas, and counts the calls of them that fail.
 
 ghost use Rattle.std.specs.Prelude.{◌≤◌, IfOk, length};
 

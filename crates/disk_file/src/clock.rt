@@ -1,4 +1,5 @@
 //! The machine's clock.
+//! `innod` makes one; it is read through the trait `Clock`.
 
 ghost use Rattle.std.specs.Prelude.{None};
 

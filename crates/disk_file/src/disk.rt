@@ -1,4 +1,5 @@
 //! The three files of a database as a disk.
+//! `innod` makes one, and engines reach it through the trait `Disk` alone.
 
 ghost use Rattle.std.specs.Prelude.{None};
 

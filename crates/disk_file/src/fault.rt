@@ -1,4 +1,5 @@
 //! How calls that failed are counted, and why the last of them did.
+//! A `FileDisk` and a `FileSource` hold one each; `counted` alone raises the count.
 
 ghost use Rattle.std.specs.Prelude.{◌≡◌, MatchResult, Ok, Err};
 ghost use Rattle.store_api.specs.Causes.{HasCause};

@@ -1,4 +1,5 @@
 //! The names of files.
+//! `FileDisk` and `FileSource` ask for theirs when they are made. Nothing is opened here.
 
 use std::alloc::{AllocError, Global};
 

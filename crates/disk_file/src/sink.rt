@@ -1,4 +1,5 @@
 //! Standard output as a sink.
+//! `innod` makes one; what is printed comes through the trait `Sink`.
 
 ghost use Rattle.std.specs.Prelude.{None};
 ghost use Rattle.std.specs.Io.{WritesAtMost};

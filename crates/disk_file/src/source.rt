@@ -1,4 +1,5 @@
 //! A file as a source.
+//! `innod` makes one of the file of its script. It never writes.
 
 ghost use Rattle.std.specs.Prelude.{None};
 ghost use Rattle.std.specs.Io.{ReadsAtMost};

@@ -1,4 +1,5 @@
 //! The three vectors of a disk in memory, and how bytes are put into one and taken from it.
+//! Only `MemDisk` holds them; `overwrite` alone changes their bytes.
 
 ghost use Rattle.std.specs.Prelude.{◌≡◌, ◌≤◌, [], List, ℕ, length, take, drop, OnOk, true, Bool, IsTrue};
 ghost use Rattle.store_api.specs.Areas.{write_of, overwritten, contents_of};

@@ -1,4 +1,5 @@
 //! A call as it is recorded, and how faults are counted.
+//! The disk alone records calls; sink and source count their faults here too.
 
 ghost use Rattle.std.specs.Prelude.{◌≡◌, ◌++◌, ◌∷◌, [], IsTrue, false, is_ok};
 ghost use Rattle.store_api.specs.Causes.{HasCause};

@@ -1,4 +1,5 @@
 //! The disk in memory: three vectors, the calls that are to fail, and the record of all its calls.
+//! Only tests make one. It meets no file.
 
 ghost use Rattle.std.specs.Prelude.{◌≡◌, ◌-◌, ◌^◌, ◌<◌, ◌≤◌, ◌↔◌, [], Some, IfOk, OnOk, IsTrue, is_ok, length, take, drop, vec_len};
 ghost use Rattle.store_api.specs.Areas.{State, IsImage, contents_of, Within, Looked, Wrote, Synced};

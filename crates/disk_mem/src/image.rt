@@ -1,4 +1,5 @@
 //! What a crash leaves of an area in memory: the record of the calls is played again.
+//! `MemDisk::image` alone asks; the disk itself stays as it is.
 
 ghost use Rattle.std.specs.Prelude.{◌≡◌, IfOk, OnOk};
 ghost use Rattle.store_api.specs.Areas.{Contents, Write, contents_of, write_of};

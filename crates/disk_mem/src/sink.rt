@@ -1,4 +1,5 @@
 //! A sink in memory. It tells what it has taken, and fails at the calls that it is told to fail.
+//! Only tests make one, to see what a program prints.
 
 ghost use Rattle.std.specs.Prelude.{◌≡◌, ◌<◌, [], ◌++◌, IfOk, Some, OnErr, OnOk, is_ok, length, true, false};
 ghost use Rattle.std.specs.Io.{WritesAtMost};

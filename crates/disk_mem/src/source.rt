@@ -1,4 +1,5 @@
 //! A source of bytes in memory. It tells what is left, and fails at the calls that it is told to fail.
+//! Only tests make one, of bytes that they hand in whole.
 
 ghost use Rattle.std.specs.Prelude.{◌≡◌, ◌<◌, ◌≤◌, [], ◌++◌, ℕ, List, IfOk, Some, take, drop, length, not, is_ok};
 ghost use Rattle.std.specs.Io.{ReadsAtMost};

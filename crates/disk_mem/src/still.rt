@@ -1,4 +1,5 @@
 //! A clock that stands still, and a gate that holds nobody up.
+//! Only tests make them, for a program that is handed a clock and a gate.
 
 ghost use Rattle.std.specs.Prelude.{Some};
 

@@ -1,4 +1,5 @@
 //! A write to the three vectors with its record.
+//! `MemDisk` alone calls it, and only here do its areas change.
 
 ghost use Rattle.std.specs.Prelude.{◌≡◌, ◌++◌, ◌∷◌, [], false, IsTrue, IfOk, OnOk};
 ghost use Rattle.disk_mem.specs.Replay.{Shows, change, after_write};

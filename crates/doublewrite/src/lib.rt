@@ -1,5 +1,5 @@
 //! The doublewrite: a page is written in place only after a copy of it is synced, and repair puts torn pages right.
-//! No other crate writes to the areas Double and Pages.
+//! Tests apart, no other crate writes to the areas Double and Pages, but `file_zero`, which makes page 0 of new files.
 #![tactic(auto)]
 
 mod batch;

@@ -1,4 +1,5 @@
 //! The calls of the engine: its sessions run, or they are those of an engine that has stopped.
+//! A mount (`engine`) makes one. It meets its disk in `step` and `close` alone.
 
 ghost use Rattle.std.specs.Prelude.{◌≡◌, ◌≢◌, ◌<◌, ◌≤◌, ◌^◌, ℕ, [], length, true, false, None, All, IsTrue, IfOk, IfErr, IfSome, OnOk, OnErr};
 ghost use Rattle.store_api.specs.Causes.{Rose};

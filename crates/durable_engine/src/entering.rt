@@ -1,4 +1,5 @@
 //! The entries that a step of a session has added are taken over into the log of commits.
+//! `LoggedSessions` alone calls it, with what a call has just added to its history.
 
 ghost use Rattle.std.specs.Prelude.{◌≡◌, ◌++◌, List, length, reverse};
 ghost use Rattle.store_api.specs.Past.{Past};

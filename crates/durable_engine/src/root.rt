@@ -1,4 +1,5 @@
 //! The moment from which the clauses about crashes count. It is picked where a program begins, and costs nothing there.
+//! Contracts alone read it: no code does, and `Brand` is the one implementation.
 
 ghost use Rattle.std.specs.Prelude.{None};
 ghost use Rattle.store_api.specs.Past.{Past};

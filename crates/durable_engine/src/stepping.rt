@@ -1,4 +1,5 @@
-//! A step of an engine, whichever it is: of sessions that run, of an engine that stops by it, or of one that has stopped.
+//! A step of an engine, whichever it is: of sessions that run, of an engine that stops by it, or of one that has
+//! stopped. `DurableEngine` alone calls these, and lends its disk to a step.
 
 ghost use Rattle.std.specs.Prelude.{◌≡◌, ◌<◌, length, true, IfSome, OnOk, OnErr};
 ghost use Rattle.session_engine.specs.Calls.{GivesUpInVain};

@@ -1,4 +1,5 @@
 //! The entries by which a stopped engine makes a step. They touch the history alone, and find their room in it.
+//! `StoppedSessions::step` alone calls them.
 
 ghost use Rattle.std.specs.Prelude.{◌≡◌, ◌+◌, ◌≤◌, ◌<◌};
 ghost use Rattle.sql_history.specs.Counts.{has_stopped};

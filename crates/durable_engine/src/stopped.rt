@@ -1,4 +1,5 @@
-//! The calls of a stopped engine. They are those of one that runs; each step answers why it stopped, or finds no memory.
+//! The calls of a stopped engine. They are those of one that runs; each step answers why it stopped, or finds no
+//! memory. `stepping` makes one when the disk has failed. No call here meets the disk or a log.
 
 ghost use Rattle.std.specs.Prelude.{◌≡◌, ◌≢◌, ◌<◌, ◌^◌, [], true, false, None, Some, length, IsTrue, IfOk, OnOk, OnErr};
 ghost use Rattle.inno_model.specs.Past.{under_way};

@@ -1,4 +1,5 @@
 //! Where each session stands, and how many items it has started.
+//! `LoggedSessions` keeps one for each session, so that a stop takes no memory; `StoppedSessions` goes on with them.
 
 use inno_model::Phase;
 

@@ -1,4 +1,5 @@
-//! The engine: sessions over one history, which a world in memory keeps, opened on the database that its files stand for.
+//! The engine: sessions over one history, which a world in memory keeps, opened on the database that its files stand
+//! for. `mount` is the one way to open it on a disk; `sessions_over` opens sessions without one, which only tests do.
 #![tactic(auto)]
 
 mod opening;

@@ -1,4 +1,5 @@
 //! One ordered index, whatever it is kept in. The code above is generic over this trait.
+//! Lists (`ListIndex`) and trees in pages (`tree_use`) implement it.
 
 ghost use Rattle.std.specs.Prelude.{◌≡◌, ◌≤◌, false, length, IsSome, vec_capacity};
 ghost use Rattle.entries.specs.Pairs.{AreSound};

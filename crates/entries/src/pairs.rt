@@ -1,4 +1,5 @@
 //! The pairs of an index in memory, in a map that is ordered by their keys. `ListIndex` alone calls these.
+//! Which actor stands where, and who is awaited, is not known here.
 
 ghost use Rattle.std.specs.Prelude.{◌≡◌, ◌≤◌, ◌^◌, true, false, [], length, Some, MatchResult, IfOk, OnOk, OnErr, IsOk, vec_capacity, find, is_some, option_map, if◌then◌else◌};
 ghost use Rattle.std.specs.Ordering.{nat_cmp};

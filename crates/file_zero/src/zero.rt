@@ -1,4 +1,5 @@
 //! Zeros from a block of the log to its end, and a sync.
+//! `mount` alone calls it, before an engine goes on with the log.
 
 ghost use Rattle.std.specs.Prelude.{◌≡◌, ◌≤◌, ◌^◌, ℕ, List, length, replicate, OnOk};
 ghost use Rattle.store_api.specs.Areas.{Contents, State, IsImage, seen_image};

@@ -1,4 +1,5 @@
 //! A statement takes its changes back, one after another, and its own transaction with them.
+//! `Leaving::step` alone comes here; each step takes back one change at most.
 
 ghost use Rattle.std.specs.Prelude.{◌≡◌, ◌<◌, length};
 ghost use Rattle.inno_model.specs.Past.{own};

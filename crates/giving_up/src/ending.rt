@@ -1,4 +1,5 @@
 //! How the item of a statement ends, and before it a transaction of its own.
+//! Machines that read or write come here when they are done, and the steps of `Leaving` do.
 
 ghost use Rattle.std.specs.Prelude.{◌≡◌, ◌<◌, ◌+◌, ◌∷◌, false, true, length, IfNone, IfSome};
 ghost use Rattle.inno_model.specs.declared.event.Event.TheVariants.{Committed, RolledBack};

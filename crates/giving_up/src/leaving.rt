@@ -1,4 +1,5 @@
 //! The states of a statement that ends, and its step.
+//! `read_statement` and `write_statement` make one and step it; nothing leads back from it to their other states.
 
 ghost use Rattle.std.specs.Prelude.{◌≡◌, ◌<◌, ℕ, length, true, false, None};
 ghost use Rattle.shared_lists.specs.Tasks.{asked};

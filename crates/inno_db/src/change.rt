@@ -1,4 +1,5 @@
 //! What a statement changes in a database.
+//! Statements make them, `Db` carries them out, and histories and the log tell them.
 
 use inno_types::{Row, Schema, Value};
 

@@ -1,4 +1,5 @@
 //! Values that are looked at where they stand, in a row or in a statement, and their order.
+//! None owns what it shows; `to_value` alone takes memory.
 
 ghost use Rattle.std.specs.Prelude.{◌≡◌, IfOk, slice_index_or};
 ghost use Rattle.inno_db.specs.Database.{value_cmp};

@@ -1,4 +1,5 @@
 //! The number under which the index of a table is known, in memory and in pages.
+//! Searches, changes, rollback and the catalog name their indexes by it.
 
 ghost use Rattle.std.specs.Prelude.{◌≡◌};
 ghost use Rattle.inno_db.specs.Indexes.{index_of};

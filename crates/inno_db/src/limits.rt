@@ -1,4 +1,5 @@
 //! The limits of tables and databases.
+//! `sql_values` and `sql_refusals` refuse what is beyond them; catalog, log and worlds count on that.
 
 /// The most columns of a table.
 pub const MOST_COLUMNS: usize = 16;

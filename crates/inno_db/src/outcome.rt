@@ -1,4 +1,5 @@
 //! What a statement makes of a database: its reply and its changes. The definition stands in specs/Outcome.antt.
+//! `plain_sql` alone makes outcomes; nothing here runs a statement.
 
 use crate::change::Change;
 use inno_types::{Listed, Reply, SqlError};

@@ -1,4 +1,5 @@
 //! A table's rows in the order of their keys. A database puts and removes its rows here, each found by halves.
+//! `Db` alone may put and remove; `key_of_row` is open to all.
 
 ghost use Rattle.std.specs.Prelude.{◌≡◌, length, OnOk, OnErr};
 ghost use Rattle.std.specs.List.Sorted.{IsBinarySearchResult, IsSearchInRange};

@@ -1,4 +1,5 @@
 //! The value of a condition: true, false or unknown. Whoever evaluates one on a row combines these.
+//! `sql_values` does so; no row is looked at here.
 
 ghost use Rattle.std.specs.Prelude.{◌≡◌};
 

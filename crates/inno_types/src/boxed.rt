@@ -1,4 +1,5 @@
-//! A value on the heap, which is moved by its pointer: what holds one is small, whatever the value holds. Contracts see the value.
+//! A value on the heap, which is moved by its pointer: what holds one is small, whatever the value holds. Contracts see
+//! the value. Statements under way keep their trees in one. What it holds is read or taken out, never changed in place.
 
 ghost use Rattle.std.specs.Prelude.{◌≡◌, IfOk};
 

@@ -1,4 +1,5 @@
-//! Bytes in order: byte by byte, as keys of indexes are compared. As far as two are alike they are read eight bytes at a time.
+//! Bytes in order: byte by byte, as keys of indexes are compared. As far as two are alike they are read eight bytes at
+//! a time. `Bytes` has its comparisons from here; nothing else may be called.
 
 ghost use Rattle.std.specs.Prelude.{◌≡◌, nat_eq, refl, Some};
 ghost use Rattle.std.specs.Int.{w64, to_be_bytes};

@@ -1,4 +1,5 @@
 //! What a session is asked and what it is answered, with the numbers that MySQL gives its errors.
+//! Whoever drives a session makes items; statements, and an engine that has stopped, make the replies.
 
 ghost use Rattle.std.specs.Prelude.{◌≡◌, IfOk};
 

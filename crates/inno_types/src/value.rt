@@ -1,4 +1,5 @@
 //! Values, and the tables that hold them.
+//! Their fields are open to all: which tables may be made, and which rows fit them, is decided in crates above.
 
 ghost use Rattle.std.specs.Prelude.{◌≡◌, IfOk};
 

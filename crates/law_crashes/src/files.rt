@@ -1,4 +1,5 @@
 //! Laws: what files stand for, and what a mount makes of them.
+//! Nothing calls them; `commit_log` and `file_zero` cite the lemmas behind two of them (proofs/Mount.antt).
 
 ghost use Rattle.std.specs.Prelude.{◌≡◌, ◌+◌, ◌-◌, ◌≤◌, ℕ, List, [], ◌∷◌, length, Some};
 ghost use Rattle.store_api.specs.Areas.{Contents, State, Image, IsImage, seen_image};

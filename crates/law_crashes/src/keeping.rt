@@ -1,4 +1,5 @@
 //! Laws: each entry of a history and each call of the log keeps what the log and the disk stand for.
+//! Nothing calls them; `commit_log` cites the lemmas behind them (proofs/Durable.antt).
 
 ghost use Rattle.std.specs.Prelude.{◌≡◌, ◌+◌, ◌≤◌, ℕ, true, false, List, [], ◌∷◌, ◌++◌};
 ghost use Rattle.store_api.specs.Areas.{Contents};

@@ -1,4 +1,5 @@
 //! Who has locked a record alone.
+//! Both laws speak of tables whose granted locks stand apart, and of nothing in the queue.
 
 ghost use Rattle.std.specs.Prelude.{◌≡◌, ◌≢◌, ℕ, true, Some, List};
 ghost use Rattle.inno_types.specs.declared.lock.Lock.{Lock};

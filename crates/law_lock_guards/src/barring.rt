@@ -1,4 +1,5 @@
-//! No row that another has changed lies in the range that a transaction keeps, neither as it was before nor behind a change.
+//! No row that another has changed lies in the range that a transaction keeps, neither as it was before nor behind a
+//! change. Which rows and ranges are meant is told by `Owns`, `KeepsRow` and `KeepsRange` (specs/Barring.antt).
 
 ghost use Rattle.std.specs.Prelude.{◌≡◌, ◌≢◌, ℕ, true, Some, List, Contains};
 ghost use Rattle.inno_types.specs.declared.lock.Lock.{Lock};

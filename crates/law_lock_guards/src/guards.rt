@@ -1,4 +1,5 @@
 //! What is guarded stays guarded.
+//! Each law is of one call of a lock table, whoever makes it.
 
 ghost use Rattle.std.specs.Prelude.{◌≡◌, ◌≢◌, ℕ, true, false, Option, List, [], ◌∷◌};
 ghost use Rattle.std.specs.List.{AllByRecursion};

@@ -1,4 +1,5 @@
 //! What a search guards with the locks that it is granted, spot by spot.
+//! They speak of locks once they are granted; that these last is in `guards` and `pins`.
 
 ghost use Rattle.std.specs.Prelude.{◌≡◌, ℕ, ◌≤◌, true, false, Option, Some, List, length};
 ghost use Rattle.inno_types.specs.declared.lock.Lock.{Lock};

@@ -1,4 +1,5 @@
 //! Each lock and each request stands on a record of its index, or on the supremum.
+//! Where that is, specs/Stand.antt tells; each law is of one change of a lock table or of its records.
 
 ghost use Rattle.std.specs.Prelude.{◌≡◌, ℕ, true, false, Option, List, [], ◌∷◌, ◌++◌};
 ghost use Rattle.inno_types.specs.declared.lock.Spot.{Spot};

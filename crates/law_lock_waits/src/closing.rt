@@ -1,4 +1,5 @@
 //! Which calls of a lock table can close a cycle of waits: a request that waits, and a record that goes.
+//! Each law compares the waits before one call with those behind it; how a cycle is found is no part of it.
 
 ghost use Rattle.std.specs.Prelude.{◌≡◌, ◌⊎◌, ℕ, true, false, Option, List, [], ◌++◌, All, Contains};
 ghost use Rattle.inno_types.specs.declared.lock.Spot.{Spot};

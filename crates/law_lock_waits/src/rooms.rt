@@ -1,4 +1,5 @@
 //! The memory for cycles lasts: there are never more requests than it was taken for.
+//! `lock_table` takes that memory when a request has to wait; no law here takes any.
 
 ghost use Rattle.std.specs.Prelude.{◌≡◌, ℕ, ◌-◌, true, Option, List, [], length};
 ghost use Rattle.inno_types.specs.declared.lock.Spot.{Spot};

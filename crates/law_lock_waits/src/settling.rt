@@ -1,4 +1,5 @@
 //! Cycles are ended by rounds: of each the victim's request goes.
+//! No engine makes such rounds yet.
 
 ghost use Rattle.std.specs.Prelude.{◌≡◌, ℕ, ◌+◌, ◌≤◌, Option, List, [], ◌∷◌, length};
 ghost use Rattle.inno_types.specs.declared.lock.Spot.{Spot};

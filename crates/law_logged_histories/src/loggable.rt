@@ -1,4 +1,5 @@
 //! Laws: a change that fits its tables has a record, and a table that a text declares can be logged.
+//! Neither speaks of a history: the laws that do stand in `laws`.
 
 ghost use Rattle.std.specs.Prelude.{◌≡◌, ◌≤◌, ℕ, Bool, List, Some, length, All};
 ghost use Rattle.inno_types.specs.declared.value.Schema.{Schema};

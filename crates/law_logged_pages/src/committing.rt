@@ -1,4 +1,5 @@
-//! The newest pages: what a commit leaves in memory is what the groups make of the page, with the commit's own among them.
+//! The newest pages: what a commit leaves in memory is what the groups make of the page, with the commit's own among
+//! them. It is of one page at a time, and nothing in it meets the disk.
 
 ghost use Rattle.std.specs.Prelude.{◌≡◌, ℕ, ◌+◌, true, false, List, [], ◌∷◌, ◌++◌, length};
 ghost use Rattle.log_format.specs.declared.group.Group.{Group as GroupValue};

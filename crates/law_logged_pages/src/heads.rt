@@ -1,4 +1,5 @@
 //! Page 0 says of which run the log is, whatever a crash leaves of it.
+//! `page_checkpoint` and `page_recovery` cite the lemmas behind them (proofs/Spared.antt).
 
 ghost use Rattle.std.specs.Prelude.{◌≡◌, ◌≢◌, ℕ, Some, None, List};
 ghost use Rattle.store_api.specs.Areas.{State, Image, IsImage, IsHonest};

@@ -1,4 +1,5 @@
 //! Pages that are placed through the doublewrite: log before page is the one side condition.
+//! `flusher` and `page_checkpoint` cite the lemmas behind them (proofs/Placement.antt).
 
 ghost use Rattle.std.specs.Prelude.{◌≡◌, ℕ, ◌+◌, ◌<◌, ◌≤◌, IsTrue, List, ◌++◌, length};
 ghost use Rattle.store_api.specs.Areas.{State};

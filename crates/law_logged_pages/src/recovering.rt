@@ -1,4 +1,5 @@
 //! Recovery: the pages that a crash leaves, and the groups that it leaves of the log.
+//! No other crate cites it; `page_recovery` cites the lemmas of `stages` that lead to it.
 
 ghost use Rattle.std.specs.Prelude.{ℕ, List};
 ghost use Rattle.store_api.specs.Areas.{State, Image, IsImage, IsHonest};

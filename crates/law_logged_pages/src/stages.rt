@@ -1,4 +1,5 @@
 //! Stages of a page: what it was after some groups of a run, by LSN.
+//! `page_recovery` cites the lemmas behind them (proofs/Leading.antt).
 
 ghost use Rattle.std.specs.Prelude.{◌≡◌, ℕ, ◌+◌, ◌<◌, ◌≤◌, IsTrue, Option, None, List, ◌++◌, length, take};
 ghost use Rattle.stored_pages.specs.Words.{lsn_of};

@@ -1,4 +1,5 @@
 //! What the pages of an engine stand for.
+//! No crate cites them yet, since no engine that runs keeps its rows in pages.
 
 ghost use Rattle.std.specs.Prelude.{◌≡◌, ℕ, Bool, List, map, Option};
 ghost use Rattle.std.specs.FinMap.{get};

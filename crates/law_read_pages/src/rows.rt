@@ -1,4 +1,5 @@
 //! What records read as: one way, as what is committed, and the same while what was open is taken back.
+//! They speak of records and versions alone; where these stand in pages is a matter of `pages`.
 
 ghost use Rattle.std.specs.Prelude.{◌≡◌, ℕ, Bool, true, List, ◌∷◌, Option, Some};
 ghost use Rattle.inno_types.specs.declared.value.Value.{Value};

@@ -1,4 +1,5 @@
 //! Where a key belongs: one page on each level holds it.
+//! `btree_grow` cites the lemma behind it (proofs/Held.antt).
 
 ghost use Rattle.std.specs.Prelude.{◌≡◌, ℕ, List, ◌∷◌, ◌++◌};
 ghost use Rattle.law_flat_tree.specs.Descents.{Holds};
