@@ -1,4 +1,5 @@
-//! A version as it is kept, beside its encoded bytes and the key of its row. Worlds make such values.
+//! A version as it is kept, beside its encoded bytes and the key of its row.
+//! `world_parts` makes one of each undo record that keeps a version; only its slots hold such values.
 
 use inno_types::Bytes;
 use store_api::Version;
