@@ -1,5 +1,5 @@
 //! Databases as SQL, and generated scripts, each with the text that is wanted.
-//! Databases and scripts are in memory; what a dump says is answered by the plain interpreter.
+//! The databases are made by the plain interpreter; no engine runs here.
 
 use crate::answers::answer;
 use crate::scripts::ALL;
