@@ -1,4 +1,5 @@
-//! The calls of a world in memory that the engine alone makes: it joins sessions, starts and ends items, and makes tables.
+//! The calls of a world in memory that the engine alone makes: it joins sessions, starts and ends items, and makes
+//! tables. `world_lists` makes them for the engine, through `EngineWorld`; an opening makes its empty indexes here too.
 
 ghost use Rattle.std.specs.Prelude.{◌≡◌, ◌+◌, ◌<◌, ◌≤◌, ◌^◌, ◌++◌, ◌∷◌, [], length, reverse, IfOk, OnOk, OnErr, vec_len, vec_capacity};
 ghost use Rattle.sql_history.specs.Counts.{rows_of_reply};

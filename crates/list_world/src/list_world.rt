@@ -1,4 +1,5 @@
-//! The world itself. Its parts are changed by the calls of the engine and by those of the trait alone.
+//! The world itself: its parts, and what holds of them between two calls.
+//! No other crate reaches a part; an opening, the calls of the engine and those of `World` alone change them.
 
 use entries::ListIndex;
 use inno_model::History;

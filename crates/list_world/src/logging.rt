@@ -1,4 +1,5 @@
 //! Changes of an index that bring an undo record. Pair, record and version come together, or nothing does.
+//! Only the calls of `World` on indexes and on undo records come here.
 
 ghost use Rattle.std.specs.Prelude.{◌≡◌, ◌==◌, ◌≤◌, ◌<◌, length, Some, IfSome, OnOk, OnErr};
 ghost use Rattle.entries.specs.Index.{IsAsBefore};

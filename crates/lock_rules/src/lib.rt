@@ -1,5 +1,6 @@
-//! Which locks conflict, which lock covers a request, and which lock each rule gives.
-//! The lock table and the statements ask here; definitions of histories cite the same words. Nothing here keeps a lock.
+//! Which locks conflict, which lock covers a request, and which lock each rule gives. Nothing here keeps a lock.
+//! The tables of locks and latches ask here, and definitions of legal histories cite the same words. No engine asks
+//! yet: none takes locks of records.
 #![tactic(auto)]
 
 mod conflict;

@@ -1,5 +1,6 @@
-//! The rules by which statements take locks: which case each is for, and the lock that it gives there.
-//! A lock's reason shows the rule's number. The engine asks before each request; definitions of histories cite the same words.
+//! The rules by which statements are to take locks: which case each is for, and the lock that it gives there.
+//! Definitions of histories cite these words, and the lock table asks for the rules' numbers, which a lock's reason
+//! shows. No engine asks yet.
 
 ghost use Rattle.std.specs.Prelude.{◌≡◌, ◌∷◌, take, length, is_some, Some, IfSome, IfNone, None, ℕ, option_copied};
 ghost use Rattle.inno_types.specs.Ranges as keys;

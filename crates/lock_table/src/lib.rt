@@ -1,6 +1,6 @@
-//! The locks of all transactions: those granted, in order of grant, and the requests that wait, first come, first served.
-//! Statements, rollback and purge ask here; the rules themselves stand in `lock_rules`. No key is longer than 67 bytes,
-//! so that a lock moves to another record without memory.
+//! The locks of all transactions: those granted, in order of grant, and the requests that wait, first come, first
+//! served. Only `deadlock` and tests ask here: no engine takes such locks yet. The rules stand in `lock_rules`. No key
+//! is longer than 67 bytes, so that a lock moves without memory.
 #![tactic(auto)]
 
 mod kept;

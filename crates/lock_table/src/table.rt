@@ -1,4 +1,5 @@
 //! The table of all locks. Each call that changes it says what its two lists are afterwards.
+//! Its lists are changed by these calls alone. Outside this crate `deadlock` and tests make them, and so far no engine.
 
 ghost use Rattle.std.specs.Prelude.{◌≡◌, ℕ, ◌+◌, ◌≤◌, ◌∷◌, ◌++◌, [], false, true, not, length, map, OnOk, OnErr, IfOk, IsOk};
 ghost use Rattle.lock_rules.specs.Rules.{FitsItsRule};

@@ -1,4 +1,5 @@
 //! How many rows a database has.
+//! An opening asks as it ends, for the count that its world starts with; no row is changed here.
 
 ghost use Rattle.std.specs.Prelude.{◌≡◌, ◌≤◌, length};
 ghost use Rattle.inno_db.specs.declared.limits.TheConstants.{MOST_TABLES};

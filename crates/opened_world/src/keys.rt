@@ -1,4 +1,5 @@
-//! One row is put into a world that is yet to be opened: its clustered record, and then the entries of its table's keys.
+//! One row is put into a world that is yet to be opened: its clustered record, and then the entries of its table's
+//! keys. Only `Opening` calls these; nobody else is in the world yet.
 
 ghost use Rattle.std.specs.Prelude.{◌≡◌, ◌<◌, Some, None, true, false, Ok, Err, ℕ, List, IfOk, OnOk, length, slice_get, All};
 ghost use Rattle.inno_types.specs.declared.value.Value.{Value};

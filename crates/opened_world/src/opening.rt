@@ -1,4 +1,5 @@
 //! A database that grows table by table and row by row, together with the world that holds it.
+//! `lay` and tests make one and put rows into it; `finish` gives the world away, on which an engine opens.
 
 ghost use Rattle.std.specs.Prelude.{◌≡◌, ◌<◌, ◌≢◌, Err, IfErr, IfOk, OnOk, length, slice_get, None, Some};
 ghost use Rattle.std.specs.FinMap.{get};

@@ -1,4 +1,5 @@
 //! Whether a row is one of its table: a value for each column, of its kind. Nothing here knows where the row came from.
+//! `lay` alone asks, of each row before it is put.
 
 ghost use Rattle.std.specs.Prelude.{◌↔◌, IsTrue, All};
 ghost use Rattle.key_codec.specs.Keys.{Has64Bits};

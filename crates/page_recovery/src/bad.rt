@@ -1,4 +1,5 @@
-//! Why files aren't recovered. Their opening tells it on.
+//! Why files aren't recovered.
+//! Only `recover` and its parts make one, and who called it tells it on; nothing here meets the disk.
 
 ghost use Rattle.std.specs.Prelude.{◌≡◌};
 ghost use Rattle.page_recovery.specs.declared.bad.RecoverBad.TheVariants.{Failed as DiskFailed, NoMemory as LacksMemory};

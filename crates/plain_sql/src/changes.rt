@@ -1,4 +1,5 @@
 //! The changes that INSERT, UPDATE and DELETE make, row by row. A refusal ends them, and what was made before it stays.
+//! The interpreter alone calls these. They hand changes back, and make none in the database.
 
 ghost use Rattle.std.specs.Prelude.{◌≡◌, ◌++◌, ◌∷◌, [], ℕ, option_to_list, IfOk, IfSome, IfNone, OnOk, List, Option, Some, None, Result, Ok, Err, map};
 ghost use Rattle.inno_types.specs.declared.value.Value.{Value};

@@ -1,4 +1,5 @@
 //! The plain interpreter itself: one statement over one database, which it only reads.
+//! Statements give it the rows that they found (`plain_on_rows`); tests ask by `plain`, and compare.
 
 ghost use Rattle.std.specs.Prelude.{◌≡◌, None, Some, IfOk, ℕ, List, option_copied};
 ghost use Rattle.inno_db.specs.Database.{Database};

@@ -1,4 +1,5 @@
 //! What tables that come later leave as it was. Nothing here runs.
+//! The law is the contract of a function with an empty body, which nobody calls.
 
 ghost use Rattle.std.specs.Prelude.{◌≡◌, List, ◌++◌, None};
 ghost use Rattle.inno_types.specs.declared.value.Schema.{Schema};

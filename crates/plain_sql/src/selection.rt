@@ -1,4 +1,5 @@
 //! The rows that a statement finds: those that match, in the order of their keys, and what SELECT gives of them.
+//! The interpreter alone calls `select`, which copies what it gives and changes no row.
 
 ghost use Rattle.std.specs.Prelude.{◌≡◌, ◌++◌, ◌∷◌, [], IfOk, map, filter};
 ghost use Rattle.inno_db.specs.Names.{column_value};

@@ -1,4 +1,5 @@
 //! How a SELECT answers by the rows that it has found, in one step.
+//! `machine` comes here when the search is over; `dirty` settles and closes its answer by the same functions.
 
 ghost use Rattle.std.specs.Prelude.{◌≡◌, ◌<◌, length, IfOk, true};
 ghost use Rattle.inno_model.specs.Past.{IsOpen};

@@ -1,4 +1,5 @@
 //! How a SELECT at READ UNCOMMITTED reads: the newest rows of its table, committed or not, all in one step.
+//! Only `opening` comes here, where the other levels take a view and search by it.
 
 ghost use Rattle.std.specs.Prelude.{◌≡◌, ◌≢◌, ◌<◌, ℕ, [], IfOk, Some, length, true};
 ghost use Rattle.inno_types.specs.declared.lock.Level.TheVariants.{ReadUncommitted};

@@ -1,4 +1,5 @@
 //! The states of a SELECT, and its step by each.
+//! `statement` alone makes and steps one; which state comes next is said by the steps in the other files.
 
 ghost use Rattle.std.specs.Prelude.{◌≡◌, ◌<◌, ℕ, length, true, false, None};
 ghost use Rattle.inno_db.specs.Refusals.{refusal};

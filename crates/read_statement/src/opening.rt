@@ -1,4 +1,5 @@
 //! How a SELECT opens its transaction, takes its view, and begins to search by it.
+//! `machine` alone calls these steps. Each adds at most one entry to the history.
 
 ghost use Rattle.std.specs.Prelude.{◌≡◌, ◌<◌, length};
 ghost use Rattle.law_past_agreement.specs.Order.{created};

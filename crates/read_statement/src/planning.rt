@@ -1,4 +1,5 @@
 //! Where a SELECT searches: its table, and the plan that its condition bounds.
+//! `opening` and `dirty` ask, once for each SELECT; tables and text are read here, and no row.
 
 ghost use Rattle.std.specs.Prelude.{◌≡◌, ◌≤◌, ℕ, IfOk, IfSome, Some, length, slice_get, true};
 ghost use Rattle.std.specs.List.{list_all};

@@ -1,4 +1,5 @@
 //! How a SELECT searches its table by its view.
+//! `machine` alone calls this step: one step of the search that the lists keep, which adds no entry.
 
 ghost use Rattle.std.specs.Prelude.{◌≡◌, ◌<◌, length};
 ghost use Rattle.sql_lists.specs.Going.{Nears};

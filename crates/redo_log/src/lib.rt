@@ -1,5 +1,6 @@
-//! The redo log: groups go into it in order, and a flush brings them onto the disk.
-//! Whoever changes pages or rows appends here first; only a flush of this log writes to the log area.
+//! The redo log: groups go into it in order, and a flush brings them onto the disk. Whoever changes pages or rows
+//! appends here first. Else the log area gets only zeros: of a mount (`file_zero`), behind the last whole group, and
+//! where a log is begun anew (`page_checkpoint`).
 #![tactic(auto)]
 
 mod body;

@@ -1,4 +1,5 @@
 //! The log as it is in memory, with what it stands for together with the log area of a disk.
+//! Commits and mini-transactions append to it; its flush alone, whole or by halves, hands their bytes to the disk.
 
 ghost use Rattle.std.specs.Prelude.{◌≡◌, ◌+◌, ◌-◌, ◌*◌, ◌^◌, ◌<◌, ◌≤◌, ◌∷◌, [], ◌++◌, ℕ, List, length, take, replicate, min, IsOk, OnOk, OnErr, IfOk};
 ghost use Rattle.store_api.specs.Areas.{Contents};

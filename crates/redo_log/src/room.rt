@@ -1,4 +1,5 @@
 //! The memory of a log: how much may be appended before any is taken.
+//! Only `log` calls these; nothing here meets the disk.
 
 ghost use Rattle.std.specs.Prelude.{◌≡◌, ◌+◌, ◌-◌, ◌*◌, ◌^◌, ◌<◌, ◌≤◌, max, min, drop, vec_len, vec_capacity, IsOk, OnOk, IfOk};
 ghost use Rattle.redo_log.specs.View.{numbers_left};

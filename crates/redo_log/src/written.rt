@@ -1,4 +1,5 @@
-//! A write of the log that waits for its sync. The first half of a flush makes it, and only the second half takes it.
+//! A write of the log that waits for its sync, with the last group that it holds.
+//! The first half of a flush makes it, and only the second half takes it.
 
 use std::marker::Model;
 

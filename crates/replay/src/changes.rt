@@ -1,4 +1,5 @@
 //! Changes of a database that were not looked at before.
+//! `commits` and `copies` alone make them, of a database that is being built and that nobody else has.
 
 ghost use Rattle.std.specs.Prelude.{◌≡◌, OnOk};
 ghost use Rattle.inno_db.specs.Changes.{apply_one};

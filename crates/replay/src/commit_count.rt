@@ -1,4 +1,5 @@
 //! The commits of a history, those of the setup part left out.
+//! `line` alone asks; a history is only read here.
 
 ghost use Rattle.std.specs.Prelude.{◌≡◌, nat_lt};
 ghost use Rattle.std.specs.List.{count_by};

@@ -1,4 +1,5 @@
 //! The replay itself: entry by entry, the oldest first.
+//! `line` asks for the database of its totals; the history stays as it is, for all is copied first.
 
 ghost use Rattle.std.specs.Prelude.{◌≡◌, reverse, IfOk, OnOk};
 ghost use Rattle.inno_db.specs.Keyed.{IsKeyed};

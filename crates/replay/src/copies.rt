@@ -1,4 +1,5 @@
 //! Copies of what stands in a history: the database of its opening, and its changes.
+//! `commits` alone asks for them. A copy takes memory, and shares nothing with the history.
 
 ghost use Rattle.std.specs.Prelude.{◌≡◌, ◌≤◌, ◌++◌, map, reverse, IfOk, OnOk, length};
 ghost use Rattle.inno_db.specs.declared.limits.TheConstants.{MOST_TABLES};

@@ -1,4 +1,5 @@
 //! What the accounts of a database hold together.
+//! `line` alone asks. The table and its column are found by name, and no row is changed.
 
 ghost use Rattle.std.specs.Prelude.{◌≡◌, ℤ, IfOk, codes};
 ghost use Rattle.inno_db.specs.Names.{table_place, column_place};

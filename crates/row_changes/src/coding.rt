@@ -1,4 +1,5 @@
 //! Rows as bytes, by the tables of a world.
+//! `record_change` alone calls these; the world is only read.
 
 ghost use Rattle.std.specs.Prelude.{◌≡◌, IfOk, slice_get, Some};
 ghost use Rattle.row_codec.specs.Rows.{IsRowOf, version_code};

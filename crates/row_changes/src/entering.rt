@@ -1,4 +1,5 @@
 //! The history's entry of a change, and the id that its transaction has from its first one on.
+//! `record_change` alone calls it, when the record is in place; the room for the entry was taken before.
 
 ghost use Rattle.std.specs.Prelude.{◌≡◌, true, OnOk, IsOk};
 ghost use Rattle.world.specs.State.{Session, Work, IsSession, HasWork};

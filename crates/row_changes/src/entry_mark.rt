@@ -1,4 +1,5 @@
 //! Marks an entry of a secondary key whose value has gone. Who reads by an older view still comes to its row by it.
+//! `keys_change` alone makes one, in the step that needs it.
 
 ghost use Rattle.std.specs.Prelude.{◌≡◌};
 ghost use Rattle.row_changes.specs.Entries.{IsMarking, MarksEntry};

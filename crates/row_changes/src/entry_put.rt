@@ -1,4 +1,5 @@
 //! Puts an entry of a secondary key, or takes its mark away where it is there.
+//! `keys_change` alone makes one, keeps it between its steps, and drives it to its end.
 
 ghost use Rattle.std.specs.Prelude.{◌≡◌};
 ghost use Rattle.row_changes.specs.Entries.{IsPutting, PutsEntry};

@@ -1,4 +1,5 @@
 //! The entries that the rows before and after a change have in the first key whose value doesn't stay.
+//! `keys_change` alone asks; rows and tables are read here, and no world is met.
 
 ghost use Rattle.std.specs.Prelude.{◌≡◌, ◌≤◌, ◌<◌, ℕ, Some, length, IfOk, IfSome, MatchOption};
 ghost use Rattle.row_codec.specs.Rows.{IsRowOf};

@@ -1,4 +1,6 @@
-//! Changes of rows as small machines over any world: one call of the world a step. Statements and rollback drive them.
+//! Changes of rows as small machines over any world: one call of the world a step.
+//! `world_lists` drives them for statements, and an opening enters the keys of its rows by one (`opened_world`).
+//! Rollback has machines of its own, in `undo_apply`.
 #![tactic(auto)]
 
 mod coding;

@@ -1,4 +1,5 @@
 //! The whole change of a row: its record and the history's entry first, and then the keys of its table.
+//! `world_lists` makes one for each change of a row, and drives it; a session's desk keeps it between its steps.
 
 ghost use Rattle.std.specs.Prelude.{◌≡◌, None, IfOk};
 ghost use Rattle.row_versions.specs.Chains.{Chains};

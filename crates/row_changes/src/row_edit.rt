@@ -1,4 +1,5 @@
-//! What becomes of a row.
+//! What becomes of a row: it is put at its key, or removed from there.
+//! `world_lists` makes one of a statement's change; the machines of this crate carry it out.
 
 use inno_types::{Row, Value};
 

@@ -1,4 +1,5 @@
 //! Bounds of ranges beside keys of an index. As many first bytes of a key are compared as a bound has.
+//! Only the steps of a search ask (`scan` and `visit`); bytes are read here, and no world is met.
 
 ghost use Rattle.std.specs.Prelude.{◌≡◌, [], length, take, IfOk};
 ghost use Rattle.std.specs.Ordering.{nat_cmp};

@@ -1,4 +1,5 @@
-//! A row that a search has found. Statements take such rows when the search is over.
+//! A row that a search has found, with its key, and the order of such rows.
+//! Only the step that keeps a row makes one (`visit`); whoever drives the search takes them all at its end.
 
 ghost use Rattle.std.specs.Prelude.{◌≡◌, OnOk, OnErr};
 ghost use Rattle.std.specs.Ordering.{is_lt};

@@ -1,4 +1,5 @@
-//! Laws of searches, as contracts of functions with empty bodies. Statements stand on them; nothing calls them.
+//! Laws of searches, as contracts of functions with empty bodies.
+//! Statements stand on them; nothing calls them.
 
 ghost use Rattle.std.specs.Prelude.{◌≡◌, ◌+◌, ℕ, true, IsTrue, List, Option, Some, slice_get};
 ghost use Rattle.std.specs.List.{list_any};

@@ -1,4 +1,5 @@
 //! What a search does next.
+//! The steps in `scan` and `visit` answer the next one; `search` alone chooses its step by it.
 
 use inno_types::{Bytes, Row};
 

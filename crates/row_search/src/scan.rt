@@ -1,4 +1,5 @@
 //! The steps of a search, one function for each, with at most one call of the world.
+//! `search` alone calls these, by its phase; they change the search, and its actor's place in the index.
 
 ghost use Rattle.std.specs.Prelude.{◌≡◌, ◌<◌, ◌≤◌};
 ghost use Rattle.row_search.specs.Visits.{IsGivenPhase};

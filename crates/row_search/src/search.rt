@@ -1,4 +1,5 @@
 //! A search as a machine: it makes one short step a call, where it lies. Steps of other sessions come between.
+//! `world_lists` makes and drives one, and gives it up where its statement ends early; a desk keeps it meanwhile.
 
 ghost use Rattle.std.specs.Prelude.{◌≡◌, true, if◌then◌else◌};
 ghost use Rattle.entries.specs.Calls.{Leaves};

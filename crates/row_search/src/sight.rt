@@ -1,4 +1,5 @@
 //! Which version of a row a reader sees.
+//! `world_lists` says it for each search; only the look at one version (`glance`) asks whether it sees a writer.
 
 ghost use Rattle.std.specs.Prelude.{◌≡◌};
 ghost use Rattle.row_search.specs.Sights.{sees_by};

@@ -1,4 +1,5 @@
 //! The steps of a search at one pair: which version the reader sees, and whether its row is kept; and the end.
+//! `search` alone calls these, by its phase.
 
 ghost use Rattle.std.specs.Prelude.{◌≡◌, ◌<◌, ◌≤◌};
 ghost use Rattle.row_search.specs.Searches.{IsSearching};

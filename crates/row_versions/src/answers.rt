@@ -1,4 +1,5 @@
 //! What a chain answers where it shows no version.
+//! Worlds answer by it, to those who follow a roll pointer; nothing here follows one.
 
 use store_api::Visit;
 

@@ -1,4 +1,5 @@
 //! Places: where a row stands. They are in order by table, and then by the value of the primary key.
+//! The definitions of versions speak of them; nothing that runs makes one.
 
 ghost use Rattle.std.specs.Ordering.{eq_by_cmp, is_eq};
 ghost use Rattle.row_versions.specs.Chains.{place_order};

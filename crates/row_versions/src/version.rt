@@ -1,4 +1,5 @@
-//! Versions: what transactions made of the row of a place. A removed row leaves a version without a row.
+//! Versions as definitions speak of them: what transactions made of the row of a place. A removed row leaves a version
+//! without a row. Nothing that runs makes one: worlds keep and give the `Version` of `store_api`.
 
 use inno_types::Row;
 

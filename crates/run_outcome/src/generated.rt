@@ -1,4 +1,5 @@
 //! The text of a script that is generated.
+//! `script_runner` prints it, or plays the same script; it is made of the command's numbers alone.
 
 ghost use Rattle.std.specs.Prelude.{◌≡◌, None, IfOk, IfErr};
 ghost use Rattle.store_api.specs.Causes.{Rose};

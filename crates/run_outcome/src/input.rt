@@ -1,4 +1,5 @@
 //! Reads a source to its end.
+//! Only `read_input` of `outcome` calls it, before the script is parsed.
 
 ghost use Rattle.std.specs.Prelude.{◌≡◌, ◌≤◌, IfOk, IfSome};
 ghost use Rattle.store_api.specs.Causes.{Rose};

@@ -1,4 +1,5 @@
 //! What a run answers, and the parts of a run that meet no engine.
+//! `script_runner` puts its commands together from these; whatever is printed goes to the sink by `print_bytes`.
 
 ghost use Rattle.std.specs.Prelude.{◌≡◌, [], IfOk, IfErr, IfSome, IsTrue, false};
 ghost use Rattle.std.specs.List.{list_any};

@@ -1,4 +1,5 @@
 //! Writes bytes to a sink.
+//! `print_bytes` of `outcome` alone calls it.
 
 ghost use Rattle.std.specs.Prelude.{OnOk, OnErr};
 ghost use Rattle.std.specs.Io.KnownBytes.{Appends};

@@ -1,4 +1,5 @@
 //! What is printed of a history: what its sessions were answered, or what a generated script has done.
+//! `finish` of `outcome` alone prints one, when the engine is gone; the history is only read.
 
 ghost use Rattle.std.specs.Prelude.{◌≡◌};
 ghost use Rattle.store_api.specs.Causes.{Rose};

@@ -1,4 +1,5 @@
 //! What is shown of the database that files stand for: the SQL that makes it anew, or what is counted in it.
+//! `script_runner` asks for it, with a database that it has read from files; nothing here changes it.
 
 ghost use Rattle.std.specs.Prelude.{◌≡◌, ◌≤◌, IfOk};
 ghost use Rattle.std.specs.String.{string_bytes};

@@ -1,4 +1,5 @@
-//! The words of a command.
+//! The words of a command. `script_runner` asks once (`command_of`), before it opens anything. Words are only compared
+//! here.
 
 ghost use Rattle.std.specs.Prelude.{◌≡◌, ◌↔◌, ◌<◌, ◌^◌, ◌==◌, IsTrue, All, MatchOption, slice_index, codes, bytes_eq};
 ghost use Rattle.std.specs.Bool.{MatchBool};

@@ -1,4 +1,5 @@
 //! A directive, all of its line. Where it may stand, and what it does, is told by `script`.
+//! `reading` alone asks for one, at the place that it has come to.
 
 ghost use Rattle.std.specs.Prelude.{◌≡◌, ◌+◌, ◌<◌, ◌≤◌, length, IfOk, IfSome};
 ghost use Rattle.std.specs.Option.{option_map};

@@ -1,4 +1,5 @@
-//! The text of a history.
+//! The text of a history. Others call `transcript` alone, which reads a history; `writing` spells words and numbers by
+//! the same functions.
 
 ghost use Rattle.std.specs.Prelude.{◌≡◌, ◌++◌, ◌∷◌, [], IfOk, OnOk, ◌≢◌, reverse};
 ghost use Rattle.std.specs.List.{flat_map};

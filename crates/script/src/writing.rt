@@ -1,4 +1,5 @@
 //! Writes a script as a text, and sees that the text is read again as the same script.
+//! Whoever prints a generated script asks here (`run_outcome`); what would be read otherwise is refused.
 
 ghost use Rattle.std.specs.Prelude.{◌≡◌, ◌<◌, ◌≤◌, ◌++◌, ◌^◌, IfOk, IfErr, OnOk, length, Err, take, drop, codes};
 ghost use Rattle.std.specs.Bool.{MatchBool};

@@ -1,4 +1,5 @@
 //! The setup part: the table of accounts and its rows.
+//! `sessions` alone asks, for the first items of a generated script.
 
 ghost use Rattle.std.specs.Prelude.{◌≡◌, ◌++◌, IfOk, OnOk, codes};
 ghost use Rattle.std.specs.Fmt.{decimal};

@@ -1,4 +1,5 @@
 //! The tables of a database one after another, each with its rows.
+//! Others call `dump_text` alone, with a database in memory that it only reads.
 
 ghost use Rattle.std.specs.Prelude.{◌≡◌, ◌++◌, IfOk, OnOk};
 ghost use Rattle.std.specs.List.{flat_map};

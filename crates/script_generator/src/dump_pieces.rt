@@ -1,4 +1,5 @@
-//! Names, numbers and words at the end of a text.
+//! Names and small numbers at the end of the text of a dump.
+//! Only `rows` and `tables` spell by these.
 
 ghost use Rattle.std.specs.Prelude.{◌≡◌, ◌++◌, OnOk};
 ghost use Rattle.std.specs.List.{flat_map};

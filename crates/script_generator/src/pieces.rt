@@ -1,4 +1,5 @@
 //! Words and numbers at the end of a text.
+//! Generated scripts and dumps are both spelled by these; no other crate calls them.
 
 ghost use Rattle.std.specs.Prelude.{◌≡◌, ◌++◌, OnOk};
 ghost use Rattle.std.specs.Fmt.{decimal};

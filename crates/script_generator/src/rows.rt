@@ -1,4 +1,5 @@
 //! Rows and their values as SQL.
+//! `dump` alone asks, for one row after another.
 
 ghost use Rattle.std.specs.Prelude.{◌≡◌, ◌++◌, OnOk, codes};
 ghost use Rattle.std.specs.List.{flat_map};

@@ -1,4 +1,5 @@
 //! The script of a number: sixteen accounts, and sessions that transfer between them.
+//! Others call `generate` alone; the same numbers give the same script each time.
 
 ghost use Rattle.std.specs.Prelude.{◌≡◌, ◌⊎◌, ◌++◌, IfOk, IfErr, OnOk, Some, None, nat_lt, codes};
 ghost use Rattle.script.specs.declared.script.ScriptBad.TheVariants.{NoMemory};

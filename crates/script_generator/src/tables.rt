@@ -1,4 +1,5 @@
 //! Tables as SQL: their columns, the primary key, and the other keys.
+//! `dump` alone asks, once for each table, before its rows.
 
 ghost use Rattle.std.specs.Prelude.{◌≡◌, ◌++◌, OnOk, codes, slice_get};
 ghost use Rattle.std.specs.List.{flat_map};

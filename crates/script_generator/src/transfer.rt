@@ -1,4 +1,5 @@
 //! A transfer between two accounts: drawn by a generator of words, and as the statements of a transaction.
+//! `sessions` draws and spells transfers; `accounts` spells its statements by the same functions.
 
 ghost use Rattle.std.specs.Prelude.{◌≡◌, ◌++◌, ◌∷◌, [], IfOk, OnOk};
 ghost use Rattle.script_generator.specs.Transfers as spelled;

@@ -1,4 +1,5 @@
 //! How a script begins: the room that its threads need, and a session for each of its names.
+//! Only `on_threads` begins so, while its thread is the only one.
 
 ghost use Rattle.std.specs.Prelude.{◌≡◌, ◌↔◌, ◌+◌, ◌<◌, ◌≤◌, ◌++◌, ◌∷◌, ℕ, [], true, length, map, IfOk, IfSome, IsTrue, take, vec_capacity, vec_len};
 ghost use Rattle.std.specs.List.{AllByRecursion};

@@ -1,4 +1,5 @@
 //! Plays a script over an engine that nobody has joined: it is shared, each session plays, and the engine comes back.
+//! `script_runner` alone calls it. What the other threads do is in `parts` and `session`.
 
 ghost use Rattle.std.specs.Prelude.{◌≡◌, ◌≤◌, ◌<◌, ◌+◌, ◌∷◌, [], ℕ, length, map, true, All, IsTrue, OnOk, vec_capacity, vec_len};
 ghost use Rattle.std.specs.List.{AllByRecursion, list_any};

@@ -1,4 +1,5 @@
 //! A session in the thread that has it: it makes its calls, one after the other, and leaves.
+//! `on_threads` makes those of the setup part so; `parts` plays each other session, in its thread or in the caller's.
 
 ghost use Rattle.std.specs.Prelude.{◌≡◌, All};
 ghost use Rattle.turn_engine.specs.Sessions.{own};

@@ -1,4 +1,5 @@
 //! Sessions as play drives them: each makes its steps alone, and between the steps anybody's may come.
+//! `script_runner` meets the trait with its engine; `play` alone calls it.
 
 ghost use Rattle.std.specs.Prelude.{◌≡◌, ◌<◌, ◌≤◌, ◌^◌, length, true, false, None, IsTrue, OnOk, OnErr};
 ghost use Rattle.inno_model.specs.Past.{under_way};

@@ -1,4 +1,5 @@
 //! The engine as play drives it.
+//! `ways` makes one for a play and takes the engine out again; in between `play` alone calls it.
 
 ghost use Rattle.std.specs.Prelude.{◌≡◌, ℕ, [], None};
 ghost use Rattle.inno_model.specs.Past.{under_way};

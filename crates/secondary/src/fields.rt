@@ -1,4 +1,5 @@
 //! Where the field of a column stands in a record: behind the head and the fields of the columns before it.
+//! `entry` alone asks; the bytes of a record are only read.
 
 ghost use Rattle.std.specs.Prelude.{◌≡◌, ◌≢◌, ℕ, List, ◌<◌, ◌≤◌, ◌+◌, ◌*◌, ◌++◌, length, remove, sum_by, slice_index_or, IsSomeAnd};
 ghost use Rattle.inno_types.specs.declared.value.Value.{Value};

@@ -1,4 +1,5 @@
-//! What callers may rest on about entries. The law is the contract of a function that does nothing.
+//! What callers may rest on about entries of secondary keys.
+//! The law is the contract of a function that does nothing, and that nobody calls.
 
 ghost use Rattle.std.specs.Prelude.{◌≡◌, ℕ, List, ◌≤◌, length, true, slice_get};
 ghost use Rattle.store_api.specs.declared.answers.Version.{Version};

@@ -1,4 +1,5 @@
 //! Where each session stands: idle, at work on a statement or a signal, on its way out, or gone.
+//! The session engine alone keeps them, and takes a seat out and puts the next one in.
 
 ghost use Rattle.std.specs.Prelude.{◌≡◌, ◌<◌, [], ◌∷◌, ◌++◌, length, OnOk, OnErr, slice_set};
 ghost use Rattle.session_engine.specs.Calls.{StepsTo};

@@ -1,4 +1,5 @@
 //! The parts of a session's steps: its item is read, one that is no statement is refused, and its ending makes steps.
+//! The session engine alone calls these; they change the lists, and answer the seat that comes next.
 
 ghost use Rattle.std.specs.Prelude.{◌≡◌, ◌<◌, length, IfOk};
 ghost use Rattle.inno_model.specs.Past.{own, IsOpen};

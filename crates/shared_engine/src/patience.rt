@@ -1,4 +1,5 @@
 //! How long commits may wait for the flush that serves them: for each session a count of steps. Nothing here waits.
+//! `lingering` spends and renews it, and `turns` tells it how long a flush took.
 
 ghost use Rattle.std.specs.Prelude.{◌≡◌, ◌≢◌, ℕ, ◌+◌, ◌<◌, ◌≤◌, slice_index};
 

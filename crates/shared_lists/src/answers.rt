@@ -1,4 +1,5 @@
-//! How far a step of a session's task came.
+//! How far a step of a session's task came, and which rows a search is to see.
+//! Whatever keeps the lists answers by these; statements get them by way of `SqlLists`.
 
 use inno_types::Rows;
 use std::convert::Infallible;

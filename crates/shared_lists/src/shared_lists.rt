@@ -1,4 +1,5 @@
 //! The calls of whatever keeps the lists. A session may have one thing under way with rows at a time.
+//! `SqlLists` makes the calls that change them, and statements only read by the others; `world_lists` meets the trait.
 
 ghost use Rattle.std.specs.Prelude.{◌≡◌, ◌≢◌, ℕ, ◌+◌, ◌-◌, ◌<◌, ◌≤◌, ◌^◌, [], ◌∷◌, ◌++◌, true, false, length, is_some, OnOk, OnErr, IfOk, IfSome, IfNone, Some, None, slice_get, slice_index_or, slice_set};
 ghost use Rattle.inno_types.specs.Order.{IsBelow};

@@ -1,4 +1,5 @@
 //! One comparison or test of a condition. Conditions are joined from these.
+//! `conditions` alone joins them; `expressions` reads its operands here too.
 
 ghost use Rattle.std.specs.Prelude.{◌≡◌};
 ghost use Rattle.sql_conditions.specs.Parts.{Gives};

@@ -1,4 +1,5 @@
 //! Two operands in boxes. Their type is a parameter, so that letting one go is checked once and not for each operator.
+//! `conditions` and `expressions` alone box operands by it.
 
 ghost use Rattle.std.specs.Prelude.{◌≡◌, IfOk};
 

@@ -1,4 +1,5 @@
 //! Names and literals, one at a time. Numbers beyond 64 bits are read too, as such.
+//! Whoever reads a part of a statement takes them from the front of its tokens; nothing here looks a name up.
 
 ghost use Rattle.std.specs.Prelude.{◌≡◌, ◌≤◌, ◌^◌, MatchOption};
 ghost use Rattle.sql_grammar.specs.Grammar as grammar;

@@ -1,4 +1,5 @@
-//! Why a part of a statement could not be read. Every reader of tokens refuses by this alone.
+//! Why a part of a statement could not be read.
+//! Every reader of tokens refuses by this alone, and `sql_text` tells it on.
 
 ghost use Rattle.std.specs.Prelude.{◌≡◌, length};
 ghost use Rattle.sql_conditions.specs.declared.refusal.Refusal.TheVariants.{NoMemory, Unexpected};

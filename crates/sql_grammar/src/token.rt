@@ -1,4 +1,5 @@
-//! Tokens of SQL, and its key words. Who reads bytes makes these, and the grammar speaks of them alone.
+//! Tokens of SQL, and its key words.
+//! `sql_tokens` makes them of bytes; the readers of statements take them, and the grammar speaks of them alone.
 
 use inno_types::{Bytes, Comparison};
 

@@ -1,4 +1,5 @@
 //! How many rows a history holds, which its limit counts.
+//! Worlds ask for a reply's rows as its item ends (`rows_of_reply`); a history is only read.
 
 ghost use Rattle.std.specs.Prelude.{◌≡◌};
 ghost use Rattle.sql_history.specs.Counts.{capped, rows_of_reply, rows_in, rows_of_entry, rows_kept};

@@ -1,4 +1,5 @@
 //! Laws of commits, views and snapshots, over any past.
+//! They are contracts of empty functions, about definitions alone; nothing calls these.
 
 ghost use Rattle.std.specs.Prelude.{◌≡◌, ◌≢◌, ◌≤◌, ◌+◌, ℕ, List, [], ◌∷◌, Some};
 ghost use Rattle.inno_model.specs.declared.event.Event.{Event};

@@ -1,7 +1,6 @@
-//! Which histories of SQL sessions are legal, and when they answer as their transactions do alone; and what each session
-//! has set for itself, with its savepoints (`SessionSettings`). The definitions stand in specs/. But for the settings and
-//! the count of a history's rows each function here has an empty body, and its contract is a law of the definitions; nothing
-//! calls these functions, they show that the definitions say what a user of a database expects.
+//! Which histories of SQL sessions are legal, and when they answer as their transactions do alone (in specs/); and what
+//! each session has set for itself, with its savepoints (`SessionSettings`). But for the settings and the counts of
+//! rows each function is empty, and its contract is a law of the definitions, which nothing calls.
 #![tactic(auto)]
 
 mod counts;

@@ -1,4 +1,5 @@
 //! The settings of one session, as the definitions of a history speak of them.
+//! The room of a session (`world_parts`) holds them and alone changes them; statements read them.
 
 ghost use Rattle.std.specs.Prelude.{◌≡◌, ℕ, true, false, None, OnOk, OnErr};
 ghost use Rattle.sql_history.specs.Settings.{at_first, next_level, made_at, at_begin, at_end, saved, back_to, set_by};

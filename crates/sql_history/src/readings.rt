@@ -1,4 +1,5 @@
 //! What legality says of the newest entry of a history, for the SQL of the grammar.
+//! Each of these laws is the contract of an empty function; nothing calls them.
 
 ghost use Rattle.std.specs.Prelude.{◌≡◌, ℕ, List, ◌∷◌, Some, true, false};
 ghost use Rattle.inno_types.specs.declared.value.Value.{Value};

@@ -1,4 +1,5 @@
-//! Lists of savepoints, the newest first. The settings alone call these.
+//! Lists of savepoints, the newest first.
+//! The settings alone call these, on the list that they hold.
 
 ghost use Rattle.std.specs.Prelude.{◌≡◌, ◌≤◌, ◌<◌, ◌∷◌, vec_len, vec_capacity};
 ghost use Rattle.sql_history.specs.Settings.{without, back_to, made_at};

@@ -1,4 +1,5 @@
-//! Laws of savepoints.
+//! Laws of savepoints: one takes the place of its name, and a rollback to one keeps it.
+//! The functions are empty, and nothing calls them.
 
 ghost use Rattle.std.specs.Prelude.{◌≡◌, ℕ, List, Some, true};
 ghost use Rattle.sql_history.specs.declared.settings.Save.{Save};

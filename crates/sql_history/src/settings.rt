@@ -1,4 +1,5 @@
 //! A savepoint, as definitions and engines speak of it.
+//! Only `SessionSettings` makes one, and keeps it until it is dropped or its transaction ends.
 
 use inno_types::Bytes;
 

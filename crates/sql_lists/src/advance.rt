@@ -1,4 +1,5 @@
 //! How far a statement's step came, and the edge by which a statement waits.
+//! Every step of a statement answers an `Advance`; `SqlLists` alone makes the edge.
 
 ghost use Rattle.std.specs.Prelude.{◌≡◌, ◌∷◌, [], IfOk};
 ghost use Rattle.sql_lists.specs.Steps.{plain_edge};

@@ -1,4 +1,5 @@
 //! The lists themselves, and the entries that statements add.
+//! An engine's opening makes them; statements and the session engine change them by these calls alone.
 
 ghost use Rattle.std.specs.Prelude.{◌≡◌, ◌≢◌, ℕ, ◌+◌, ◌-◌, ◌<◌, ◌≤◌, ◌^◌, [], ◌∷◌, ◌++◌, length, true, false, is_some, OnOk, OnErr, IfOk, IfSome, IfNone, Some, None, slice_get};
 ghost use Rattle.inno_db.specs.declared.limits.TheConstants.{MOST_TABLES};

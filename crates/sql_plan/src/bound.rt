@@ -1,4 +1,5 @@
 //! The bytes of a range: its limits as keys of an index. `key_codec` says what a value's key is.
+//! `choice` alone asks, once it knows the index and the values.
 
 ghost use Rattle.std.specs.Prelude.{◌≡◌, ◌≤◌, ◌∷◌, [], ◌++◌, OnOk, IfOk, length, take};
 ghost use Rattle.inno_types.specs.declared.value.Value.{Value};

@@ -1,4 +1,5 @@
-//! Which index a search walks, and in which range. Statements ask before they take any row.
+//! Which index a search walks, and in which range.
+//! `read_statement` and `planning` ask before any row is taken; no index is looked into here.
 
 ghost use Rattle.std.specs.Prelude.{◌≡◌, ◌<◌, ◌≤◌, ◌==◌, ℕ, List, Option, Some, map, length, slice_get, OnOk, IfOk, IfSome, if◌then◌else◌, true};
 ghost use Rattle.std.specs.List.{list_any};

@@ -1,4 +1,5 @@
-//! What planners may rest on about intervals. Each law is the contract of a function that does nothing.
+//! What planners may rest on about intervals.
+//! Each law is the contract of a function that does nothing, and that nothing calls.
 
 ghost use Rattle.std.specs.Prelude.{◌≡◌, ◌&&◌, true, false, Some};
 ghost use Rattle.inno_types.specs.declared.value.Value.{Value};

@@ -1,4 +1,5 @@
 //! The keys that the tuples of an INSERT give, as a condition on the rows of its table.
+//! `planning` alone asks, for an INSERT; no index is looked into.
 
 ghost use Rattle.std.specs.Prelude.{◌≡◌, IfOk};
 ghost use Rattle.inno_db.specs.Storing.{literal_at};

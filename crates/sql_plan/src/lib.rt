@@ -1,7 +1,6 @@
-//! Which keys a search visits: the values that a condition allows a column (`Interval`), the index and the range that it
-//! bounds (`choose`), those that an INSERT, UPDATE or DELETE searches (`plan_for`), and the values of a row under conditions
-//! and assignments. Statements ask here; nothing here reads an index or changes a row that stands.
-//! MySQL 8.0 Reference Manual, "Range Optimization".
+//! Which keys a search visits: the values that a condition allows a column (`Interval`), the index and the range that
+//! it bounds (`choose`; `plan_for` where a statement changes rows), and rows under conditions and assignments.
+//! Statements ask; nothing here reads an index or changes a row. MySQL 8.0 Reference Manual, "Range Optimization".
 #![tactic(auto)]
 
 mod bound;

@@ -1,4 +1,5 @@
-//! What an INSERT depends on. The function does nothing; its contract is the law.
+//! What an INSERT depends on: no row makes a difference whose key its tuples don't give.
+//! The function does nothing, its contract is the law, and nothing calls it.
 
 ghost use Rattle.std.specs.Prelude.{◌≡◌, ℕ, true, Bool, List, Option, All, filter};
 ghost use Rattle.inno_types.specs.declared.value.Value.{Value};

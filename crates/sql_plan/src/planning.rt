@@ -1,4 +1,5 @@
 //! By which index and range a statement searches its table.
+//! `write_statement` asks, before the search of each part; a SELECT is planned in `read_statement`.
 
 ghost use Rattle.std.specs.Prelude.{◌≡◌, ◌≤◌, true, IfOk, length, slice_get};
 ghost use Rattle.std.specs.List.{list_all};

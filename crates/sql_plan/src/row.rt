@@ -1,4 +1,5 @@
-//! Rows under conditions and assignments: the calls of `sql_values`, as statements ask them.
+//! Rows under conditions and assignments, by the calls of `sql_values`.
+//! No statement asks here yet: the plain interpreter, which they ask instead, calls `sql_values` itself.
 
 ghost use Rattle.std.specs.Prelude.{◌≡◌};
 ghost use Rattle.inno_db.specs.Conditions.{truth_of};

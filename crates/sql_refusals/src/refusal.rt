@@ -1,4 +1,5 @@
 //! Why a statement is refused by its text and the schemas. No row is looked at, so an engine asks here first.
+//! `statement` asks before the first step of each; CREATE TABLE and the plain interpreter ask again.
 
 ghost use Rattle.std.specs.Prelude.{◌≡◌, ◌==◌, IfOk, Option, Some, None, is_some, is_none, nat_le, length, option_copied};
 ghost use Rattle.std.specs.List.{list_all, list_any};

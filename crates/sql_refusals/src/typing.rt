@@ -1,4 +1,5 @@
 //! Which columns a statement names, and whether the types of its values agree. Only the text and the schema are read.
+//! `refusal` alone asks.
 
 ghost use Rattle.std.specs.Prelude.{◌≡◌, ◌∷◌, [], Option, Some, slice_get, slice_index_or};
 ghost use Rattle.std.specs.List.{list_all};

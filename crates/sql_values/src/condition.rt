@@ -1,4 +1,5 @@
 //! The value of a condition on a row, in three-valued logic. No row is changed here.
+//! The plain interpreter asks whether a row matches (`is_match`), and `sql_plan` for the value (`evaluate`).
 
 ghost use Rattle.std.specs.Prelude.{◌≡◌, Option};
 ghost use Rattle.inno_db.specs.Database.{value_cmp};

@@ -1,4 +1,5 @@
 //! The schema that a CREATE TABLE declares. Nothing else decides whether a table is one that the engine can hold.
+//! The statement, its refusal and the plain interpreter all ask here; no database is met.
 
 ghost use Rattle.std.specs.Prelude.{◌≡◌, ◌≤◌, ◌<◌, ◌++◌, ◌∷◌, [], IfOk, OnOk, Option, length, unwrap_or, sum_by, flat_map, option_copied};
 ghost use Rattle.std.specs.List.{list_all, list_any};

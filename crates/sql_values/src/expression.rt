@@ -1,4 +1,5 @@
 //! The value of an expression on a row. Nothing is copied: texts are seen where they stand.
+//! `storing` alone asks, for the values that INSERT and UPDATE store.
 
 ghost use Rattle.std.specs.Prelude.{◌≡◌, ◌+ℤ◌, ◌-ℤ◌, ◌*ℤ◌, neg_ℤ};
 ghost use Rattle.inno_db.specs.Expressions.{in_range, both, negated, literal_given, expr_value};

@@ -1,4 +1,5 @@
 //! Columns and tables by their names. Whoever reads a statement looks names up here.
+//! For columns ASCII case makes no difference, for tables it does. Lists are only searched.
 
 ghost use Rattle.std.specs.Prelude.{◌≡◌, bytes_eq};
 ghost use Rattle.std.specs.Str.{str_eq_ignore_ascii_case};

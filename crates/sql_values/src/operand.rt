@@ -1,4 +1,5 @@
 //! The values that a statement names: its literals, and columns of a row.
+//! Conditions, expressions, plans and SELECT ask; values are seen where they stand, and none is copied.
 
 ghost use Rattle.std.specs.Prelude.{◌≡◌};
 ghost use Rattle.inno_db.specs.Conditions.{literal_value, operand_value};

@@ -1,4 +1,5 @@
 //! The rows that INSERT and UPDATE make. A row is made whole here before anything is changed.
+//! The plain interpreter asks for them, and hands them on as changes; nothing is stored here.
 
 ghost use Rattle.std.specs.Prelude.{◌≡◌, ◌++◌, ◌∷◌, [], IfOk, Option, Some, None, slice_get, slice_set, slice_index_or};
 ghost use Rattle.inno_db.specs.Expressions.{literal_given, and_then};

@@ -1,7 +1,6 @@
-//! A law of statements under way: whatever step one has come to, what its item has changed is what an item may have changed
-//! that ends before its answer. So an engine whose device failed can end each item. The function has an empty body: its
-//! contract is the law. That ROLLBACK, ROLLBACK TO and a CREATE TABLE that finds its table have made no change is known of
-//! legal histories alone, as the lists keep them (`IsKept` of `sql_lists`).
+//! A law of statements under way: at each step an item has changed what one may that ends before its answer, so an
+//! engine whose device failed can end each. The function is empty; its contract is the law. That ROLLBACK, ROLLBACK TO
+//! and a CREATE TABLE that finds its table change nothing is known of legal histories alone (`IsKept` of `sql_lists`).
 
 ghost use Rattle.std.specs.Prelude.{ℕ};
 ghost use Rattle.sql_grammar.specs.Grammar.{Spells};

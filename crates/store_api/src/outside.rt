@@ -1,4 +1,5 @@
 //! What the program meets outside beside its files: memory, a source, a sink, a clock and a gate.
+//! There are traits and bare answers here: `disk_file` meets the outside by them, and `disk_mem` in tests.
 
 ghost use Rattle.std.specs.Prelude.{◌≡◌, ℕ, ◌<◌, List, length, Option, IfOk, IfSome};
 ghost use Rattle.std.specs.Io.{ReadsAtMost, WritesAtMost};

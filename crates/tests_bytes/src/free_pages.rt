@@ -1,4 +1,5 @@
 //! Pages are taken until none is free, one comes back, and it is taken again.
+//! Only `space_map` is tried, over a list of pages; nothing here meets a disk.
 
 use mtr::{ListedPages, Mtr};
 use space_map::{free_count, give, take};

@@ -1,4 +1,5 @@
 //! Entries of one record of three columns, of which the second is the primary one.
+//! Only `secondary` is tried: no row is read and no index is met.
 
 use inno_types::{Bytes, Column, Columns, Key, Keys, Kind, Schema};
 use secondary::{entry_from, has_secondary};

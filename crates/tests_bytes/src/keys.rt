@@ -1,4 +1,5 @@
 //! Bytes that are known from outside: the keys of numbers and texts, and the entries of a key on a nullable number.
+//! Only `key_codec` is tried.
 
 use inno_types::{Bytes, Kind, Value};
 use key_codec::{KeyBad, get_key, put_entry, put_key};

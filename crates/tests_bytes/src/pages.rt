@@ -1,4 +1,5 @@
 //! Pages whose room, sum and number are known from outside, and one whose records are edited.
+//! Only `page_format` is tried; no page comes from a file.
 
 ghost use Rattle.std.specs.Prelude.{◌≡◌, length, IfOk};
 ghost use Rattle.page_format.specs.Shape.{HasTreeFields, AreRising};

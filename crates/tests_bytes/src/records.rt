@@ -1,4 +1,5 @@
-//! Records whose bytes are known from outside.
+//! Records whose bytes are known from outside: read as rows, and spelled again.
+//! Only `row_codec` is tried.
 
 ghost use Rattle.std.specs.Prelude.{◌≡◌};
 

@@ -1,4 +1,5 @@
 //! Sums that are published for 64-bit FNV-1a.
+//! Only `sum64` is tried.
 
 use sum64::fnv;
 

@@ -1,4 +1,5 @@
 //! Tables are made, and the catalog tells them. Pages that break a rule are named.
+//! The catalog is tried over a list of pages; nothing here meets a disk.
 
 ghost use Rattle.std.specs.Prelude.{◌≡◌, [], IsTrue, IfOk};
 ghost use Rattle.catalog.specs.Tables.{is_new_name, IsCatalog};

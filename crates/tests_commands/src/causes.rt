@@ -1,4 +1,5 @@
 //! The line that is said of a fault on standard error.
+//! No command runs here: each fault is made up.
 
 use script_runner::{Fault, cause_line};
 use std::test::Fail;

@@ -1,4 +1,5 @@
 //! Commands, and what the program prints of them.
+//! Each goes through the program's top call, over a disk, a source and a sink in memory.
 
 use disk_mem::{FixedClock, MemDisk, MemSink, MemSource, OpenGate};
 use inno_types::{Bytes, Listed};

@@ -1,4 +1,5 @@
 //! A crash at each moment of a run, with each of the images that a crash may leave: what the files hold then.
+//! The disk in memory tells what each crash may leave; no file is touched.
 
 use crate::program::{Ran, SCRIPT, acknowledged, held, made, played};
 use disk_mem::{MemDisk, Pick};

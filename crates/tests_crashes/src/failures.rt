@@ -1,4 +1,5 @@
 //! A disk of which one call fails: what is answered, and that what was acknowledged stays.
+//! The disk in memory is told which call fails; the program knows nothing of it.
 
 use crate::program::{Ran, SCRIPT, acknowledged, held, made, played};
 use disk_mem::{MemDisk, Pick};

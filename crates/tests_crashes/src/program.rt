@@ -1,4 +1,5 @@
 //! What the tests of this crate share: a run of the program over a disk in memory, and what comes of it.
+//! No test stands here; `crashes`, `failures` and `refusals` share it.
 
 use disk_mem::{FixedClock, MemDisk, MemSink, MemSource, OpenGate};
 use inno_model::{Event, History};

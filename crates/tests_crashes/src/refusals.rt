@@ -1,4 +1,5 @@
 //! Files that are no database, or are damaged: what the program says of them.
+//! The files are those of a disk in memory, which the tests change between two runs.
 
 use crate::program::{Ran, made, played};
 use disk_mem::MemDisk;

@@ -1,4 +1,5 @@
 //! What no clause says: worked images, and that the calls which are to fail do, and no others.
+//! Only `disk_mem` is tried; no file is touched.
 
 use disk_mem::{FixedClock, MemDisk, MemSink, MemSource, OpenGate, Pick};
 use inno_types::{Bytes, Ids};

@@ -1,4 +1,5 @@
 //! No clause says what real files do: each object once over the test's own folder.
+//! The files that `disk_file` makes here are real ones; only this test's own folder is touched.
 
 use disk_file::{FileDisk, FileSource, StdSink, SystemClock};
 use inno_types::Bytes;

@@ -1,4 +1,5 @@
 //! The database of the tests: t has 200 rows, whose a is the last digit of i, and u has 100, whose a is 7.
+//! `opened` alone asks for it; each row comes in by `Opening`, and none from a file.
 
 ghost use Rattle.std.specs.Prelude.{◌≡◌, ◌≤◌, ◌∷◌, [], IfOk};
 ghost use Rattle.tests_engine.specs.Tables.{table_named, HasBoth};

@@ -1,4 +1,5 @@
 //! Latches, as those who work on pages ask for them. Memory is ample here.
+//! Only `latch_table` is tried: there are no pages here.
 
 ghost use Rattle.std.specs.Prelude.{◌<◌};
 

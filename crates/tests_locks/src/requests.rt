@@ -1,4 +1,5 @@
 //! Requests, grants and records that appear and go, as a session's user sees them. Memory is ample here.
+//! The lock table is tried alone, without an engine; `rooms` shares how a lock is asked for.
 
 ghost use Rattle.std.specs.Prelude.{IsTrue, ◌↔◌, ◌≡◌, true};
 ghost use Rattle.lock_rules.specs.Rules.{fits};

@@ -1,4 +1,5 @@
 //! Locks whose memory is taken before they are asked for, and the question whether a request would wait.
+//! The lock table is tried alone, without an engine.
 
 ghost use Rattle.lock_table.specs.Keys.{IsShort};
 

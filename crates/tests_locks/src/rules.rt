@@ -1,4 +1,5 @@
 //! The table of conflicts, and the numbers of the rules, as the documentation has them.
+//! Only `lock_rules` is tried: no lock is kept.
 
 use inno_types::{Bound, Bytes, Level, Lock, LockKind, Mode, Range, Reason, Spot};
 use lock_rules::{Case, Place, Rule, conflicts, fits, rule_for};

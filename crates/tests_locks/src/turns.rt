@@ -1,4 +1,5 @@
 //! Two threads take the turn of one gate, over a fake engine that only writes its calls down.
+//! Only `turn_rule` is tried: neither a real engine nor a database is met.
 
 ghost use Rattle.std.specs.Prelude.{◌≡◌, ◌+◌, ◌<◌, [], ◌∷◌, ◌++◌, length, IfOk, OnOk, OnErr};
 ghost use Rattle.inno_types.specs.declared.reply.Item.TheVariants.{Sql};

@@ -1,4 +1,5 @@
 //! Groups with their bytes, as they were worked out by hand.
+//! Only `log_format` spells here; no log is kept and no disk met.
 
 use inno_types::{Bytes, Column, Key, Kind, Listed, Schema, Value};
 use log_format::{Group, Record, put_group};

@@ -1,4 +1,5 @@
 //! A flush in two halves, with a group appended between them; and a reader of the groups that stand in the log then.
+//! The log and its reader are tried over a disk in memory.
 
 ghost use Rattle.redo_log.specs.Halves.{WrittenView, IsFront};
 

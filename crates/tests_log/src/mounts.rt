@@ -1,4 +1,5 @@
 //! New files, files with a log of rows, and what a mount makes of a page 0 that was changed.
+//! `file_zero` is tried over a disk in memory; no engine opens on what it mounts.
 
 use disk_mem::MemDisk;
 use file_zero::{init, mount};

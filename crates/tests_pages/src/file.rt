@@ -1,4 +1,5 @@
 //! A file of pages on a disk in memory, of which the first ones are written.
+//! No test stands here; `checkpoints` and `many_pages` begin with it.
 
 use disk_mem::MemDisk;
 use inno_types::Ids;

@@ -1,4 +1,5 @@
 //! Scripts, and what the program prints of them.
+//! Nothing is called but the top call (`run`), over a disk, a source and a sink in memory.
 
 use disk_mem::{FixedClock, MemDisk, MemSink, MemSource, OpenGate};
 use inno_types::{Bytes, Ids, Listed};

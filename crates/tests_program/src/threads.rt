@@ -1,4 +1,5 @@
 //! Sessions on threads: they run side by side, each is answered, and what they leave is what they were to leave.
+//! The threads are real; a gate of the test lets sessions meet, and the disk is one in memory.
 
 use disk_mem::{FixedClock, MemDisk, MemSink, MemSource};
 use inno_types::{Bytes, Listed};

@@ -1,4 +1,5 @@
 //! Conditions and right sides of assignments as text, with brackets round every operator.
+//! No test stands here; `statement` alone spells by these.
 
 use crate::rendering::{push_if, push_literal, push_name, push_text, push_tuple};
 use inno_types::{Comparison, Expr, Filter, Literal, Operand};

@@ -1,4 +1,5 @@
 //! Databases as SQL, and generated scripts, each with the text that is wanted.
+//! The databases are made by the plain interpreter; no engine runs here.
 
 use crate::answers::answer;
 use crate::scripts::ALL;

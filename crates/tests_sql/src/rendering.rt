@@ -1,4 +1,5 @@
 //! Names, literals and lists of them as text, each after what was written before.
+//! No test stands here; `statement` and `condition` spell by these.
 
 use inno_types::{Bytes, Literal, Literals, Names};
 use std::alloc::{AllocError, Global};

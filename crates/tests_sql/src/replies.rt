@@ -1,4 +1,5 @@
 //! What a script's sessions print of each kind of reply.
+//! The history is made up: no engine answers here.
 
 use crate::scripts::bytes;
 use inno_model::{Event, History};

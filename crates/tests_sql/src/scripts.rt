@@ -1,4 +1,5 @@
-//! Scripts that are read and written again, and texts that are none, each with the line that is bad or the limit that it passes.
+//! Scripts that are read and written again, and texts that are none, each with the line that is bad or the limit that
+//! it passes. Only the crate `script` is tried: no statement of a script is parsed or run.
 
 use inno_types::{Bytes, Item, Listed};
 use script::{Directives, Script, ScriptBad, ScriptItem, WriteBad, read_script, write_script};

@@ -1,4 +1,5 @@
 //! Statements as text: what the parser makes of bytes, or where it refuses them.
+//! No test stands here; `trees` compares what comes of it.
 
 use crate::condition::{push_expression, push_filter};
 use crate::rendering::{push_comma, push_if, push_name, push_names, push_text, push_tuple};

@@ -1,4 +1,5 @@
-//! Many sessions on threads over the database of a disk in memory. There is nothing here but tests.
+//! Many sessions on threads over the database of a disk in memory.
+//! There is nothing here but tests.
 #![tactic(auto)]
 
 #[cfg(test)]

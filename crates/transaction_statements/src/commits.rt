@@ -1,4 +1,5 @@
 //! The steps of COMMIT, of SET autocommit that turns it on, and of BEGIN: each commits an open transaction first.
+//! The machine (`statement`) alone calls these, by its state.
 
 ghost use Rattle.std.specs.Prelude.{◌≡◌, ◌<◌, length};
 ghost use Rattle.sql_lists.specs.Steps.{Steps};

@@ -1,4 +1,5 @@
 //! The statements that commit an open transaction before anything else.
+//! `statement` makes one as such a statement begins, and the machine's states hand it on to `commits`.
 
 ghost use Rattle.std.specs.Prelude.{◌≡◌};
 ghost use Rattle.transaction_statements.specs.Committing.{stmt_of};

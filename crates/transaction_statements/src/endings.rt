@@ -1,4 +1,5 @@
 //! How items of statements on transactions end.
+//! `statement` calls the steps; `commits` and `rollbacks` end their items by `finish`.
 
 ghost use Rattle.std.specs.Prelude.{◌≡◌, ◌<◌, length};
 ghost use Rattle.inno_types.specs.declared.reply.Reply.TheVariants.{Done as DoneReply};

@@ -1,4 +1,5 @@
 //! The steps of ROLLBACK and of ROLLBACK TO. A change is taken back by several of them.
+//! The machine (`statement`) alone calls these; each takes back one step more by the lists (`undo`), or ends the item.
 
 ghost use Rattle.std.specs.Prelude.{◌≡◌, ◌<◌, length};
 ghost use Rattle.inno_model.specs.Past.{own, IsOpen};

@@ -1,4 +1,5 @@
-//! The steps of SAVEPOINT.
+//! The steps of SAVEPOINT. The machine (`statement`) alone calls them. Without autocommit a transaction is opened
+//! first.
 
 ghost use Rattle.std.specs.Prelude.{◌≡◌, ◌<◌, length};
 ghost use Rattle.shared_lists.specs.Tasks.{Idle};

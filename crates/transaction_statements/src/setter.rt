@@ -1,4 +1,5 @@
 //! The statements that have nothing to do but to be done. They reach their session's settings by the history alone.
+//! `statement` and `savepoints` make one, and `endings` ends its item.
 
 ghost use Rattle.std.specs.Prelude.{◌≡◌};
 ghost use Rattle.transaction_statements.specs.Committing.{set_by};

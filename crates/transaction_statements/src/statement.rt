@@ -1,4 +1,5 @@
 //! A statement on transactions under way, its beginning and its steps.
+//! The crate `statement` alone makes and drives one.
 
 ghost use Rattle.std.specs.Prelude.{◌≡◌, ◌<◌, ℕ, true, false, length};
 ghost use Rattle.shared_lists.specs.Tasks.{Idle};

@@ -1,4 +1,5 @@
 //! The fences of a tree's page, and whether two pages meet at one.
+//! `node`, `rows` and `whole` ask, of bytes that they have; no page is fetched here.
 
 ghost use Rattle.std.specs.Prelude.{◌≡◌, length, MatchBool, MatchOption, None, Some};
 ghost use Rattle.page_format.specs.Shape.{HasTreeFields};

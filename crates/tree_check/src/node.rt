@@ -1,4 +1,5 @@
 //! Whether a page that was read may stand on a level of a tree. Nothing here asks for a page.
+//! `read_node` alone asks, of one page after another.
 
 ghost use Rattle.std.specs.Prelude.{◌≡◌, ◌≢◌, ◌<◌, ◌==◌, ◌||◌, length, MatchBool, OnOk, IfErr};
 ghost use Rattle.page_format.specs.Shape.{AreZeros, HasFields, HasTreeFields};

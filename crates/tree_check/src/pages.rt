@@ -1,4 +1,5 @@
 //! A page of a file, read where a tree leads to it: whether it may stand there.
+//! `rows` and `whole` read each page of a tree by this, and only where the map has it in use.
 
 ghost use Rattle.std.specs.Prelude.{◌≡◌, ◌<◌, ◌≤◌, length, MatchBool, OnOk, IfErr};
 ghost use Rattle.stored_pages.specs.Words.{u32_at};

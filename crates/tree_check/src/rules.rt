@@ -1,4 +1,5 @@
 //! Which rule of a mount a fault breaks, as a mount reports it.
+//! No mount asks so far: none reads trees yet.
 
 ghost use Rattle.std.specs.Prelude.{◌≡◌};
 ghost use Rattle.tree_check.specs.Rules.{rule_in_page, rule_on_level, rule_at_page, rule_broken};

@@ -1,4 +1,6 @@
-//! The first pages of a file, which every tree's pages depend on: page 0 counts the pages, and the map says which are in use.
+//! The first pages of a file, which every tree's pages depend on: page 0 counts the pages, and the map says which are
+//! in use. `pages` and `whole` count and look pages up here; `check_space` is asked before any tree, so far by tests
+//! alone.
 
 ghost use Rattle.std.specs.Prelude.{◌≡◌, ℕ, ◌<◌, ◌≤◌, length, MatchBool, OnOk, OnErr, IfErr};
 ghost use Rattle.stored_pages.specs.Words.{u32_at};

@@ -1,4 +1,5 @@
 //! All levels of a tree over the pages of a file, from the root down.
+//! It is asked for one tree after another, so far by tests alone; the pages are only read.
 
 ghost use Rattle.std.specs.Prelude.{◌≡◌, ◌<◌, ◌≤◌, ℕ, [], ◌∷◌, length, IfOk, IfErr, OnOk, OnErr};
 ghost use Rattle.page_format.specs.Words.{level_of};

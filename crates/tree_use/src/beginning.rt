@@ -1,4 +1,5 @@
 //! Whether the pages hold a tree that was just made: a root in use that is an empty leaf.
+//! `TreeUse::begin` alone asks, before the index has a user; no page is changed.
 
 ghost use Rattle.std.specs.Prelude.{◌≡◌, ◌<◌, ◌≤◌, ℕ, false, [], length, IsTrue, IfOk, IfErr, MatchBool};
 ghost use Rattle.page_format.specs.Shape.{AreZeros};

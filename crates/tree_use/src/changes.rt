@@ -1,4 +1,5 @@
-//! Changes of a tree on pages that are all in memory, each a mini-transaction of its own that stands when the call ends.
+//! Changes of a tree on pages that are all in memory, each a mini-transaction of its own that stands when the call
+//! ends. `pages` alone makes them, for the calls of `TreeUse`.
 
 ghost use Rattle.std.specs.Prelude.{◌≡◌, true, false, length, IfOk, OnErr};
 ghost use Rattle.btree.specs.Sound.{tree_pairs};

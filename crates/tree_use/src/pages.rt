@@ -1,4 +1,5 @@
-//! The pages of an index's tree between two mini-transactions, and room for a row that is read. `TreeUse` alone calls these.
+//! The pages of an index's tree between two mini-transactions, and room for a row that is read.
+//! `TreeUse` has them to itself, and alone calls these.
 
 ghost use Rattle.std.specs.Prelude.{◌≡◌, ◌≤◌, false, true, length, is_some, Some, IsSome, IfOk, vec_capacity};
 ghost use Rattle.entries.specs.Pairs.{AreSound, value_of, first_from, first_after};

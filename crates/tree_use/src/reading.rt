@@ -1,4 +1,5 @@
-//! Reads of a tree on pages that are all in memory: none of them is hindered. Each begins and ends between mini-transactions.
+//! Reads of a tree on pages that are all in memory: none of them is hindered. Each begins and ends between
+//! mini-transactions. The other files of this crate alone read by these.
 
 ghost use Rattle.std.specs.Prelude.{◌≡◌, ◌≢◌, ◌≤◌, true, false, length, is_some, Some, None, Ok, IsTrue, IsOk, IfOk, IfErr, OnOk, vec_capacity};
 ghost use Rattle.mtr.specs.Calls.{GivesUp};

@@ -1,4 +1,5 @@
 //! An index in a tree: its pages, the place of each actor, and who is awaited.
+//! It is driven through `Entries`; no engine has such an index yet, only tests.
 
 ghost use Rattle.std.specs.Prelude.{◌≡◌, ◌≤◌, IsTrue, IfOk, MatchOption, MatchResult, None};
 ghost use Rattle.std.specs.Ordering.{nat_cmp};

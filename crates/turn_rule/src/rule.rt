@@ -1,4 +1,5 @@
 //! What each seat of the turnstile knows, and what each kind of step tells it. Ghost state alone: nothing here runs.
+//! `gate` alone plays these steps; a seat's pass holds its `View`.
 
 use atomic_table::{Join, Play, Split, TableRule};
 use inno_model::{Board, Recorded};

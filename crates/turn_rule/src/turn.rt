@@ -1,4 +1,5 @@
 //! A whole turn, made of the steps of the gate: enter and take, then put, publish and depart.
+//! `turn_engine` takes each turn by these two. Nothing here waits: who has missed is told who holds the turn.
 
 ghost use Rattle.std.specs.Prelude.{◌≡◌, ◌≢◌, [], MatchResult};
 ghost use Rattle.turn_rule.specs.Steps.{IsAtRest, HasTurn, MayHandBack, idle, published};

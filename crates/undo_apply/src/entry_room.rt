@@ -1,4 +1,5 @@
-//! Room for entries of secondary keys that are made without taking memory. Only the steps that take a change back use it.
+//! Room for entries of secondary keys that are made without taking memory.
+//! A session's `WorkRoom` holds it, and only the steps that take a change back use it.
 
 ghost use Rattle.std.specs.Prelude.{◌≡◌, ◌≤◌, ◌↔◌, ℕ, List, length, IsTrue, Some, IfOk, slice_get};
 ghost use Rattle.store_api.specs.declared.answers.Version.{Version};

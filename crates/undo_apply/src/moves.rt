@@ -1,4 +1,5 @@
 //! How a step that was made, or not, leaves the room.
+//! `key_steps` and `record_steps` alone end their steps by these.
 
 ghost use Rattle.std.specs.Prelude.{◌≡◌};
 ghost use Rattle.undo_apply.specs.Moves.{WentOn, WentOnOrEnded, Ended};

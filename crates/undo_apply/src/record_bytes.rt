@@ -1,4 +1,5 @@
 //! What is read off the bytes of a clustered record's value, without decoding its row: the mark and the roll pointer.
+//! `key_steps` alone asks.
 
 ghost use Rattle.std.specs.Prelude.{◌≡◌, ◌<◌, ◌^◌, ℕ, List, ◌++◌, Bool};
 ghost use Rattle.row_codec.specs.Rows.{head_code};

@@ -1,4 +1,5 @@
 //! The steps that deal with the record: it is found first, and put back last.
+//! `put_back` alone calls these, by the stage that the room is in.
 
 ghost use Rattle.std.specs.Prelude.{◌≡◌, ◌*◌, ◌↔◌, IsTrue, Some};
 ghost use Rattle.law_stored_rows.specs.Edits.{clustered_index};

@@ -1,4 +1,5 @@
-//! The calls of a world that the engine alone makes. So far such a world tells all that it holds, as worlds in memory do.
+//! The calls of a world that the engine alone makes. So far such a world tells all that it holds, as worlds in memory
+//! do. `world_lists` alone makes them, and `ListWorld` alone answers them.
 
 ghost use Rattle.std.specs.Prelude.{◌≡◌, ◌+◌, ◌<◌, ◌≤◌, ◌^◌, true, is_some, length, OnOk, OnErr, IfOk};
 ghost use Rattle.inno_db.specs.declared.limits.TheConstants.{MOST_KEYS};

@@ -1,4 +1,5 @@
-//! Laws on what calls of a world answer, and on how its store goes on. Nothing calls these functions.
+//! Laws on what calls of a world answer, and on how its store goes on.
+//! The functions are empty, and nothing calls them.
 
 ghost use Rattle.std.specs.Prelude.{◌≡◌, ℕ, Option};
 ghost use Rattle.entries.specs.Index.{Paged};

@@ -1,4 +1,5 @@
-//! Room for one undo record that is read without taking memory. Rollback keeps one for each log.
+//! Room for one undo record that is read without taking memory.
+//! A session's desk keeps one, and a world reads a record into it (`last`).
 
 ghost use Rattle.std.specs.Prelude.{IfOk};
 ghost use Rattle.world.specs.Undoing.{HoldsRecord};

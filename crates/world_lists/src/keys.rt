@@ -1,4 +1,5 @@
 //! The keys at which rows are changed.
+//! `steps` alone asks, as a change of a row begins.
 
 ghost use Rattle.std.specs.Prelude.{◌≡◌, IfOk, Some, slice_get};
 ghost use Rattle.inno_types.specs.declared.value.Column.{Column};

@@ -1,4 +1,5 @@
-//! The lists themselves.
+//! The lists themselves: a world, a desk for each session, and who may write.
+//! An engine's opening makes them, and the calls in `steps` alone change them.
 
 ghost use Rattle.std.specs.Prelude.{◌≡◌, ◌<◌, ◌^◌, length, IfOk};
 ghost use Rattle.desks.specs.Holding.{IsFresh};

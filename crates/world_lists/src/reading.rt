@@ -1,4 +1,5 @@
 //! The parts of searches: how a reader sees rows, and a whole search of the newest rows.
+//! `steps` alone calls these, for the search of one session.
 
 ghost use Rattle.std.specs.Prelude.{◌≡◌, ◌≢◌, ℕ, ◌<◌, ◌≤◌, true, false, length, map, IfOk, IfSome, OnOk, Some};
 ghost use Rattle.store_api.specs.declared.stepped.Stepped.TheVariants.{Went, Done};

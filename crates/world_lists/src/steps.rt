@@ -1,4 +1,5 @@
 //! The calls that statements make.
+//! `SqlLists` makes them, by the trait `SharedLists`; each is one short step of one session.
 
 use crate::keys::key_of_edit;
 use crate::lists::{WorldLists, is_short};

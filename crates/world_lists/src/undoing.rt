@@ -1,4 +1,5 @@
 //! The parts of changes of rows, and of their taking back.
+//! `steps` alone calls these, with the world and the session's desk in its hands.
 
 ghost use Rattle.std.specs.Prelude.{◌≡◌, ◌≢◌, ℕ, ◌-◌, ◌<◌, Option, false, [], length, slice_get, Some, IsTrue, ◌↔◌, IfSome, IfNone};
 ghost use Rattle.inno_types.specs.declared.value.Schema.{Schema};

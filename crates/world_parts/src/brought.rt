@@ -1,4 +1,5 @@
 //! What an undo record brings to a world. All memory for it is taken here, before anything changes.
+//! Only the logged changes of `list_world` ask, and put it in place together with the pair.
 
 ghost use Rattle.std.specs.Prelude.{◌≡◌, ◌==◌, IfOk, Some};
 ghost use Rattle.store_api.specs.declared.answers.Version.{Version};

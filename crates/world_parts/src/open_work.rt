@@ -1,4 +1,5 @@
-//! What is kept of an open transaction. Rooms of sessions alone have such values.
+//! What is kept of an open transaction: its id, its view and its undo records.
+//! Rooms of sessions alone keep such values; a world makes the ids that a view has seen.
 
 use inno_types::{Ids, Level};
 use std::marker::Model;

@@ -1,4 +1,5 @@
 //! What is copied out of a world.
+//! `list_world` alone calls these, for answers that outlast the call.
 
 ghost use Rattle.std.specs.Prelude.{◌≡◌, ◌≤◌, IfOk, OnErr, true, false, length, option_copied, vec_capacity};
 ghost use Rattle.world.specs.Undoing.{HoldsRecord, IsRead, read_into};

@@ -1,4 +1,5 @@
 //! A statement that knows enough rows of its table asks what its part does to them.
+//! `searching` comes here with the rows that it found; the other steps refuse and give up by these functions.
 
 ghost use Rattle.std.specs.Prelude.{◌≡◌, ◌<◌, ◌+◌, ◌*◌, ℕ, [], length};
 ghost use Rattle.shared_lists.specs.Tasks.{Idle};

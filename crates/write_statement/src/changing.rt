@@ -1,4 +1,5 @@
 //! A statement makes the changes of its parts, one after another, and then ends or commits.
+//! The machine alone calls these.
 
 ghost use Rattle.std.specs.Prelude.{◌≡◌, ◌<◌, ◌+◌, ℕ, [], ◌∷◌, ◌++◌, length};
 ghost use Rattle.inno_model.specs.declared.event.Event.TheVariants.{Changed as ChangedEvent};

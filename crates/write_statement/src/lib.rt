@@ -1,7 +1,6 @@
-//! INSERT, UPDATE and DELETE as a machine: each step makes one step of what the lists keep under way for the session, or adds
-//! one entry, and steps of other sessions may come between. It takes the right to write, searches its table, asks the plain
-//! interpreter what it does to the rows that were found, and makes these changes. An INSERT does so tuple by tuple. How it ends or takes
-//! back what it made is told by `giving_up`.
+//! INSERT, UPDATE and DELETE as a machine: it takes the right to write, searches its table, asks the plain interpreter
+//! what it does to the rows found, and makes these changes; an INSERT goes tuple by tuple. Each step is one of what the
+//! lists keep for the session, or adds one entry; other sessions' come between. How it ends is told by `giving_up`.
 #![tactic(auto)]
 
 mod answering;

@@ -1,4 +1,5 @@
 //! The states of the machine, and its step.
+//! `statement` alone makes and steps one; the other files of this crate say which state comes next.
 
 ghost use Rattle.std.specs.Prelude.{◌≡◌, ◌<◌, ℕ, length, true, false, None};
 ghost use Rattle.shared_lists.specs.Tasks.{Idle, asked};

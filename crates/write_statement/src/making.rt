@@ -1,4 +1,5 @@
 //! A statement makes the steps of one change.
+//! The machine alone calls these, while the lists have a change under way for the session.
 
 ghost use Rattle.std.specs.Prelude.{◌≡◌, ◌<◌, length, true};
 ghost use Rattle.sql_lists.specs.Steps.{Steps};

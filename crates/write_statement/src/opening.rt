@@ -1,4 +1,5 @@
 //! A statement opens a transaction where none is open, takes the right to write, and begins to search its table.
+//! The machine calls the steps; `changing` begins the search of each later part here.
 
 ghost use Rattle.std.specs.Prelude.{◌≡◌, ◌≢◌, ◌<◌, ◌≤◌, ◌+◌, ◌*◌, ℕ, IfOk, [], length, Some, None};
 ghost use Rattle.inno_db.specs.Refusals.{refusal};

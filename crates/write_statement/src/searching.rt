@@ -1,4 +1,5 @@
 //! A statement searches its table for a part, and then asks what the part does to the rows that were found.
+//! The machine alone calls this step.
 
 ghost use Rattle.std.specs.Prelude.{◌≡◌, ◌<◌, ◌+◌, ◌*◌, ℕ, length};
 ghost use Rattle.sql_lists.specs.Steps.{Steps};

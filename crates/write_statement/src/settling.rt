@@ -1,4 +1,5 @@
 //! What a part of a statement does to the rows that were found, by the plain interpreter.
+//! `answering` alone asks; the lists are not met, and no row is changed.
 
 ghost use Rattle.std.specs.Prelude.{◌≡◌, None, Some, true, IfOk, reverse};
 ghost use Rattle.inno_db.specs.Database.{Database};
