@@ -1,5 +1,5 @@
 //! How an engine is opened: on the database that the files of its disk stand for, over a world in memory.
-//! Tests and tools open sessions in memory alone here, without a disk and a log.
+//! Tests alone open sessions in memory here, without a disk and a log.
 
 ghost use Rattle.std.specs.Prelude.{◌≡◌, ◌<◌, ◌∷◌, [], ℕ, All, IfOk, IfErr};
 ghost use Rattle.inno_db.specs.Keyed.{IsKeyed};

@@ -1,4 +1,4 @@
-//! The calls by which statements, rollback and purge drive a world, in memory. Each ends at once, but where another actor
+//! The calls by which statements and rollback drive a world, in memory. Each ends at once, but where another actor
 //! is awaited or memory is wanting.
 
 ghost use Rattle.std.specs.Prelude.{◌≡◌, ◌+◌, ◌<◌, ◌^◌, true};

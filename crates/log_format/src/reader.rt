@@ -1,5 +1,5 @@
 //! The groups of a log area one after the other, read from the disk in pieces of 64 blocks: no more of the area stands in
-//! memory than a piece and the group that is under way. A mount asks here; nothing is written.
+//! memory than a piece and the group that is under way. Mounts and recovery ask here; nothing is written.
 
 ghost use Rattle.std.specs.Prelude.{◌≡◌, ◌+◌, ◌*◌, ◌<◌, ◌≤◌, ◌⊎◌, [], ℕ, List, length, drop, true, IfOk, IfErr, OnOk, OnErr, is_ok};
 ghost use Rattle.store_api.specs.Areas.{piece};

@@ -1,5 +1,6 @@
 //! Recovery: torn pages are put right, the log's whole groups are read, and they bring each page on by LSN.
-//! Whoever opens files that keep rows in pages calls `recover` first. It writes nothing but whole copies of torn pages.
+//! Whoever opens files that keep rows in pages is to call `recover` first; so far only tests do. It writes nothing but whole
+//! copies of torn pages.
 #![tactic(auto)]
 
 mod applying;

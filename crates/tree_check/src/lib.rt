@@ -1,6 +1,6 @@
-//! The check of trees when a file is mounted, over the pages of the file. `check_space` looks at the first pages, and `check_tree`
-//! walks each level of a tree beside the one above it, without memory. Pages that pass are a tree as it should be, on pages that
-//! are in use; and such a tree always passes, where the bytes of its pages are those pages.
+//! The check of trees over the pages of a file: `check_space` looks at the first pages, `check_tree` walks each level of a tree
+//! beside the one above it, without memory. Pages that pass are a tree as it should be, on pages that are in use; and such a
+//! tree always passes, where the bytes of its pages are those pages. A mount is to ask it; so far only tests do.
 #![tactic(auto)]
 
 mod fences;

@@ -1,5 +1,5 @@
 //! A world: the indexes, older versions, undo logs, transactions, sessions and the history of one engine, whatever they
-//! are kept in. Statements, rollback and purge are generic over `World`; `EngineWorld` adds what the engine alone asks:
+//! are kept in. Statements and rollback are generic over `World`; `EngineWorld` adds what the engine alone asks:
 //! sessions, items, tables and the history itself.
 #![tactic(auto)]
 
