@@ -63,10 +63,7 @@ impl CreateStatement {
         match self {
             CreateStatement::Unacked { stmt, level } => CreateStatement::Closed { stmt, level },
             CreateStatement::Committed { stmt } => CreateStatement::Ending { stmt },
-            other @ (CreateStatement::Asked { .. }
-            | CreateStatement::Closed { .. }
-            | CreateStatement::Ending { .. }
-            | CreateStatement::Failed) => other,
+            other => other,
         }
     }
 
@@ -94,11 +91,7 @@ impl CreateStatement {
                 drop(stmt);
                 CreateStatement::Failed
             }
-            other @ (CreateStatement::Asked { .. }
-            | CreateStatement::Unacked { .. }
-            | CreateStatement::Committed { .. }
-            | CreateStatement::Ending { .. }
-            | CreateStatement::Failed) => other,
+            other => other,
         }
     }
 

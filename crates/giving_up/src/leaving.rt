@@ -66,8 +66,7 @@ impl Leaving {
     {
         match self {
             Leaving::Unacked { kept, given } => Leaving::Ending { kept, given },
-            other @ (Leaving::BackingOut(_) | Leaving::Failed { .. } | Leaving::Ending { .. }) =>
-                other,
+            other => other,
         }
     }
 

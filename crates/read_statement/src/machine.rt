@@ -110,11 +110,7 @@ impl ReadStatement {
     {
         match self {
             ReadStatement::Leaving(leaving) => ReadStatement::Leaving(leaving.acked()),
-            other @ (ReadStatement::Opening(_)
-            | ReadStatement::Open { .. }
-            | ReadStatement::Viewed { .. }
-            | ReadStatement::Searching(_)
-            | ReadStatement::Found(_)) => other,
+            other => other,
         }
     }
 

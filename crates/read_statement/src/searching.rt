@@ -11,6 +11,7 @@ use crate::machine::{Found, Read, ReadStatement};
 use giving_up::Leaving;
 use shared_lists::SharedLists;
 use sql_lists::{Advance, SqlLists};
+use std::mem;
 use store_api::{NoMemory, Stepped};
 
 /// Makes one step of the search, whose rows are kept when it is over.
@@ -31,19 +32,21 @@ pub fn step_searching<L: SharedLists>(
         Stepped::Went => Advance::Went,
         Stepped::Done(rows) => {
             let Read { stmt, table, alone } = statement.read();
-            *statement = ReadStatement::Found(Found {
+            let found = Found {
                 stmt,
                 table,
                 alone,
                 rows,
-            });
+            };
+            drop(mem::replace(statement, ReadStatement::Found(found)));
             Advance::Went
         }
         Stepped::Hindered(NoMemory) => {
             let read = statement.read();
             let alone = read.alone;
             drop(read);
-            *statement = ReadStatement::Leaving(Leaving::Failed { alone });
+            let next = ReadStatement::Leaving(Leaving::Failed { alone });
+            drop(mem::replace(statement, next));
             Advance::NoMemory
         }
     }

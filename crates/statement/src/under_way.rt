@@ -63,7 +63,7 @@ impl Statement {
             Statement::Create(statement) => Statement::Create(statement.acked()),
             Statement::Read(statement) => Statement::Read(statement.acked()),
             Statement::Write(statement) => Statement::Write(statement.acked()),
-            other @ (Statement::Unread { .. } | Statement::Asked(_) | Statement::Failed) => other,
+            other => other,
         }
     }
 

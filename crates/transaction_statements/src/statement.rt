@@ -100,18 +100,7 @@ impl TransactionStatement {
             TransactionStatement::Unacked { committer } => {
                 TransactionStatement::Closed { committer }
             }
-            other @ (TransactionStatement::Quiet { .. }
-            | TransactionStatement::Missing { .. }
-            | TransactionStatement::Committing { .. }
-            | TransactionStatement::Closed { .. }
-            | TransactionStatement::Viewing
-            | TransactionStatement::Unviewed
-            | TransactionStatement::Begun { .. }
-            | TransactionStatement::Rollback
-            | TransactionStatement::RollbackTo { .. }
-            | TransactionStatement::Opening { .. }
-            | TransactionStatement::Saving { .. }
-            | TransactionStatement::Failed) => other,
+            other => other,
         }
     }
 

@@ -1,5 +1,5 @@
 -- The parts of a statement. An INSERT has one for each of its tuples, any other statement has one.
-use Rattle.std.specs.Prelude.{◌≡◌, ℕ, ◌≤◌, nat_lt, Bool, false, None, List, [], ◌∷◌, ◌++◌, length, reverse}
+use Rattle.std.specs.Prelude.{◌≡◌, ℕ, ◌≤◌, nat_lt, Bool, true, false, None, List, [], ◌∷◌, ◌++◌, length, reverse}
 use Rattle.inno_types.specs.declared.value.Schema.{Schema}
 use Rattle.inno_types.specs.declared.stmt.Literal.{Literal}
 use Rattle.inno_types.specs.declared.stmt.Stmt.{Stmt}
@@ -21,6 +21,10 @@ tuples_of other = 0
 abbrev pub has_parts : Stmt → Bool
 has_parts (stmt.Insert table columns tuples) = nat_lt 1 (length tuples)
 has_parts other = false
+
+abbrev pub is_insert : Stmt → Bool
+is_insert (stmt.Insert table columns tuples) = true
+is_insert other = false
 
 -- an INSERT with this tuple alone
 abbrev pub with_tuple : List Literal → Stmt → Stmt

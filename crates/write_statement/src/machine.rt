@@ -106,12 +106,7 @@ impl WriteStatement {
     {
         match self {
             WriteStatement::Leaving(leaving) => WriteStatement::Leaving(leaving.acked()),
-            other @ (WriteStatement::Fresh { .. }
-            | WriteStatement::Locking { .. }
-            | WriteStatement::Searching(_)
-            | WriteStatement::Changing { .. }
-            | WriteStatement::Making { .. }
-            | WriteStatement::Finishing { .. }) => other,
+            other => other,
         }
     }
 
@@ -195,7 +190,7 @@ impl WriteStatement {
             WriteStatement::Leaving(Leaving::Failed { alone: false }),
         );
         let (next, answer) = statement.stepped(alloc, session, lists);
-        *self = next;
+        drop(mem::replace(self, next));
         answer
     }
 

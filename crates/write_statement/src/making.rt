@@ -12,6 +12,7 @@ use crate::machine::{Part, WriteStatement};
 use inno_db::Change;
 use shared_lists::{ChangePart, SharedLists};
 use sql_lists::{Advance, SqlLists};
+use std::mem;
 use store_api::{NoMemory, Stepped};
 
 /// Makes a step of a change that the history doesn't tell yet, and by which it will hold so many rows more.
@@ -32,7 +33,7 @@ pub fn step_making<L: SharedLists>(
         Some(_) => {
             let (part, todo) = statement.parts();
             let (next, answer) = stop_making(part, todo, rows, session, lists);
-            *statement = next;
+            drop(mem::replace(statement, next));
             answer
         }
         None => step_change(statement, session, lists),
@@ -77,19 +78,19 @@ pub fn step_change<L: SharedLists>(
         Stepped::Went => Advance::Went,
         Stepped::Done(ChangePart::Record) => {
             let (part, todo) = statement.parts();
-            *statement = WriteStatement::Finishing { part, todo };
+            drop(mem::replace(statement, WriteStatement::Finishing { part, todo }));
             Advance::Went
         }
         Stepped::Done(ChangePart::Keys) => {
             let (part, todo) = statement.parts();
-            *statement = WriteStatement::Changing { part, todo };
+            drop(mem::replace(statement, WriteStatement::Changing { part, todo }));
             Advance::Went
         }
         Stepped::Hindered(NoMemory) => {
             let (part, todo) = statement.parts();
             drop(todo);
             let (next, answer) = give_up(part);
-            *statement = next;
+            drop(mem::replace(statement, next));
             answer
         }
     }

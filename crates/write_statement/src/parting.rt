@@ -11,7 +11,7 @@ ghost use Rattle.inno_db.specs.Outcome.{outcome};
 ghost use Rattle.inno_db.specs.Refusals.{refusal};
 ghost use Rattle.inno_db.specs.Keyed.{IsKeyed};
 ghost use Rattle.write_statement.specs.Following.{followed_by};
-ghost use Rattle.write_statement.specs.Parts.{IsFirstPart, has_parts, with_tuple};
+ghost use Rattle.write_statement.specs.Parts.{IsFirstPart, has_parts, is_insert, with_tuple};
 
 use crate::machine::Part;
 use inno_types::{Boxed, Bytes, Literals, Names, Stmt, Tuples};
@@ -50,36 +50,20 @@ pub fn first_part(
 
 /// Takes an INSERT of several tuples apart.
 fn cut(alloc: Global, stmt: Stmt, table: u8, alone: bool, before: usize) -> Result<Part, NoMemory>
-    ensures { (schemas : List Schema) → has_parts stmt ≡ true → refusal schemas stmt ≡ None → IfOk result (IsFirstPart schemas stmt table alone before) }
+    requires parts { has_parts stmt ≡ true }
+    ensures { (schemas : List Schema) → refusal schemas stmt ≡ None → IfOk result (IsFirstPart schemas stmt table alone before) }
 {
-    match stmt {
-        Stmt::Insert {
-            table: name,
-            columns,
-            tuples,
-        } => {
-            let mut later = tuples.into_vec();
-            later.reverse();
-            cut_off(alloc, name, columns, later, table, alone, before)
-        }
-        stmt @ (Stmt::CreateTable { .. }
-        | Stmt::Select { .. }
-        | Stmt::Update { .. }
-        | Stmt::Delete { .. }
-        | Stmt::Begin { .. }
-        | Stmt::Commit
-        | Stmt::Rollback
-        | Stmt::RollbackTo { .. }
-        | Stmt::Savepoint { .. }
-        | Stmt::SetAutocommit(_)
-        | Stmt::SetLevel { .. }) => Ok(Part {
-            stmt: Boxed::new(alloc, stmt)?,
-            later: Vec::new(alloc),
-            table,
-            alone,
-            before,
-        }),
-    }
+    let Stmt::Insert {
+        table: name,
+        columns,
+        tuples,
+    } = stmt
+    else {
+        unreachable!()
+    };
+    let mut later = tuples.into_vec();
+    later.reverse();
+    cut_off(alloc, name, columns, later, table, alone, before)
 }
 
 /// An INSERT's part of the tuple that stands last.
@@ -149,17 +133,36 @@ pub fn next_tuple(
 fn with_tuple(stmt: Stmt, tuple: Literals) -> Result<Stmt, NoMemory>
     ensures { IfOk result (λ part. part ≡ with_tuple tuple stmt) }
 {
+    if is_insert(&stmt) {
+        return of_next_tuple(stmt, tuple);
+    }
+    drop(tuple);
+    Ok(stmt)
+}
+
+fn of_next_tuple(stmt: Stmt, tuple: Literals) -> Result<Stmt, NoMemory>
+    requires insert { is_insert stmt ≡ true }
+    ensures { IfOk result (λ part. part ≡ with_tuple tuple stmt) }
+{
+    let Stmt::Insert {
+        table,
+        columns,
+        tuples,
+    } = stmt
+    else {
+        unreachable!()
+    };
+    let mut tuples = tuples.into_vec();
+    tuples.clear();
+    of_tuple(table, columns, tuples, tuple)
+}
+
+fn is_insert(stmt: &Stmt) -> bool
+    ensures { result ≡ is_insert stmt.now }
+{
     match stmt {
-        Stmt::Insert {
-            table,
-            columns,
-            tuples,
-        } => {
-            let mut tuples = tuples.into_vec();
-            tuples.clear();
-            of_tuple(table, columns, tuples, tuple)
-        }
-        other @ (Stmt::CreateTable { .. }
+        Stmt::Insert { .. } => true,
+        Stmt::CreateTable { .. }
         | Stmt::Select { .. }
         | Stmt::Update { .. }
         | Stmt::Delete { .. }
@@ -169,10 +172,7 @@ fn with_tuple(stmt: Stmt, tuple: Literals) -> Result<Stmt, NoMemory>
         | Stmt::RollbackTo { .. }
         | Stmt::Savepoint { .. }
         | Stmt::SetAutocommit(_)
-        | Stmt::SetLevel { .. }) => {
-            drop(tuple);
-            Ok(other)
-        }
+        | Stmt::SetLevel { .. } => false,
     }
 }
 

@@ -13,6 +13,7 @@ use inno_types::Rows;
 use shared_lists::SharedLists;
 use sql_lists::{Advance, SqlLists};
 use std::alloc::Global;
+use std::mem;
 use store_api::{NoMemory, Stepped};
 
 /// Makes one step of the search.
@@ -33,12 +34,12 @@ pub fn step_searching<L: SharedLists>(
         Stepped::Done(rows) => {
             let part = statement.part();
             let (next, answer) = answer_found(alloc, part, rows, session, lists);
-            *statement = next;
+            drop(mem::replace(statement, next));
             answer
         }
         Stepped::Hindered(NoMemory) => {
             let (next, answer) = give_up(statement.part());
-            *statement = next;
+            drop(mem::replace(statement, next));
             answer
         }
     }

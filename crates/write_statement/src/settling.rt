@@ -6,7 +6,7 @@ ghost use Rattle.inno_db.specs.Database.{Database};
 ghost use Rattle.inno_db.specs.Outcome.{outcome, table_read};
 ghost use Rattle.inno_db.specs.Refusals.{refusal};
 ghost use Rattle.plain_sql.specs.Finding.{IsReadFrom};
-ghost use Rattle.giving_up.specs.Replies.{is_refusal};
+ghost use Rattle.giving_up.specs.Replies.{is_count, is_refusal};
 ghost use Rattle.write_statement.specs.Settling.{IsSettledBy};
 
 use inno_db::{Change, Outcome};
@@ -36,26 +36,29 @@ pub fn settle(
     ensures { IfOk result (λ settled. (db : Database) → IsReadFrom schemas.now rows.now stmt.now db → IsSettledBy stmt.now db settled) }
 {
     let Outcome { reply, changes } = plain_on_rows(alloc, schemas, table, rows, stmt)?;
+    if is_count(&reply) {
+        let mut todo = changes.into_vec();
+        todo.reverse();
+        return Ok(Settled::Todo(todo));
+    }
+    drop(changes);
+    let given = copied(&reply)?;
+    Ok(Settled::Refused { kept: reply, given })
+}
+
+/// Whether the rows were counted: the statement isn't refused.
+fn is_count(reply: &Reply) -> bool
+    ensures { result ≡ is_count reply.now }
+{
     match reply {
-        Reply::Count(_) => {
-            let mut todo = changes.into_vec();
-            todo.reverse();
-            Ok(Settled::Todo(todo))
-        }
-        refused @ (Reply::Fail(_)
+        Reply::Count(_) => true,
+        Reply::Fail(_)
         | Reply::Done
         | Reply::Rows(_)
         | Reply::RunLimit { .. }
         | Reply::NotSignalled { .. }
         | Reply::Stopped
-        | Reply::NoMemory) => {
-            drop(changes);
-            let given = copied(&refused)?;
-            Ok(Settled::Refused {
-                kept: refused,
-                given,
-            })
-        }
+        | Reply::NoMemory => false,
     }
 }
 

@@ -25,14 +25,18 @@ returns-in-Went-clause-nears g c =
 
 pub returns-in-Done-clause-steps : goal.returns-in-Done-clause-steps
 returns-in-Done-clause-steps g c =
+    rw (c.replace.ensures.after) (
     let read = c.read-stmt.result in
     let is = subst (λ (m : ReadStatement). IsRunning c.args.lists.now c.args.session m) c.read-stmt.ensures c.requires.running in
     let found = c.in-Done.ensures.searches read.table is.plan View is.task_is in
     search_finds c.args.session c.args.lists.now c.search.new.self read _ refl refl refl c.history.ensures.sound is found.0 found.1
+    )
 
 pub returns-in-Hindered-clause-steps : goal.returns-in-Hindered-clause-steps
 returns-in-Hindered-clause-steps g c =
+    rw (c.replace-in-Hindered.ensures.after) (
     let read = c.read-read.result in
     let is = subst (λ (m : ReadStatement). IsRunning c.args.lists.now c.args.session m) c.read-read.ensures c.requires.running in
     fails c.args.session c.args.lists.now c.search.new.self read.stmt read.alone
     (c.in-Hindered.ensures.searches read.table is.plan View is.task_is) is.early is.is_open
+    )

@@ -26,17 +26,23 @@ returns-in-Went-clause-steps g c =
 
 pub returns-in-Done-Record-clause-steps : goal.returns-in-Done-Record-clause-steps
 returns-in-Done-Record-clause-steps g c =
+    rw (c.replace.ensures.after) (
     change_entered c.args.session c.args.lists.now c.change.new.self c.args.statement.now c.change.result c.parts-part.result.0 c.parts-part.result.1
     c.parts-part.ensures c.requires.running (c.in-Done-Record.is ∙ ap Done c.in-Done-Record.field-0-is) c.change.ensures.changes
+    )
 
 pub returns-in-Done-Keys-clause-steps : goal.returns-in-Done-Keys-clause-steps
 returns-in-Done-Keys-clause-steps g c =
+    rw (c.replace-in-Done-Keys.ensures.after) (
     change_done c.args.session c.args.lists.now c.change.new.self c.args.statement.now c.change.result
     c.parts-part-in-Done-Keys.result.0 c.parts-part-in-Done-Keys.result.1 c.parts-part-in-Done-Keys.ensures c.requires.running
     (c.in-Done-Keys.is ∙ ap Done c.in-Done-Keys.field-0-is) c.change.ensures.changes
+    )
 
 pub returns-in-Hindered-clause-steps : goal.returns-in-Hindered-clause-steps
 returns-in-Hindered-clause-steps g c =
+    rw (c.replace-in-Hindered.ensures.after) (
     change_fails c.args.session c.args.lists.now c.change.new.self c.args.statement.now c.change.result
     c.parts-part-in-Hindered.result.0 c.parts-part-in-Hindered.result.1 c.give_up-next.result.0 c.give_up-next.result.1
     c.parts-part-in-Hindered.ensures c.requires.running c.in-Hindered.is c.change.ensures.changes c.give_up-next.ensures.state c.give_up-next.ensures.answer
+    )

@@ -45,13 +45,16 @@ answer_found-next-requires g c =
 
 pub returns-in-Done-clause-nears : goal.returns-in-Done-clause-nears
 returns-in-Done-clause-nears g c =
+    rw (c.replace.ensures.after) (
     subst (λ (m : WriteStatement). Nears to_go c.args.session c.args.lists.now m c.answer_found-next.new.lists c.answer_found-next.result.0
     c.answer_found-next.result.1) (sym c.part-part.ensures)
     (nears_of c.args.session c.args.lists.now (Searching c.part-part.result) c.answer_found-next.new.lists c.answer_found-next.result.0
     c.answer_found-next.result.1 (c.answer_found-next.ensures.nears _ _ _))
+    )
 
 pub returns-in-Done-clause-steps : goal.returns-in-Done-clause-steps
 returns-in-Done-clause-steps g c =
+    rw (c.replace.ensures.after) (
     let part = c.part-part.result in
     let r = subst (λ (m : WriteStatement). IsRunning c.args.lists.now c.args.session m) c.part-part.ensures c.requires.running in
     let turns =
@@ -63,9 +66,11 @@ returns-in-Done-clause-steps g c =
     (idle_asks_no_more c.args.session c.args.lists.now c.search.new.self (ap asked turns.task_is)) (turns.writer_is ∙
     keeper_writes c.args.session Tables c.args.lists.now.past c.args.lists.now.writer (r.reading.changing.keeps Tables tt))
     c.answer_found-next.ensures.steps
+    )
 
 pub returns-in-Hindered-clause-steps : goal.returns-in-Hindered-clause-steps
 returns-in-Hindered-clause-steps g c =
+    rw (c.replace-in-Hindered.ensures.after) (
     let part = c.part.result in
     let r = subst (λ (m : WriteStatement). IsRunning c.args.lists.now c.args.session m) c.part.ensures c.requires.running in
     let turns =
@@ -73,3 +78,4 @@ returns-in-Hindered-clause-steps g c =
     (c.search.ensures.searches part.table r.reading.plan Newest r.task_is) in
     changing_given_up c.args.session c.args.lists.now c.search.new.self Idle part (of_part part) [] c.give_up-next.result.0 c.give_up-next.result.1
     r.reading.changing turns (inl refl) c.give_up-next.ensures.state c.give_up-next.ensures.answer
+    )

@@ -1,6 +1,0 @@
-use Rattle.std.proofs.Common.{arith}
-use Rattle.std.proofs.lemmas.Grind.{common_steps}
-use Rattle.write_statement.proofs.settling.settle.Goals as goal
-
-pub returns-in-Count : goal.returns-in-Count
-returns-in-Count c = grind (arith, common_steps) steps 2000000
