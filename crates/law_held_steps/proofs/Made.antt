@@ -15,7 +15,7 @@ use Rattle.desks.specs.Holding.{IsHeld, SearchHeld, AreFew, IsLastOf, IsLastIfTo
 use Rattle.desks.specs.{Desks.Store, Desks.doing_at, Desks.with_doing, Desks.is_undoing, declared.desk.Desk.Desk, declared.desk.Doing.Doing}
 use Rattle.desks.specs.{declared.desk.Doing.TheVariants.Nothing, declared.desk.Doing.TheVariants.Changing, Undoing.keys_if}
 use Rattle.law_held_steps.proofs.Keeping.{open_work, open_joined, goes_same, goes_changed, leaves_lists, last_of_kept, keeps}
-use Rattle.law_held_steps.proofs.AnyStep.{given, there, rooms_then, changes_at_a_desk, each, HoldsAlone}
+use Rattle.law_held_steps.proofs.AnyStep.{given, there, rooms_then, changes_at_a_desk, HoldsAlone}
 use Rattle.law_held_steps.proofs.Putting.{rests_coded, held_given, changing_rows, alone_if}
 use Rattle.law_found_rows.proofs.FittingChanges.{tables_storable}
 use Rattle.law_world_agreement.specs.Agreement.{Agrees}

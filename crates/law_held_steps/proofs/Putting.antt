@@ -36,7 +36,8 @@ use Rattle.inno_model.specs.{declared.event.Event.Event, declared.event.Event.Th
 use Rattle.shared_lists.specs.{Tasks.Task, Tasks.MayTakeBack, Tasks.undo_to_go, Fitting.FitsThen, State.task_of, State.Turns}
 use Rattle.inno_types.specs.declared.value.Schema.{Schema}
 use Rattle.world.proofs.Memory.{no_pages}
-use Rattle.law_stored_rows.specs.{Records.LeadTo, Tables.Said, Tables.what_is_there}
+use Rattle.law_stored_rows.specs.{Records.LeadTo, Records.kept_of, Tables.Said, Tables.what_is_there}
+use Rattle.law_stored_rows.proofs.{KeptRows.found_of, RowRecords.leads_still}
 use Rattle.law_stored_rows.proofs.Tables.{popped_elsewhere}
 use Rattle.row_changes.proofs.{Telling.rows_beside, Sessions.same_pairs, Sessions.same_versions}
 use Rattle.desks.proofs.{Counting.versions_most, Counting.versions_are, Showing.task_is}
@@ -170,12 +171,17 @@ module _ (chains : Chains) (place : Place) (undo : Undo) (schema : Schema) (old 
       → StageHolds chains (what_is_there chains) place undo schema (rows_of new) read next
       → left_at keys most new.versions.kept_at next < left_at keys most new.versions.kept_at stage
   walks_near (Walk which pointer) (Walk other behind) walks was now =
-      let walked : HasWalked schema undo.key old.versions.kept_at which pointer was.0 (versions_before chains place) = was.3 in
-      let walking : HasWalked schema undo.key new.versions.kept_at other behind now.0 (versions_before chains place) = now.3 in
+      let walked : HasWalked schema undo.key (kept_of old.versions.kept_at undo.table undo.key) which pointer was.0 (versions_before chains place) = was.3 in
+      let walking : HasWalked schema undo.key (kept_of new.versions.kept_at undo.table undo.key) other behind now.0 (versions_before chains place) = now.3 in
+      let here : LeadTo schema undo.key new.versions.kept_at behind walking.left = leads_still schema undo.key
+      (kept_of new.versions.kept_at undo.table undo.key) new.versions.kept_at behind walking.left (found_of new.versions.kept_at undo.table undo.key)
+      walking.leads in
       let leads : LeadTo schema undo.key new.versions.kept_at pointer walked.left =
-      subst (λ (kept : ℕ → Option Kept). LeadTo schema undo.key kept pointer walked.left) (sym same) walked.leads in
-      let less = left_walks schema undo.key new.versions.kept_at keys most which pointer behind walked.left walking.left leads walking.leads
-      (omega (arith, walked.fewer, few)) (walks.1 tells walked.left walking.left leads walking.leads) in
+      subst (λ (kept : ℕ → Option Kept). LeadTo schema undo.key kept pointer walked.left) (sym same)
+      (leads_still schema undo.key (kept_of old.versions.kept_at undo.table undo.key) old.versions.kept_at pointer walked.left
+      (found_of old.versions.kept_at undo.table undo.key) walked.leads) in
+      let less = left_walks schema undo.key new.versions.kept_at keys most which pointer behind walked.left walking.left leads here
+      (omega (arith, walked.fewer, few)) (walks.1 tells walked.left walking.left leads here) in
       subst (λ (w : ℕ). left_at keys most new.versions.kept_at (Walk w behind) < left_at keys most new.versions.kept_at (Walk which pointer)) (sym walks.0) less
   walks_near stage next walks was now = absurd walks
 

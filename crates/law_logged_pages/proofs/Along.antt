@@ -1,5 +1,5 @@
 -- What pages read as along the groups of a run.
-use Rattle.std.proofs.Common.{◌≡◌, ◌⊎◌, inl, inr, ℕ, ◌+◌, ◌<◌, ◌≤◌, Bool, true, false, cond, Option, Some, List, ◌++◌, length, take, sym, ap, ◌∙◌, arith}
+use Rattle.std.proofs.Common.{◌≡◌, ◌⊎◌, inl, inr, ℕ, ◌+◌, ◌<◌, ◌≤◌, Bool, true, false, cond, Option, List, ◌++◌, length, take, sym, ap, subst, ◌∙◌, arith}
 use Rattle.std.proofs.Common.{length-append}
 use Rattle.std.specs.Prelude.{nat_lt}
 use Rattle.std.proofs.lemmas.Bool.{cases_lt}
@@ -14,17 +14,17 @@ use Rattle.law_logged_pages.specs.Keeping.{IsRun, Keeps, Recovers, durable}
 use Rattle.law_logged_pages.specs.Readings.{IgnoresSums, ReadsAlong, HoldsCommits}
 use Rattle.law_logged_pages.proofs.Recovery.{image_recovers}
 
-module _ {D : Type 0} (read : (ℕ → List ℕ) → Option D) (after : ℕ → D) (commits acked first flushed : ℕ) (groups : List Group) (base : ℕ → List ℕ)
-    (along : ReadsAlong read after commits acked first flushed groups base) where
-  pub leaves_some : (run : ℕ) (s : State) (image : Image) (found : ℕ → Option (List ℕ)) → IgnoresSums read → IsRun first groups base
+module _ {D : Type 0} (Reads : (ℕ → List ℕ) → D → Type 0) (after : ℕ → D) (commits acked first flushed : ℕ) (groups : List Group) (base : ℕ → List ℕ)
+    (along : ReadsAlong Reads after commits acked first flushed groups base) where
+  pub leaves_some : (run : ℕ) (s : State) (image : Image) (found : ℕ → Option (List ℕ)) → IgnoresSums Reads → IsRun first groups base
       → Keeps run first flushed groups base s
       → IsImage s image → IsHonest s image → ((page : ℕ) → page < 65536 → IsPageIn image.pages image.double page (found page))
-      → HoldsCommits read after commits acked run first image found
+      → HoldsCommits Reads after commits acked run first image found
   leaves_some run s image found ignores is keeps left honest finds =
       let recovers : Recovers run first flushed groups base image = image_recovers run first flushed groups base s image is keeps left honest in
       let count = recovers.count in
       let pages : ℕ → List ℕ = λ page. page_after page (take count groups) (or_zeros (found page)) in
-      let same : read pages ≡ read (logical base groups count) =
+      let same : (d : D) → Reads (logical base groups count) d → Reads pages d =
       ignores.same pages (logical base groups count) (λ page below. recovers.pages page (found page) below (finds page below)) in
       let upto = along.rise count (length groups) recovers.some in
       let from = along.rise (durable first flushed) count recovers.all_flushed in
@@ -34,13 +34,13 @@ module _ {D : Type 0} (read : (ℕ → List ℕ) → Option D) (after : ℕ → 
         n = along.held count;
         some = omega (arith, upto, along.all);
         all_acked = omega (arith, from, along.flushed_acked);
-        reads = same ∙ along.reads count recovers.all_flushed recovers.some;
+        reads = same (after (along.held count)) (along.reads count recovers.all_flushed recovers.some);
       }
 
   -- ---- one step
 
   module _ (later : ℕ → D) (now : ℕ) (more : List Group) (few : length more ≤ 1) (rise : commits ≤ now) (kept : (n : ℕ) → n ≤ commits → later n ≡ after n)
-      (newest : read (logical base (groups ++ more) (length (groups ++ more))) ≡ Some (later now)) where
+      (newest : Reads (logical base (groups ++ more) (length (groups ++ more))) (later now)) where
     -- so many commits do the first so many groups hold then
     held_now : ℕ → ℕ
     held_now m = cond (nat_lt m (length (groups ++ more))) (along.held m) now
@@ -73,19 +73,21 @@ module _ {D : Type 0} (read : (ℕ → List ℕ) → Option D) (after : ℕ → 
         omega (arith, along.flushed_acked, along.all, rise, upto, held_last (durable first flushed) past)
 
     reads_now : (m : ℕ) → durable first flushed ≤ m → m ≤ length (groups ++ more) → (m < length (groups ++ more)) ⊎ (length (groups ++ more) ≤ m)
-        → read (logical base (groups ++ more) m) ≡ Some (later (held_now m))
+        → Reads (logical base (groups ++ more) m) (later (held_now m))
     reads_now m from upto (inl below) =
         let within : m ≤ length groups = omega (arith, below, few, length-append groups more) in
         let front : take m (groups ++ more) ≡ take m groups = take-append-le m groups more within in
-        let same : read (logical base (groups ++ more) m) ≡ read (logical base groups m) =
-        ap (λ (gs : List Group). read (λ page. page_after page gs (base page))) front in
         let db : after (along.held m) ≡ later (held_now m) = sym (kept (along.held m) (held_upto m below)) ∙ ap later (sym (held_before m below)) in
-        same ∙ along.reads m from within ∙ ap (λ (d : D). Some d) db
+        let here : Reads (logical base (groups ++ more) m) (after (along.held m)) =
+        subst (λ (gs : List Group). Reads (λ page. page_after page gs (base page)) (after (along.held m))) (sym front) (along.reads m from within) in
+        subst (Reads (logical base (groups ++ more) m)) db here
     reads_now m from upto (inr past) =
         let last : m ≡ length (groups ++ more) = omega (arith, upto, past) in
-        ap (λ (n : ℕ). read (logical base (groups ++ more) n)) last ∙ newest ∙ ap (λ (n : ℕ). Some (later n)) (sym (held_last m past))
+        let here : Reads (logical base (groups ++ more) m) (later now) = subst (λ (n : ℕ). Reads (logical base (groups ++ more) n) (later now))
+        (sym last) newest in
+        subst (λ (n : ℕ). Reads (logical base (groups ++ more) m) (later n)) (sym (held_last m past)) here
 
-    pub reads_on : ReadsAlong read later now acked first flushed (groups ++ more) base
+    pub reads_on : ReadsAlong Reads later now acked first flushed (groups ++ more) base
     reads_on = record {
       held = held_now;
       rise = λ j m upto. rises j m upto (cases_lt j (length (groups ++ more))) (cases_lt m (length (groups ++ more)));
@@ -97,7 +99,7 @@ module _ {D : Type 0} (read : (ℕ → List ℕ) → Option D) (after : ℕ → 
 
   -- ---- a flush
 
-  pub flushed_on : (last : ℕ) → flushed ≤ last → last + 1 ≡ first + length groups → ReadsAlong read after commits commits first last groups base
+  pub flushed_on : (last : ℕ) → flushed ≤ last → last + 1 ≡ first + length groups → ReadsAlong Reads after commits commits first last groups base
   flushed_on last upto end =
       let whole : durable first last ≡ length groups = omega (arith, end) in
       record {

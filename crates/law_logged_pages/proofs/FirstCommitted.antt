@@ -91,5 +91,5 @@ held_rows_read show world after count pages held shows =
     let each : (place : Place) → rows_read world.shown place ≡ rows_after world.past (commits world.past) place = λ place.
     row_read world.past world.shown.is_open ids held.slots (world.shown.versions place) place held.ordered (held.versions place) in
     let all : rows_read world.shown ≡ rows_after world.past (commits world.past) = λ i place. each place i in
-    ap (λ (s : Shown). Some (rows_read s)) shows ∙ ap (λ (r : Rows). Some r) all
-    ∙ sym (ap (λ (f : ℕ → Rows). Some (f count)) held.rows_are ∙ ap (λ (n : ℕ). Some (rows_after world.past n)) held.count_is)
+    ap (λ (s : Shown). rows_read s) shows ∙ all
+    ∙ sym (ap (λ (f : ℕ → Rows). f count) held.rows_are ∙ ap (λ (n : ℕ). rows_after world.past n) held.count_is)

@@ -1,5 +1,5 @@
 -- A first try of the reading of a held world: what its pages show of rows, with their bytes left aside.
-use Rattle.std.specs.Prelude.{◌≡◌, ℕ, ◌<◌, Bool, true, false, if◌then◌else◌, Option, Some, List}
+use Rattle.std.specs.Prelude.{◌≡◌, ℕ, ◌<◌, Bool, true, false, if◌then◌else◌, Option, List}
 use Rattle.std.specs.FinMap.{get}
 use Rattle.inno_types.specs.declared.value.Value.{Value}
 use Rattle.inno_model.specs.declared.event.Event.{Event}
@@ -48,5 +48,5 @@ pub record AreHeld (world : HeldRows) (after : ℕ → Rows) (count : ℕ) : Typ
   pub count_is : count ≡ commits world.past
 
 -- a way from pages to what they show
-abbrev pub read_by : ((ℕ → List ℕ) → Shown) → (ℕ → List ℕ) → Option Rows
-read_by show pages = Some (rows_read (show pages))
+abbrev pub read_by : ((ℕ → List ℕ) → Shown) → (ℕ → List ℕ) → Rows → Type 0
+read_by show pages rows = rows_read (show pages) ≡ rows

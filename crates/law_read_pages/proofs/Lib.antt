@@ -1,2 +1,4 @@
 pub mod Once
 pub mod Reading
+pub mod Alone
+pub mod Sums

@@ -28,7 +28,6 @@ use Rattle.btree.specs.Sound.{tree_pairs}
 use Rattle.law_stored_rows.specs.Edits.{clustered_index}
 use Rattle.law_read_pages.specs.Rows.{ReadsAs}
 use Rattle.law_read_pages.specs.Pages.{IsTreeOf, StandForDb}
-use Rattle.law_read_pages.proofs.Reading.{reads_one_way}
 
 -- ---- one catalog
 
@@ -102,8 +101,11 @@ key_or_not (VarBinary size) (Int n) = inr (λ has. has.0)
 
 -- ---- one database
 
-module _ (pages : ℕ → List ℕ) (kept : ℕ → Option Kept) (open_id : ℕ → Bool) (a b : Database) (of_a : StandForDb pages kept open_id a)
-    (of_b : StandForDb pages kept open_id b) where
+-- older versions may be kept otherwise, as long as each record reads one way
+module _ (pages : ℕ → List ℕ) (one two : ℕ → Option Kept) (open_id : ℕ → Bool)
+    (one_way : (schema : Schema) (key : List ℕ) (bytes : Option (List ℕ)) (row other : Option (List Value)) → ReadsAs schema key one open_id bytes row
+    → ReadsAs schema key two open_id bytes other → row ≡ other)
+    (a b : Database) (of_a : StandForDb pages one open_id a) (of_b : StandForDb pages two open_id b) where
   same_tables : of_a.tables ≡ of_b.tables
   same_tables = one_catalog pages of_a.tables of_b.tables of_a.show.catalog of_b.show.catalog
 
@@ -158,9 +160,9 @@ module _ (pages : ℕ → List ℕ) (kept : ℕ → Option Kept) (open_id : ℕ 
       in
       elim (key_or_not column.0.kind value) [
         | inl has ↦ (let key = key_code column.0.kind value in
-            reads_one_way schema key kept open_id (value_of key (of_a.indexes (clustered_index table))) (get a.rows (table, value)) (get b.rows (table, value))
+            one_way schema key (value_of key (of_a.indexes (clustered_index table))) (get a.rows (table, value)) (get b.rows (table, value))
             (of_a.rows.records table schema column.0 value there primary has)
-            (subst (λ (pairs : List Pair). ReadsAs schema key kept open_id (value_of key pairs) (get b.rows (table, value)))
+            (subst (λ (pairs : List Pair). ReadsAs schema key two open_id (value_of key pairs) (get b.rows (table, value)))
             (sym (same_pairs table held.0 held.1)) (of_b.rows.records table schema column.0 value (in_b table schema there) primary has)))
         | inr none ↦ of_a.rows.no_others table schema column.0 value there primary none
             ∙ sym (of_b.rows.no_others table schema column.0 value (in_b table schema there) primary none)

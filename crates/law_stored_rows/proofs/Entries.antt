@@ -1,6 +1,6 @@
 -- What a change of one entry makes of what its key says, and which entries a change of a row asks for.
 use Rattle.std.proofs.Common.{◌≡◌, ◌≢◌, ◌∙◌, sym, ap, refl, ℕ, Bool, true, false, cond, List, [], ◌∷◌, Option, None, Some, inl, inr}
-use Rattle.std.specs.Prelude.{◌||◌, not}
+use Rattle.std.specs.Prelude.{◌||◌, not, is_some}
 use Rattle.std.specs.List.{list_any}
 use Rattle.std.proofs.lemmas.Bool.{true≢false}
 use Rattle.inno_types.specs.{declared.value.Value.Value, declared.value.Schema.Schema}
@@ -10,9 +10,18 @@ use Rattle.row_codec.specs.Rows.{mark_code}
 use Rattle.entries.specs.Pairs.{Pair}
 use Rattle.row_versions.specs.{declared.version.Version.Version, Chains.newest}
 use Rattle.law_stored_rows.specs.Edits.{with_value}
-use Rattle.law_stored_rows.specs.Entries.{is_same_value, value_in, has_value, entry_of, HasEntries, TellAlike, TellAlikeBut}
+use Rattle.law_stored_rows.specs.Entries.{is_same_value, value_in, has_value, entry_of, MayHold, HasEntries, TellAlike, TellAlikeBut}
 use Rattle.law_stored_rows.proofs.{Values.same_value, Values.apart_from, Values.one_key, Pairs.same_or_not, Pairs.rising_now, Pairs.value_now}
 use Rattle.law_stored_rows.proofs.{Pairs.others_now}
+
+pub still_holds : {found now said tells : Option (List ℕ)} → now ≡ found → said ≡ tells → MayHold found said → MayHold now tells
+still_holds same alike (inl is) = inl (same ∙ is ∙ alike)
+still_holds same alike (inr (none, is)) = inr (sym alike ∙ none, same ∙ is)
+
+-- what is said to be there is there
+pub holds_said : {found said : Option (List ℕ)} → MayHold found said → is_some said ≡ true → found ≡ said
+holds_said (inl is) some = is
+holds_said (inr (none, is)) some = absurd (let no = sym (ap is_some none) ∙ some in cc)
 
 -- ---- the entries of one key after a change of one of them
 
@@ -49,10 +58,10 @@ module _ (schema : Schema) (column : ℕ) (entries : List Pair) (was now : Value
           let parts = same_entry is.indexed.kind other value (key_code is.primary.kind key) (key_code is.primary.kind here) entry_too.0 has_entry.0
           entry_too.1 has_entry.1 same in
           rw (one_key is.primary.kind key here has_too has parts.1, parts.0)
-          (value_now (entry_at here value) (entry_of column value (now here)) entries is.rising)
+          (inl (value_now (entry_at here value) (entry_of column value (now here)) entries is.rising))
       | inr differ ↦
-          others_now (entry_at here value) (entry_of column value (now here)) (entry_at key other) entries differ
-          ∙ (is.marks key other has_too entry_too ∙ said_after key other differ (is_same_value here key) (is_same_value value other) refl refl)
+          still_holds (others_now (entry_at here value) (entry_of column value (now here)) (entry_at key other) entries differ)
+          (said_after key other differ (is_same_value here key) (is_same_value value other) refl refl) (is.marks key other has_too entry_too)
     ];
   }
 
@@ -66,7 +75,7 @@ entries_alike schema column entries was now alike is = record {
   indexed_is = is.indexed_is;
   rising = is.rising;
   each = is.each;
-  marks = λ key value has has_entry. is.marks key value has has_entry ∙ alike key value;
+  marks = λ key value has has_entry. still_holds refl (alike key value) (is.marks key value has has_entry);
 }
 
 -- ---- which entries a change of a row asks for

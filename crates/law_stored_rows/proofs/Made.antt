@@ -48,7 +48,7 @@ module _ (schemas : List Schema) (schema : Schema) (indexes : ℕ → List Pair)
     indexed_is = column.1;
     rising = tt;
     each = λ entry there. absurd (true≢false (sym there));
-    marks = λ at_key value has has_entry. ap (entry_of key.column value) (sym (none_there at_key));
+    marks = λ at_key value has has_entry. inl (ap (entry_of key.column value) (sym (none_there at_key)));
   }
 
   pub a_table_more : AreCoded (schemas ++ schema ∷ []) indexes kept chains

@@ -1,5 +1,5 @@
 -- What the entries of a secondary key say of the versions of rows.
-use Rattle.std.specs.Prelude.{◌≡◌, ℕ, Bool, true, false, not, if◌then◌else◌, List, [], ◌∷◌, Option, None, Some, slice_get, slice_index_or, is_some}
+use Rattle.std.specs.Prelude.{◌≡◌, ◌⊎◌, ℕ, Bool, true, false, not, if◌then◌else◌, List, [], ◌∷◌, Option, None, Some, slice_get, slice_index_or, is_some}
 use Rattle.std.specs.List.{list_any}
 use Rattle.std.specs.Ordering.{is_eq}
 use Rattle.inno_types.specs.{declared.value.Value.Value, declared.value.Value.TheVariants.Null, declared.value.Column.Column, declared.value.Kind.Kind}
@@ -35,6 +35,10 @@ abbrev pub IsSomeEntry : Kind → Kind → List ℕ → Type 0
 IsSomeEntry primary kind entry =
     (key : Value) × (value : Value) × HasKey primary key × HasEntry kind value × (entry ≡ entry_code kind value (key_code primary key))
 
+-- The entry holds what is said of it, or it stands marked where nothing is said: no version has it any more.
+abbrev pub MayHold : Option (List ℕ) → Option (List ℕ) → Type 0
+MayHold found said = (found ≡ said) ⊎ ((said ≡ None) × (found ≡ Some (1 ∷ [])))
+
 -- The pairs of the index of a key on this column are the entries of these rows.
 pub record HasEntries (schema : Schema) (column : ℕ) (entries : List Pair) (versions_at : Value → List Version) : Type 0 where
   pub primary : Column
@@ -44,7 +48,7 @@ pub record HasEntries (schema : Schema) (column : ℕ) (entries : List Pair) (ve
   pub rising : AreRising entries
   pub each : (entry : List ℕ) → is_some (value_of entry entries) ≡ true → IsSomeEntry primary.kind indexed.kind entry
   pub marks : (key value : Value) → HasKey primary.kind key → HasEntry indexed.kind value
-      → value_of (entry_code indexed.kind value (key_code primary.kind key)) entries ≡ entry_of column value (versions_at key)
+      → MayHold (value_of (entry_code indexed.kind value (key_code primary.kind key)) entries) (entry_of column value (versions_at key))
 
 -- for the entries of all values these versions and those are the same
 abbrev pub TellAlike : ℕ → List Version → List Version → Type 0

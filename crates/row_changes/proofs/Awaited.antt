@@ -9,7 +9,7 @@ use Rattle.std.specs.Prelude.{IfSome, is_some, ◌<◌, length, slice_get}
 use Rattle.world.specs.Indexes.{InsertsWith, ReplacesWith, InIndex, Calls, Changes}
 use Rattle.world.specs.State.{WorldState, Session, Work}
 use Rattle.law_stored_rows.specs.{Edits.with_value, Edits.clustered_index, Edits.key_index, Tables.Said}
-use Rattle.row_changes.specs.{Entries.IsThere, Entering.Enters, Rows.IsChangingRow, Rows.table_of, Pairs.RowsStay, Pairs.PutsPair, Pairs.Hinders}
+use Rattle.row_changes.specs.{Entries.IsThere, Entering.Enters, Rows.IsAtRow, Rows.table_of, Pairs.RowsStay, Pairs.PutsPair, Pairs.Hinders}
 use Rattle.row_changes.specs.{declared.record_change.RecordChange.RecordChange, declared.row_change.RowChange.TheVariants.Record, Keys.IsChangingKeys}
 use Rattle.row_changes.specs.{declared.entry_put.EntryPut.EntryPut, declared.keys_change.KeysChange.KeysChange, declared.row_change.RowChange.RowChange}
 use Rattle.row_changes.specs.Awaited.{AwaitsAt, AwaitsIn, IsOfTable}
@@ -47,7 +47,7 @@ AwaitsHere actor old new = (by : ℕ) → new.awaited ≡ Some by → (old.await
 abbrev pub IsLeft : ℕ → Index → Index → Type 0
 IsLeft actor old new = HasStayed old new × AwaitsHere actor old new
 
-as_before : (actor : ℕ) (old new : Index) → IsAsBefore old new → IsLeft actor old new
+pub as_before : (actor : ℕ) (old new : Index) → IsAsBefore old new → IsLeft actor old new
 as_before actor old new same = ((same.pairs, same.place), λ by is. inl (sym same.awaited ∙ is))
 
 none_here : (actor : ℕ) (old new : Index) → new.awaited ≡ None → AwaitsHere actor old new
@@ -186,6 +186,10 @@ awaits_at actor index step old new in_index here = record {
       (λ apart. inl (sym (in_index.elsewhere i apart).awaited ∙ is)) (cases_eq i index);
 }
 
+-- two calls of one index
+pub awaits_then : {actor index : ℕ} {old mid new : WorldState} → AwaitsAt actor index old mid → AwaitsAt actor index mid new → AwaitsAt actor index old new
+awaits_then first next = record { each = λ i by is. ⊎_elim (λ was. first.each i by was) (λ mine. inr mine) (next.each i by is) }
+
 -- where the index is one of the table
 pub awaits_in : (actor index table : ℕ) (old new : WorldState) → IsOfTable table old.schemas index → AwaitsAt actor index old new → AwaitsIn actor table old new
 awaits_in actor index table old new of_table awaits =
@@ -223,7 +227,7 @@ put_awaits chains beside actor old new change put put_is is awaits =
 
 -- a change that is at its record
 pub record_awaits_at : (chains : Chains) (beside : Said) (s : ℕ) (old new : WorldState) (mine : RowChange) (change : RecordChange) (key : List ℕ)
-    (after : Option (List Value)) → mine ≡ Record change key after → IsChangingRow s chains beside old mine
+    (after : Option (List Value)) → mine ≡ Record change key after → IsAtRow s chains beside old mine
     → AwaitsAt s (clustered_index change.table) old new → AwaitsIn s (table_of mine) old new
 record_awaits_at chains beside s old new mine change key after mine_is is awaits =
     let holds = rw mine_is at is in

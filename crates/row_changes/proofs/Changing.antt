@@ -1,30 +1,36 @@
 -- What stays known of a record that is being changed, what its steps do, and what is there once it stands.
 use Rattle.std.proofs.Common.{◌≡◌, ◌≢◌, ◌⊎◌, inl, inr, ⊎_elim, ℕ, ◌<◌, true, false, List, Option, Some, None, refl, sym, ap, ◌∙◌, arith, rules, ◌+◌, ◌≤◌}
-use Rattle.std.proofs.Common.{◌∷◌, [], ◌^◌}
+use Rattle.std.proofs.Common.{◌∷◌, [], ◌^◌, Bool, subst, ◌==◌}
 use Rattle.std.specs.Prelude.{slice_get, IfSome, is_some, Ok, Err, length}
 use Rattle.std.proofs.lemmas.{Bool.cases_eq, Bool.cond_both, List.length-set}
 use Rattle.inno_types.specs.{declared.value.Value.Value, declared.value.Schema.Schema, declared.value.Column.Column}
-use Rattle.entries.specs.{Index.Index, Index.Told, Index.AreKept, Index.HasGone, Calls.Fetches, Calls.is_done, Calls.Inserts}
+use Rattle.entries.specs.{Index.Index, Index.Paged, Index.Told, Index.Goes, Index.GoesOn, Index.AreKept, Index.HasGone, Calls.Fetches, Calls.is_done}
+use Rattle.entries.specs.{Calls.Inserts}
 use Rattle.entries.specs.Pairs.{Pair, value_of}
 use Rattle.law_stored_rows.specs.{Edits.clustered_index, Edits.with_value, Records.IsCodeOf, Records.row_shown, Storable.IsStorable}
 use Rattle.world.specs.{Stores.StoreGoes, Undoing.IsReady, Undoing.IsUnchanged, Undoing.MakesRoom, Sessions.with_room}
 use Rattle.world.specs.State.{WorldState, Session, Work, with_session, IsIndex, HasWork}
-use Rattle.world.specs.Indexes.{InIndex, KeepsAsSaid, Calls, MayLog, IsLogged, Changes, Brings, StaysBeside, InsertsWith, ReplacesWith}
-use Rattle.world.proofs.Stores.{store_stays}
+use Rattle.world.specs.Indexes.{InIndex, KeepsAsSaid, Calls, MayLog, IsLogged, KeepsIf, Changes, Brings, StaysBeside, InsertsWith, ReplacesWith}
+use Rattle.world.proofs.Stores.{store_stays, store_goes_on}
+use Rattle.txn_table.specs.Txns.{Txns}
+use Rattle.row_versions.specs.Versions.{Versions, Stays}
+use Rattle.inno_model.specs.declared.event.Event.TheVariants.{Changed}
 use Rattle.row_changes.specs.{declared.record_change.RecordChange.RecordChange, declared.record_change.RecordStage.RecordStage, Entries.IsPutting}
 use Rattle.row_changes.specs.{declared.row_edit.RowEdit.RowEdit, Entering.Enters, Entries.IsThere, Entries.PutsEntry, Asides.IsReadied, Asides.StepsAside}
 use Rattle.row_changes.specs.{declared.entry_put.EntryPut.EntryPut, declared.row_edit.RowEdit.TheVariants.Put, declared.row_edit.RowEdit.TheVariants.Remove}
-use Rattle.row_changes.specs.{Pairs.RowsStay, Pairs.Hinders, RecordReached.Went}
+use Rattle.row_changes.specs.{Pairs.RowsStay, Pairs.Hinders, Pairs.HindersBehind, Pairs.IsReached, RecordReached.Went}
 use Rattle.row_changes.specs.{RecordReached.Hindered, RecordReached.Recorded}
 use Rattle.row_changes.specs.Records.{Decodes, PutsOver, IsListed, IsFormer, StageHolds, IsChangingRecord, GoesOnWithRecord, HindersRecord, IsSpoiled}
-use Rattle.row_changes.specs.Records.{ChangesRecord, record_steps, when_missed, when_found, HasRoom, Records, id_for, undo_of_new, undo_of_former, row_found}
-use Rattle.row_changes.specs.Edits.{FindsRow, LacksRow, change_of, rows_put, FitsEdit, version_by}
-use Rattle.row_changes.specs.declared.record_change.RecordStage.TheVariants.{Enter, Room, Find, Insert, Replace}
+use Rattle.row_changes.specs.Records.{HasChanged, txns_with_id}
+use Rattle.row_changes.specs.Records.{ChangesRecord, record_steps, when_found, IsMissing, MayMake, HasRoom, Records, id_for, undo_of_new}
+use Rattle.row_changes.specs.Records.{undo_of_former, row_found}
+use Rattle.row_changes.specs.Edits.{IsPut, FindsRow, LacksRow, change_of, rows_put, FitsEdit, version_by}
+use Rattle.row_changes.specs.declared.record_change.RecordStage.TheVariants.{Enter, Room, Find, Replace}
 use Rattle.store_api.specs.{declared.answers.Version.Version, declared.moves.Move.Move, declared.answers.Undo.Undo}
 use Rattle.row_codec.specs.Rows.{version_code, IsRowOf, IsKeyOf}
 use Rattle.row_changes.proofs.{Ids.one_work}
 use Rattle.row_changes.proofs.Sessions.{one_session, aside_of_stay, same_pairs, same_versions, set_here, set_other, one_found}
-use Rattle.row_changes.proofs.Awaited.{IsLeft, places_if, stays_if, change_stays_if, insert_left, replace_leaves, replace_hinders}
+use Rattle.row_changes.proofs.Awaited.{IsLeft, HasStayed, places_if, stays_if, change_stays_if, insert_left, replace_leaves, replace_hinders}
 use Rattle.inno_db.specs.declared.change.Change.{Change}
 use Rattle.law_stored_rows.proofs.Coding.{short_key, short_value}
 use Rattle.key_codec.specs.Keys.{key_width}
@@ -60,7 +66,6 @@ listed_on s old new work txns others listed =
 -- a stage's facts while no pair changes
 pub stage_kept : (stage : RecordStage) (schema : Schema) (edit : RowEdit) (key : List ℕ) (session : Session) (old new : Index)
     → AreKept old.pairs new.pairs → StageHolds stage schema edit key session old → StageHolds stage schema edit key session new
-stage_kept Insert schema edit key session old new kept holds = (holds.0, holds.1, told_kept _ old.pairs new.pairs kept holds.2)
 stage_kept (Replace before bytes) schema edit key session old new kept holds =
     (holds.0, holds.1, record { there = told_kept _ old.pairs new.pairs kept holds.2.there; code_is = holds.2.code_is })
 stage_kept other schema edit key session old new kept holds = holds
@@ -86,6 +91,42 @@ pub spoiled : (schema : Schema) (key bytes : List ℕ) (index : Index) (why : Mo
 spoiled schema key bytes index (moves.Bad page rule) s new there h = inr (told_only _ _ index.pairs there (λ pairs found. (bytes, found, h)))
 spoiled schema key bytes index other s new there h = search rules
 
+-- ---- a step of one call, and one behind calls that change nothing
+
+goes_itself : (paged : Option Paged) → GoesOn paged paged
+goes_itself None = record {}
+goes_itself (Some paged) = record { faults = omega arith; key_len = refl; value_len = refl }
+
+pub reaches_itself : (actor : ℕ) (index : Index) → IsReached actor index index
+reaches_itself actor index = record { pairs = same_pairs index.pairs; place = refl; awaited = λ by is. inl is; later = goes_itself index.paged }
+
+pub at_once : {actor : ℕ} {old new : Index} {why : Move} → AreKept old.pairs new.pairs → Hinders actor old new why → HindersBehind actor old new why
+at_once {actor} {old} kept cause = record { mid = old; reached = reaches_itself actor old; kept = kept; cause = cause }
+
+versions_then : {old mid new : Versions} → Stays old mid → Stays mid new → Stays old new
+versions_then first next = record { told = λ told. first.told (next.told told); kept = λ told. next.kept told ∙ first.kept (next.told told) }
+
+kept_then : (old mid new : Option (List Pair)) → AreKept old mid → AreKept mid new → AreKept old new
+kept_then old mid None first next = record {}
+kept_then old None (Some new) first next = absurd next
+kept_then None (Some mid) (Some new) first next = absurd first
+kept_then (Some old) (Some mid) (Some new) first next = next ∙ first
+
+gone_then : (step : List Pair → List Pair → Type 0) (old mid new : Option (List Pair)) → AreKept old mid → Goes step mid new → Goes step old new
+gone_then step old mid None first next = record {}
+gone_then step old None (Some new) first next = absurd next
+gone_then step None (Some mid) (Some new) first next = absurd first
+gone_then step (Some old) (Some mid) (Some new) first next = subst (λ (pairs : List Pair). step pairs new) first next
+
+pub stays_then : {old mid new : WorldState} → RowsStay old mid → RowsStay mid new → RowsStay old new
+stays_then {old} {mid} {new} first next = record {
+  pairs = λ index. kept_then (old.indexes index).pairs (mid.indexes index).pairs (new.indexes index).pairs (first.pairs index) (next.pairs index);
+  places = λ index. next.places index ∙ first.places index;
+  versions = versions_then first.versions next.versions;
+  rest = next.rest ∙ ap (λ (w : WorldState). record w { indexes = new.indexes; versions = new.versions; paged = new.paged }) first.rest;
+  later = store_goes_on old.paged mid.paged new.paged first.later next.later;
+}
+
 pub same_rows : (state : WorldState) → RowsStay state state
 same_rows state =
     record {
@@ -104,7 +145,7 @@ stage_at s state change p stage is = rw is at p.stage
 
 module _ (s : ℕ) (old new : WorldState) (change : RecordChange) (p : IsChangingRecord s old change) where
   -- what is known of the record at its next stage
-  changing_after : (stage : RecordStage) (aside : StepsAside s old new)
+  abbrev pub changing_after : (stage : RecordStage) (aside : StepsAside s old new)
       → StageHolds stage p.schema change.edit change.key aside.after (new.indexes (clustered_index change.table))
       → IsChangingRecord s new (record change { stage = stage })
   changing_after stage aside holds =
@@ -186,17 +227,11 @@ module _ (s : ℕ) (old new : WorldState) (change : RecordChange) (p : IsChangin
   lacks_row edit edit_is stay lacks =
       hindered moves.End stay (inr (inr (inr (rw edit_is lacks))))
 
-  -- nothing is there
-  missed : (edit : RowEdit) → change.stage ≡ Find → change.edit ≡ edit → RowsStay old new
-      → Told (λ pairs. value_of change.key pairs ≡ None) (old.indexes (clustered_index change.table)) → ChangesRecord s old new change (when_missed edit change)
-  missed (Put row) at edit_is stay none =
-      goes_on Find Insert (aside_of_stay p.has_work.session_is stay) at (
-        stage_at s old change p Find at,
-        rw edit_is (record {}),
-        told_kept _ _ _ (stay.pairs (clustered_index change.table))
-            (told_only _ _ (old.indexes (clustered_index change.table)).pairs none (λ pairs is. ap is_some is)),
-      ) (omega arith)
-  missed (Remove value) at edit_is stay none =
+  -- nothing is there that could be removed
+  pub missed : (value : Value) → change.edit ≡ Remove value → RowsStay old new
+      → Told (λ pairs. value_of change.key pairs ≡ None) (old.indexes (clustered_index change.table)) → ChangesRecord s old new change
+      (Hindered change moves.End)
+  missed value edit_is stay none =
       lacks_row (Remove value) edit_is stay (told_only _ _ (old.indexes (clustered_index change.table)).pairs none (λ pairs is. rw is (record {})))
 
   -- a version is there
@@ -236,17 +271,31 @@ module _ (s : ℕ) (old new : WorldState) (change : RecordChange) (p : IsChangin
   not_decoded why read c decodes =
       let i = clustered_index change.table in
       let stay = stays_if c (c.index_is.here.1.pairs, c.index_is.here.1.place) in
-      hindered why stay (⊎_elim (λ h. inl h) (λ h. inr (inr (inl h)))
+      hindered why stay (⊎_elim (λ h. inl (at_once (stay.pairs i) h)) (λ h. inr (inr (inl h)))
       (spoiled p.schema change.key read (old.indexes i) why s (new.indexes i) c.index_is.here.0 (decodes p.schema (rw stay.rest p.table.there))))
 
+  -- the place has no record
   pub looked_up_none : (read : List ℕ) → change.stage ≡ Find → Calls (clustered_index change.table) (λ b a. Fetches s change.key read b a moves.End) old new
-      → ChangesRecord s old new change (when_missed change.edit change)
-  looked_up_none read at c = missed change.edit at refl (stays_if c (c.index_is.here.1.pairs, c.index_is.here.1.place)) c.index_is.here.0
+      → IsMissing s change old new
+  looked_up_none read at c = record {
+    changing = p;
+    stage_is = at;
+    absent = c.index_is.here.0;
+    stays = stays_if c (c.index_is.here.1.pairs, c.index_is.here.1.place);
+    reached = record {
+      pairs = c.index_is.here.1.pairs;
+      place = c.index_is.here.1.place;
+      awaited = λ by is. inl (sym c.index_is.here.1.awaited ∙ is);
+      later = c.index_is.later;
+    };
+  }
 
 -- memory was lacking before the call
 pub lacks_memory : (s : ℕ) (state : WorldState) (change : RecordChange) → IsChangingRecord s state change
     → ChangesRecord s state state change (Hindered change moves.NoMemory)
-lacks_memory s state change p = hindered s state state change p moves.NoMemory (same_rows state) (inl (record {}))
+lacks_memory s state change p =
+    hindered s state state change p moves.NoMemory (same_rows state)
+    (inl (at_once (same_pairs (state.indexes (clustered_index change.table)).pairs) (record {})))
 
 -- ---- what is there behind a call that logs a change
 
@@ -309,14 +358,22 @@ key_fits schema (Remove value) key storable fits =
     let width = ap (λ (c : Column). key_width c.kind) (one_found fits.column storable.column fits.primary storable.primary) in
     omega (arith, ap length fits.spelled ∙ length-key_code fits.column.kind value fits.has_key.0, width, storable.short)
 
+pub may_put : (edit : RowEdit) (stage : RecordStage) → IsPut edit → MayMake edit stage
+may_put (Put row) stage puts = record {}
+may_put (Remove value) stage puts = absurd puts
+
+pub may_replace : (edit : RowEdit) (stage : RecordStage) (before : Version) (bytes : List ℕ) → stage ≡ Replace before bytes → MayMake edit stage
+may_replace (Put row) stage before bytes at = record {}
+may_replace (Remove value) stage before bytes at = rw at (record {})
+
 -- the row of the version that is made is one of the table, and has the key
 pub version_made : (schema : Schema) (edit : RowEdit) (key : List ℕ) (session : Session) (index : Index) (stage : RecordStage) → FitsEdit schema edit key
-    → StageHolds stage schema edit key session index → record_steps stage ≡ 1 → (version : Version) (writer pointer : ℕ)
+    → StageHolds stage schema edit key session index → MayMake edit stage → (version : Version) (writer pointer : ℕ)
     → version ≡ version_by edit (row_found stage) writer pointer → IsRowOf schema.columns version.row × IsKeyOf schema version.row key
 version_made schema (Put row) key session index stage fits holds makes version writer pointer is = rw is (fits.fits.columns, fits.key_is)
 version_made schema (Remove value) key session index (Replace before bytes) fits holds makes version writer pointer is =
     rw is (holds.2.code_is.record_is.fits, holds.2.code_is.record_is.key_is)
-version_made schema (Remove value) key session index other fits holds makes version writer pointer is = absurd (search rules)
+version_made schema (Remove value) key session index other fits holds makes version writer pointer is = absurd makes
 
 pub value_short : (schema : Schema) (version : Version) (key value : List ℕ) → IsStorable schema
     → IsRowOf schema.columns version.row × IsKeyOf schema version.row key → value ≡ version_code schema version → length value ≤ 1024
@@ -381,20 +438,6 @@ module _ {s : ℕ} {old : WorldState} {change : RecordChange} (p : IsChangingRec
   abbrev Calling : (Option Undo → ℕ → List ℕ → List ℕ → Index → Index → Move → Type 0) → Undo → List ℕ → WorldState → Move → Type 0
   Calling call undo value new move = Changes index s (Some undo) (λ before after answer. call (Some undo) s change.key value before after answer) old new move
 
-  pub inserted : (mid new : WorldState) (value : List ℕ) (undo : Undo) → change.stage ≡ Insert
-      → value ≡ version_code p.schema (version_by change.edit [] (id_for p.work.id old.txns.next) 0) → undo ≡ undo_of_new change.table change.key
-      → Calling InsertsWith undo value mid moves.Done → EntersIt mid new → ChangesRecord s old new change (Recorded None)
-  inserted mid new value undo at value_is undo_is c enters =
-      let holds = stage_at s old change p Insert at in
-      let all = recorded s undo old mid c.beside _ _ change.table _ value (enters _ _ (logged_here s undo old mid c.beside)) c.index_is c.index_is.here.2 in (
-        p.schema,
-        p.table,
-        inl (
-          record { session = p.session; work = p.work; had = p.has_work; is_put = holds.1; absent = holds.2; records = rw (← undo_is, ← value_is) all },
-          refl,
-        ),
-      )
-
   pub replaced : (mid new : WorldState) (before : Version) (bytes value : List ℕ) (undo : Undo) (found : Option (List Value))
       → change.stage ≡ Replace before bytes
       → value ≡ version_code p.schema (version_by change.edit before.row (id_for p.work.id old.txns.next) p.session.next_pointer)
@@ -417,24 +460,21 @@ module _ {s : ℕ} {old : WorldState} {change : RecordChange} (p : IsChangingRec
       } in
       (p.schema, p.table, inr (before, over, found_is))
 
-  -- where the call was not done
+  -- no undo record has come where the call was not done
+  not_brought : (undo : Undo) (new : WorldState) (move : Move) → move ≢ moves.Done → Brings s (Some undo) (is_done move) old new → StaysBeside old new
+  not_brought undo new moves.Done not_done h = absurd (not_done refl)
+  not_brought undo new other not_done h = h
+
+  called_stays : (new : WorldState) (undo : Undo) (answer : Move) (call : Index → Index → Move → Type 0) → Changes index s (Some undo) call old new answer
+      → answer ≢ moves.Done → HasStayed (old.indexes index) (new.indexes index) → RowsStay old new
+  called_stays new undo answer call c differs stayed = stays_if (record { index_is = c.index_is; beside = not_brought undo new answer differs c.beside }) stayed
+
   hindered_by : (new : WorldState) (undo : Undo) (answer : Move) (call : Index → Index → Move → Type 0) → Changes index s (Some undo) call old new answer
       → answer ≢ moves.Done → IsLeft s (old.indexes index) (new.indexes index) × Hinders s (old.indexes index) (new.indexes index) answer
       → ChangesRecord s old new change (Hindered change answer)
   hindered_by new undo answer call c differs left =
       hindered s old new change p answer
-      (stays_if (record { index_is = c.index_is; beside = beside answer differs c.beside }) left.0.0) (inl left.1)
-    where
-      -- no undo record has come
-      beside : (move : Move) → move ≢ moves.Done → Brings s (Some undo) (is_done move) old new → StaysBeside old new
-      beside moves.Done not_done h = absurd (not_done refl)
-      beside other not_done h = h
-
-  pub insert_hindered : (new : WorldState) (value : List ℕ) (undo : Undo) (answer : Move) → change.stage ≡ Insert → Calling InsertsWith undo value new answer
-      → answer ≢ moves.Done → ChangesRecord s old new change (Hindered change answer)
-  insert_hindered new value undo answer at c differs =
-      hindered_by new undo answer _ c differs
-      (insert_left (Some undo) s change.key value _ _ answer (stage_at s old change p Insert at).2 c.index_is.here differs)
+      (called_stays new undo answer call c differs left.0.0) (inl (at_once left.0.0.0 left.1))
 
   pub replace_hindered : (new : WorldState) (before : Version) (bytes value : List ℕ) (undo : Undo) (answer : Move) → change.stage ≡ Replace before bytes
       → Calling ReplacesWith undo value new answer → answer ≢ moves.Done → ChangesRecord s old new change (Hindered change answer)
@@ -447,6 +487,114 @@ module _ {s : ℕ} {old : WorldState} {change : RecordChange} (p : IsChangingRec
         replace_leaves (Some undo) s change.key value _ _ answer here differs,
         replace_hinders (Some undo) s change.key value _ _ answer there here differs,
       )
+
+-- ---- a record is inserted in the step in which its place was seen to have none
+
+records_behind : {s : ℕ} {change : Change} {rows table : ℕ} {key bytes : List ℕ} {undo : Undo} {start mid new : WorldState} → undo.kind ≡ 1
+    → RowsStay start mid → Records s change rows table key bytes undo mid new → Records s change rows table key bytes undo start new
+records_behind {s} {change} {rows} {table} {key} {bytes} {undo} {start} {mid} {new} kind stay r = record {
+  here = gone_then (λ before after. after ≡ with_value key (Some bytes) before) (start.indexes (clustered_index table)).pairs
+      (mid.indexes (clustered_index table)).pairs (new.indexes (clustered_index table)).pairs (stay.pairs (clustered_index table)) r.here;
+  elsewhere = λ other differs. kept_then (start.indexes other).pairs (mid.indexes other).pairs (new.indexes other).pairs (stay.pairs other)
+      (r.elsewhere other differs);
+  places = λ index. r.places index ∙ stay.places index;
+  work = record {
+    session = r.work.session;
+    work = r.work.work;
+    had = record { session_is = sym (sessions r.work.session s) ∙ r.work.had.session_is; work_is = r.work.had.work_is };
+    session_now = r.work.session_now;
+    work_now = r.work.work_now;
+    has = r.work.has;
+    changed = subst (λ (txns : Txns). HasChanged r.work.work r.work.work_now (id_for r.work.work.id txns.next)
+        (record { pointer = r.work.session.next_pointer; undo = undo })) txns_is r.work.changed;
+    setting = r.work.setting;
+    can_reply = r.work.can_reply;
+    can_ack = r.work.can_ack;
+    others = λ t differs. r.work.others t differs ∙ sessions r.work.session t;
+    count = r.work.count ∙ ap (λ (w : WorldState). length w.sessions) stay.rest;
+    txns = r.work.txns ∙ ap (txns_with_id r.work.work) txns_is;
+    versions = kept_behind (undo.kind == 2) (ap (λ (k : ℕ). k == 2) kind) r.work.versions;
+  };
+  rest = r.rest ∙ ap (λ (w : WorldState). record w {
+    past = Changed s change ∷ w.past;
+    rows = w.rows + rows;
+    indexes = new.indexes;
+    versions = new.versions;
+    paged = new.paged;
+    sessions = new.sessions;
+    txns = new.txns;
+  }) stay.rest;
+  later = store_goes_on start.paged mid.paged new.paged stay.later r.later;
+}
+  where
+    sessions : (session : Session) (t : ℕ) → slice_get mid.sessions t ≡ slice_get start.sessions t
+    sessions session t = ap (λ (w : WorldState). slice_get w.sessions t) stay.rest
+
+    txns_is : mid.txns ≡ start.txns
+    txns_is = ap (λ (w : WorldState). w.txns) stay.rest
+
+    kept_behind : (keeps : Bool) → keeps ≡ false → KeepsIf keeps mid.schemas r.work.session.next_pointer undo mid.versions new.versions
+        → KeepsIf keeps start.schemas r.work.session.next_pointer undo start.versions new.versions
+    kept_behind true not kept = absurd (cc)
+    kept_behind false not kept = versions_then stay.versions kept
+
+module _ {s : ℕ} {start mid : WorldState} {change : RecordChange} (missing : IsMissing s change start mid) where
+  abbrev at : ℕ
+  at = clustered_index change.table
+
+  -- it is being changed still
+  abbrev pub changing_still : IsChangingRecord s mid change
+  changing_still =
+      let p = missing.changing in
+      changing_after s start mid change p change.stage (aside_of_stay p.has_work.session_is missing.stays)
+      (stage_kept change.stage _ _ _ _ _ _ (missing.stays.pairs at) p.stage)
+
+  pub has_room : HasRoom missing.changing.session
+  has_room = stage_at s start change missing.changing Find missing.stage_is
+
+  pub absent_still : IsThere false change.key (mid.indexes at)
+  absent_still = told_kept _ (start.indexes at).pairs (mid.indexes at).pairs missing.reached.pairs
+      (told_only _ _ (start.indexes at).pairs missing.absent (λ pairs is. ap is_some is))
+
+  pub inserted : (then new : WorldState) (value : List ℕ) (undo : Undo) → IsPut change.edit
+      → value ≡ version_code missing.changing.schema (version_by change.edit [] (id_for missing.changing.work.id mid.txns.next) 0)
+      → undo ≡ undo_of_new change.table change.key → Calling changing_still InsertsWith undo value then moves.Done → EntersIt changing_still then new
+      → ChangesRecord s start new change (Recorded None)
+  inserted then new value undo puts value_is undo_is c enters =
+      let p = missing.changing in
+      let all = recorded s undo mid then c.beside _ _ change.table _ value (enters _ _ (logged_here s undo mid then c.beside)) c.index_is c.index_is.here.2 in
+      let here = value_is ∙ ap (λ (next : ℕ). version_code p.schema (version_by change.edit [] (id_for p.work.id next) 0))
+      (ap (λ (w : WorldState). w.txns.next) missing.stays.rest) in (
+        p.schema,
+        p.table,
+        inl (
+          record {
+            session = p.session;
+            work = p.work;
+            had = p.has_work;
+            is_put = puts;
+            absent = told_only _ _ (start.indexes at).pairs missing.absent (λ pairs is. ap is_some is);
+            records = rw (← undo_is, ← here) (records_behind (ap (λ (u : Undo). u.kind) undo_is) missing.stays all);
+          },
+          refl,
+        ),
+      )
+
+  -- what hindered a call that came behind hinders the step
+  hindered_then : (new : WorldState) (why : Move) → RowsStay mid new → Hinders s (mid.indexes at) (new.indexes at) why
+      → ChangesRecord s start new change (Hindered change why)
+  hindered_then new why stay cause =
+      hindered s start new change missing.changing why (stays_then missing.stays stay)
+      (inl (record { mid = mid.indexes at; reached = missing.reached; kept = stay.pairs at; cause = cause }))
+
+  pub lacks_memory_then : ChangesRecord s start mid change (Hindered change moves.NoMemory)
+  lacks_memory_then = hindered_then mid moves.NoMemory (same_rows mid) (record {})
+
+  pub insert_hindered : (new : WorldState) (value : List ℕ) (undo : Undo) (answer : Move) → Calling changing_still InsertsWith undo value new answer
+      → answer ≢ moves.Done → ChangesRecord s start new change (Hindered change answer)
+  insert_hindered new value undo answer c differs =
+      let left = insert_left (Some undo) s change.key value _ _ answer absent_still c.index_is.here differs in
+      hindered_then new answer (called_stays changing_still new undo answer _ c differs left.0.0) left.1
 
 -- ---- an entry that is being put
 

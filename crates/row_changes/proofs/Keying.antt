@@ -1,10 +1,11 @@
 -- What one key says of a place while a change goes over into the keys, and what stays known meanwhile.
 use Rattle.std.proofs.Common.{◌≡◌, ◌≢◌, ⊎_elim, ◌∙◌, sym, ap, subst, refl, ℕ, zero, suc, ◌+◌, ◌<◌, ◌≤◌, ◌^◌, ◌==◌, Bool, true, false, cond, List, ◌∷◌, length}
 use Rattle.std.proofs.Common.{Option, None, Some, slice_get, arith, rules, ◌-◌, ◌*◌, ◌⊎◌, inl, inr}
-use Rattle.std.specs.Prelude.{◌&&◌, IfSome}
+use Rattle.std.specs.Prelude.{◌&&◌, IfSome, is_some}
 use Rattle.std.proofs.lemmas.{Bool.cases_eq, Bool.eqb-true, Option.slice_get_within, Option.slice_get_cases, Option.get_or_from_slice_get}
-use Rattle.key_codec.specs.Keys.{HasKey, key_code, entry_code}
-use Rattle.inno_types.specs.{declared.value.Value.Value, declared.value.Column.Column, declared.value.Key.Key, declared.value.Schema.Schema}
+use Rattle.key_codec.specs.Keys.{HasKey, Has64Bits, key_code, entry_code}
+use Rattle.inno_types.specs.{declared.value.Value.Value, declared.value.Value.TheVariants.Null, declared.value.Column.Column, declared.value.Key.Key}
+use Rattle.inno_types.specs.declared.value.Schema.{Schema}
 use Rattle.inno_db.specs.Database.{key_of}
 use Rattle.store_api.specs.{declared.moves.Move.Move}
 use Rattle.store_api.specs.declared.answers.Version.{Version as Coded}
@@ -21,13 +22,13 @@ use Rattle.row_changes.specs.declared.entry_put.PutPhase.TheVariants.{Look}
 use Rattle.row_changes.specs.{declared.entry_put.EntryPut.EntryPut, declared.keys_change.KeysChange.KeysChange, declared.key_entries.KeyEntries.KeyEntries}
 use Rattle.row_changes.specs.{Reached.Hindered, Pairs.Hinders, Pairs.RowsStay, Pairs.PutsPair}
 use Rattle.row_changes.specs.Keys.{StaysBesideKeys, gone, SaySoFar, said_next, keys_next, without_row, keys_steps, HasRowsSoFar, ChangesKeys, IsEntering}
-use Rattle.row_changes.specs.Keys.{IsChangingKeys, GoesOnWithKeys, value_stays, AreEntries, StayBetween, IsEntryIn, IsEntryFor}
+use Rattle.row_changes.specs.Keys.{IsChangingKeys, GoesOnWithKeys, value_stays, AreEntries, StayBetween, IsEntryIn, IsEntryFor, IsEntryAt, ChangesItsEntry}
 use Rattle.row_changes.specs.Entries.{marked, unmarked, PutsEntry, GoesOnPutting, HindersEntry, put_steps}
 use Rattle.law_stored_rows.proofs.{Pairs.no_key, Values.same_place, Values.place_itself, Values.same_value, Values.value_itself, Values.entry_there}
-use Rattle.law_stored_rows.proofs.{Coding.short_entries}
+use Rattle.law_stored_rows.proofs.{Coding.short_entries, FittingValues.at_or}
 use Rattle.law_stored_rows.proofs.Steps.{old_marked, new_put, first_put}
 use Rattle.law_stored_rows.proofs.{Coding.value_in-kind, Keys.now_says, Keys.others_say, Keys.lag_says, Keys.said_alike, Keys.change_over}
-use Rattle.law_stored_rows.proofs.Entries.{is_unmarked, value_again, without_row as tells_no_row}
+use Rattle.law_stored_rows.proofs.Entries.{holds_said, is_unmarked, value_again, without_row as tells_no_row}
 use Rattle.row_changes.proofs.{Sessions.one_found, Pushed.at_primary, Pushed.plain, Pushed.code_of, Pushed.table_kept}
 use Rattle.row_changes.proofs.Telling.{tells, stays_told, rows_again, rows_at, coded_again, put_told, put_pairs}
 use Rattle.world.specs.{State.IsIndex, State.WorldState, Told.pairs_of, Told.IsTold}
@@ -140,6 +141,27 @@ short_entry schema which (Some row) primary entry storable fits is =
       primary_is = fits.key_is;
       spelled = is.spelled;
     })
+
+-- the entry of a row
+pub at_entry : (schema : Schema) (which : ℕ) (row : List Value) (primary entry : List ℕ) → IsRowFor schema row primary
+    → IsEntryIn schema which row primary entry → IsEntryAt schema which primary entry
+at_entry schema which row primary entry fits is = record {
+  key = is.key;
+  key_is = is.key_is;
+  indexed = is.indexed;
+  indexed_is = is.indexed_is;
+  value = value_in is.key.column row;
+  has = (
+    value_in-kind schema.columns row is.key.column is.indexed fits.fits.columns is.indexed_is,
+    at_or Has64Bits Null row is.key.column tt fits.numbers,
+  );
+  spelled = is.spelled;
+}
+
+entry_for : (schema : Schema) (which : ℕ) (row : Option (List Value)) (primary entry : List ℕ) → IfSome row (λ r. IsRowFor schema r primary)
+    → IsEntryFor schema which row primary (Some entry) → IsEntryAt schema which primary entry
+entry_for schema which None primary entry fits is = absurd is
+entry_for schema which (Some row) primary entry fits is = at_entry schema which row primary entry fits is
 
 -- ---- a step of the change
 
@@ -267,13 +289,14 @@ module _ (chains : Chains) (beside : Said) (old new : WorldState) (change : Keys
   -- ---- the next step
 
   -- the next step, some steps nearer
-  goes_on : (which : ℕ) (put : Option EntryPut) → StaysBesideKeys old new → which ≤ keys
+  goes_on : (which : ℕ) (put : Option EntryPut) → StaysBesideKeys old new → ChangesItsEntry p.schema change.table change.key old new → which ≤ keys
       → IfSome put (IsEntering p.schema change.table which change.after change.key new) → SaySo which (said_next put change.before p.older) new
       → keys_steps (keys - which) put < keys_steps (keys - change.which) change.put
       → GoesOnWithKeys chains beside old new change (record change { which = which; put = put })
-  goes_on which put stays within entering rows nears =
+  goes_on which put stays its within entering rows nears =
       record {
         stays = stays;
+        entry = λ schema there. rw (one_found schema p.schema there p.table.there) its;
         table_is = refl;
         key_is = refl;
         before_is = refl;
@@ -325,9 +348,9 @@ module _ (chains : Chains) (beside : Said) (old new : WorldState) (change : Keys
             let primary_code = p.at.spelled ∙ ap (λ (c : Column). key_code c.kind p.value) primary in
             let code : entry ≡ entry_code keyed.indexed.kind value (key_code keyed.primary.kind p.value) =
             e.spelled ∙ (λ i. entry_code (indexed i).kind value (primary_code i)) in
+            let said = ap (entry_of e.key.column value) says.2.here ∙ is_unmarked e.key.column value p.older is_there in
             ap (λ (k : List ℕ). value_of k (pairs_of old (key_index change.table entries.which))) code
-            ∙ keyed.marks p.value value (subst (λ (c : Column). HasKey c.kind p.value) primary p.at.has_key) has
-            ∙ ap (entry_of e.key.column value) says.2.here ∙ is_unmarked e.key.column value p.older is_there
+            ∙ holds_said (keyed.marks p.value value (subst (λ (c : Column). HasKey c.kind p.value) primary p.at.has_key) has) (ap is_some said) ∙ said
 
     mark_cause : (actor : ℕ) (why : Move) → HindersEntry actor entry (old.indexes (key_index change.table entries.which)) (new.indexes
         (key_index change.table entries.which)) why → Hinders actor (old.indexes (key_index change.table entries.which))
@@ -356,9 +379,10 @@ module _ (chains : Chains) (beside : Said) (old new : WorldState) (change : Keys
   -- the new row's entry is put next
   put_next : (entries : KeyEntries) (entry : List ℕ) → change.put ≡ None → AreEntries p.schema change.which change.before change.after change.key entries
       → IsEntryFor p.schema entries.which change.after change.key (Some entry) → StaysBesideKeys old new
+      → ChangesItsEntry p.schema change.table change.key old new
       → SaySo entries.which (without_row change.before p.older) new → GoesOnWithKeys chains beside old new change
       (keys_next change (key_index change.table entries.which) entries.which (Some entry))
-  put_next entries entry none all new_entry stays rows =
+  put_next entries entry none all new_entry stays its rows =
       let within = all.within in
       let from = all.first.from_there in
       let waits = waiting_steps none in
@@ -373,7 +397,7 @@ module _ (chains : Chains) (beside : Said) (old new : WorldState) (change : Keys
         key = omega (arith, within);
         few = (let f = few entries.which within in omega arith);
       } in
-      goes_on entries.which (Some (record { index = index; entry = entry; phase = Look })) stays (omega (arith, within)) (record {
+      goes_on entries.which (Some (record { index = index; entry = entry; phase = Look })) stays its (omega (arith, within)) (record {
         index_is = refl;
         entry_is = new_entry;
         within = within;
@@ -396,6 +420,16 @@ module _ (chains : Chains) (beside : Said) (old new : WorldState) (change : Keys
       stays : StaysBesideKeys old new
       stays = beside_put entries.which entry (Some marked) all.within puts
 
+      its : ChangesItsEntry p.schema change.table change.key old new
+      its = inr (
+        entries.which,
+        all.within,
+        entry,
+        Some marked,
+        puts,
+        λ told. entry_for p.schema entries.which change.before change.key entry p.before (rw old_is at all.old_is),
+      )
+
       -- once the old row's entry is marked
       gone_now : (row : List Value) → change.before ≡ Some row → IsEntryIn p.schema entries.which row change.key entry → (version : Version)
           → version.row ≡ None → SaySo entries.which (version ∷ p.older) new
@@ -413,11 +447,11 @@ module _ (chains : Chains) (beside : Said) (old new : WorldState) (change : Keys
           let within = all.within in
           let from = all.first.from_there in
           let waits = waiting_steps none in
-          goes_on (entries.which + 1) None stays (omega (arith, within)) (record {})
+          goes_on (entries.which + 1) None stays its (omega (arith, within)) (record {})
           (so_far_done entries.which (p.pushed.version ∷ p.older) new (sym p.pushed.versions) (gone_now row was e p.pushed.version (p.pushed.is ∙ now)))
           (omega (arith, waits, within, from))
       go (Some row) (Some later) (Some bytes) was now e new_e =
-          put_next entries bytes none all (rw now new_e) stays (rw was (gone_now row was e gone refl))
+          put_next entries bytes none all (rw now new_e) stays its (rw was (gone_now row was e gone refl))
       go before after next was now e new_e = absurd (search rules)
 
   -- there is no old entry
@@ -435,7 +469,7 @@ module _ (chains : Chains) (beside : Said) (old new : WorldState) (change : Keys
           let differs : value_stays key.0.column None None ≡ false = rw (was, now) at (all.first.changes key.0 key.1) in
           absurd (cc)
       go None (Some later) (Some bytes) was now e new_e =
-          put_next entries bytes none all (rw now new_e) (beside_stay old new stay)
+          put_next entries bytes none all (rw now new_e) (beside_stay old new stay) (inl stay)
           (rw was (so_far_kept chains beside place entries.which p.older p.older old new stay
           (rows_passed entries.which none all.first.from_there all.first.stay)))
       go before after next was now e new_e = absurd (search rules)
@@ -454,7 +488,7 @@ module _ (chains : Chains) (beside : Said) (old new : WorldState) (change : Keys
 
     pub put_went : (next : EntryPut) → GoesOnPutting old new put next → GoesOnWithKeys chains beside old new change (record change { put = Some next })
     put_went next g =
-        goes_on change.which (Some next) (beside_stay old new g.stays) p.within
+        goes_on change.which (Some next) (beside_stay old new g.stays) (inl g.stays) p.within
         (record { index_is = g.index_is ∙ entering.index_is; entry_is = rw g.entry_is entering.entry_is; within = entering.within; putting = g.holds })
         (so_far_kept chains beside place change.which (without_row change.before p.older) p.older old new g.stays waiting)
         (let nearer = g.nears in omega (arith, steps, nearer))
@@ -463,7 +497,7 @@ module _ (chains : Chains) (beside : Said) (old new : WorldState) (change : Keys
         → GoesOnWithKeys chains beside old new change (record change { which = change.which + 1; put = None })
     put_done puts =
         let within = entering.within in
-        goes_on (change.which + 1) None stays (omega (arith, within)) (record {}) (rows change.before change.after refl refl entering.entry_is)
+        goes_on (change.which + 1) None stays its (omega (arith, within)) (record {}) (rows change.before change.after refl refl entering.entry_is)
         (omega (arith, steps, within, some_step put.phase))
       where
         here : PutsPair (key_index change.table change.which) put.entry (Some unmarked) old new
@@ -471,6 +505,16 @@ module _ (chains : Chains) (beside : Said) (old new : WorldState) (change : Keys
 
         stays : StaysBesideKeys old new
         stays = beside_put change.which put.entry (Some unmarked) entering.within here
+
+        its : ChangesItsEntry p.schema change.table change.key old new
+        its = inr (
+          change.which,
+          entering.within,
+          put.entry,
+          Some unmarked,
+          here,
+          λ told. entry_for p.schema change.which change.after change.key put.entry p.after entering.entry_is,
+        )
 
         coded : List Value → Coded
         coded row = plain row p.pushed.version.writer

@@ -19,12 +19,12 @@ use Rattle.row_changes.specs.{declared.row_edit.RowEdit.RowEdit, declared.keys_c
 use Rattle.row_changes.specs.{Told.HasRowsBeside, Told.HasRowsAt}
 use Rattle.row_changes.specs.{Asides.StepsAside, Records.PutsFirst, Records.PutsOver, Records.IsTable, Records.PutsVersion, Records.RecordsEdit}
 use Rattle.row_changes.specs.{Reached.Went, declared.row_change.RowChange.RowChange, declared.row_edit.RowEdit.TheVariants.Put}
-use Rattle.row_changes.specs.{Reached.Hindered, Reached.Reached, declared.row_change.RowChange.TheVariants.Keys}
+use Rattle.row_changes.specs.{Reached.Hindered, Reached.Done, Reached.Reached, declared.row_change.RowChange.TheVariants.Keys}
 use Rattle.row_changes.specs.{declared.record_change.RecordStage.RecordStage, Records.IsChangingRecord, declared.row_change.RowChange.TheVariants.Record}
 use Rattle.row_changes.specs.{declared.record_change.RecordChange.RecordChange, declared.record_change.RecordStage.TheVariants.Enter, Records.undo_of_former}
 use Rattle.row_changes.specs.{Keys.IsChangingKeys, Records.id_for, Records.GoesOnWithRecord, Records.ChangesRecord, Records.record_steps}
 use Rattle.row_changes.specs.Edits.{version_by, IsRowFor, IsKeyAt, FitsEdit, IsPut}
-use Rattle.row_changes.specs.Rows.{primary_of, PushesEdit, IsChangingRow, row_after, place_of, ChangesRow}
+use Rattle.row_changes.specs.Rows.{primary_of, PushesEdit, IsChangingRow, IsAtRow, MakesRow, row_after, place_of, ChangesRow}
 use Rattle.std.proofs.lemmas.Bool.{cases_eq, cond_both}
 use Rattle.world.specs.{State.WorldState, State.Session, State.Work, State.HasWork, Indexes.KeepsVersion, Told.pairs_of, Told.IsTold}
 use Rattle.row_changes.proofs.{Sessions.one_found, Sessions.one_session, Ids.one_work}
@@ -292,41 +292,69 @@ module _ (s : ℕ) (chains : Chains) (beside : Said) (pushed : Chains) (old new 
 -- ---- a step that is made where the change lies
 
 module _ (s : ℕ) (chains : Chains) (beside : Said) {old : WorldState} (new : WorldState) {mine : RowChange} {change : RecordChange} {key : List ℕ}
-    {after : Option (List Value)} (at : mine ≡ Record change key after) (p : IsChangingRow s chains beside old mine) where
+    {after : Option (List Value)} (at : mine ≡ Record change key after) (p : IsAtRow s chains beside old mine) where
   at_record : (reached : Reached RowChange)
-      → (IsChangingRow s chains beside old (Record change key after) → ChangesRow s chains beside old new (Record change key after) reached)
-      → ChangesRow s chains beside old new mine reached
-  at_record reached made = subst (λ (r : RowChange). IsChangingRow s chains beside old r → ChangesRow s chains beside old new r reached) (sym at) made p
+      → (IsAtRow s chains beside old (Record change key after) → MakesRow s chains beside old new (Record change key after) reached)
+      → MakesRow s chains beside old new mine reached
+  at_record reached made = subst (λ (r : RowChange). IsAtRow s chains beside old r → MakesRow s chains beside old new r reached) (sym at) made p
 
-  pub record_went : (next : RecordChange) → GoesOnWithRecord s old new change next → ChangesRow s chains beside old new mine (Went (Record next key after))
+  pub record_went : (next : RecordChange) → GoesOnWithRecord s old new change next → MakesRow s chains beside old new mine (Went (Record next key after))
   record_went next g =
       at_record (Went (Record next key after)) (λ is. (
-        (
-          g,
-          (
-            g.holds,
-            rw (g.table_is, g.key_is) (rows_aside s chains beside _ _ old new g.aside is.1),
-            is.2 ∙ sym g.key_is,
-            is.3 ∙ ap row_after (sym g.edit_is),
-          ),
-        ),
+        (g, (g.holds, is.1 ∙ sym g.key_is, is.2 ∙ ap row_after (sym g.edit_is))),
         λ schema there. let nearer = g.nears in omega arith,
       ))
 
   pub record_recorded : (before : Option (List Value)) (keys : KeysChange)
       → keys ≡ record { table = change.table; key = key; before = before; after = after; which = 0; put = None }
-      → ChangesRecord s old new change (records.Recorded before) → ChangesRow s chains beside old new mine (Went (Keys keys))
+      → ChangesRecord s old new change (records.Recorded before) → MakesRow s chains beside old new mine (Went (Keys keys))
   record_recorded before keys keys_is h =
       rw keys_is (at_record (Went (Keys (record { table = change.table; key = key; before = before; after = after; which = 0; put = None }))) (λ is. (
-        (h, λ pushed push. recorded_keys s chains beside pushed old new change is.0 is.1 push before after key is.2 is.3 h, refl, is.2),
+        (h, λ rows pushed push. recorded_keys s chains beside pushed old new change is.0 rows push before after key is.1 is.2 h, refl, is.1),
         λ schema there. let some = some_record_step change.stage in omega arith,
       )))
 
   pub record_waits : (same : RecordChange) (why : Move) → ChangesRecord s old new change (records.Hindered same why)
-      → ChangesRow s chains beside old new mine (Hindered (Record same key after) why)
+      → MakesRow s chains beside old new mine (Hindered (Record same key after) why)
   record_waits same why h =
       at_record (Hindered (Record same key after) why) (λ is. (
         ap (λ (c : RecordChange). let r : RowChange = Record c key after in r) h.0,
-        (h.2, rows_aside s chains beside _ _ old new h.1 is.1, is.2, is.3),
+        (h.2, is.1, is.2),
         (h.1, h.3, h.4, h.5),
       ))
+
+-- ---- where the rows are known before it
+
+pub at_row : (s : ℕ) (chains : Chains) (beside : Said) (state : WorldState) (change : RowChange) → IsChangingRow s chains beside state change
+    → IsAtRow s chains beside state change
+at_row s chains beside state (Record change key after) is = (is.0, is.2, is.3)
+at_row s chains beside state (Keys change) is = is
+
+pub changes_row : (s : ℕ) (chains : Chains) (beside : Said) (old new : WorldState) (change : RowChange) (reached : Reached RowChange)
+    → IsChangingRow s chains beside old change → MakesRow s chains beside old new change reached → ChangesRow s chains beside old new change reached
+changes_row s chains beside old new (Record change key after) (Went (Record next key' after')) p made = (
+  (
+    made.0.0,
+    (
+      made.0.1.0,
+      rw (made.0.0.table_is, made.0.0.key_is) (rows_aside s chains beside _ _ old new made.0.0.aside p.1),
+      made.0.1.1,
+      made.0.1.2,
+    ),
+  ),
+  made.1,
+)
+changes_row s chains beside old new (Record change key after) (Went (Keys next)) p made = (
+  (made.0.0, λ pushed push. made.0.1 p.1 pushed push, made.0.2, made.0.3),
+  made.1,
+)
+changes_row s chains beside old new (Record change key after) Done p made = absurd made
+changes_row s chains beside old new (Record change key after) (Hindered same why) p made = (
+  made.0,
+  (made.1.0, rows_aside s chains beside _ _ old new made.2.0 p.1, made.1.1, made.1.2),
+  made.2,
+)
+changes_row s chains beside old new (Keys change) (Went (Record next key after)) p made = absurd made.0
+changes_row s chains beside old new (Keys change) (Went (Keys next)) p made = made
+changes_row s chains beside old new (Keys change) Done p made = made
+changes_row s chains beside old new (Keys change) (Hindered same why) p made = made

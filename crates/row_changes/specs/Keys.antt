@@ -1,10 +1,10 @@
 -- What is known while the keys of a table take over a change of a row, and what each step does.
 use Rattle.std.specs.Prelude.{◌≡◌, ◌⊎◌, ℕ, ◌<◌, ◌≤◌, Bool, true, false, List, length, slice_get, Option, None, Some, ◌+◌, ◌-◌, ◌*◌, ◌^◌, ◌∷◌, IfSome}
 use Rattle.inno_types.specs.{declared.value.Value.Value, declared.value.Column.Column, declared.value.Key.Key, declared.value.Schema.Schema}
-use Rattle.key_codec.specs.Keys.{entry_code}
+use Rattle.key_codec.specs.Keys.{HasEntry, entry_code}
 use Rattle.law_stored_rows.specs.{Entries.value_in, Entries.is_same_value, Edits.clustered_index, Edits.key_index, Tables.Said, Tables.SayTheSameBut}
 use Rattle.row_changes.specs.{declared.key_entries.KeyEntries.KeyEntries, declared.entry_put.EntryPut.EntryPut, declared.entry_put.PutPhase.TheVariants.Look}
-use Rattle.row_changes.specs.{declared.keys_change.KeysChange.KeysChange, Reached.Reached, Pairs.RowsStay, Entries.IsPutting}
+use Rattle.row_changes.specs.{declared.keys_change.KeysChange.KeysChange, Reached.Reached, Pairs.RowsStay, Pairs.PutsPair, Entries.IsPutting}
 use Rattle.row_changes.specs.{Entries.put_steps, Pairs.Hinders, Edits.IsRowFor, Edits.IsKeyAt, Records.IsTable, Told.AreRowsAs, Told.HasRowsAt}
 use Rattle.row_changes.specs.Reached.{Went, Done, Hindered}
 use Rattle.store_api.specs.{declared.moves.Move.Move, declared.moves.Move.TheVariants.End}
@@ -138,9 +138,26 @@ pub record StaysBesideKeys (old new : WorldState) : Type 0 where
   pub rest : new ≡ record old { indexes = new.indexes; versions = new.versions; paged = new.paged }
   pub later : StoreGoes old.paged new.paged
 
+-- these bytes are the entry of some value at the clustered record's key, in the table's key of this number
+pub record IsEntryAt (schema : Schema) (which : ℕ) (primary entry : List ℕ) : Type 0 where
+  pub key : Key
+  pub key_is : slice_get schema.keys which ≡ Some key
+  pub indexed : Column
+  pub indexed_is : slice_get schema.columns key.column ≡ Some indexed
+  pub value : Value
+  pub has : HasEntry indexed.kind value
+  pub spelled : entry ≡ entry_code indexed.kind value primary
+
+-- One entry of the row was changed, or none, and no entry of another row.
+abbrev pub ChangesItsEntry : Schema → ℕ → List ℕ → WorldState → WorldState → Type 0
+ChangesItsEntry schema table primary old new =
+    RowsStay old new ⊎ ((which : ℕ) × (which < length schema.keys) × (entry : List ℕ) × (value : Option (List ℕ)) × PutsPair (key_index table which)
+    entry value old new × (IsTold old → IsEntryAt schema which primary entry))
+
 -- the same change, some steps nearer
 pub record GoesOnWithKeys (chains : Chains) (beside : Said) (old new : WorldState) (change next : KeysChange) : Type 0 where
   pub stays : StaysBesideKeys old new
+  pub entry : (schema : Schema) → slice_get old.schemas change.table ≡ Some schema → ChangesItsEntry schema change.table change.key old new
   pub table_is : next.table ≡ change.table
   pub key_is : next.key ≡ change.key
   pub before_is : next.before ≡ change.before

@@ -1,8 +1,8 @@
 -- What a short step of a change does to the pairs of a world's indexes, and what may keep it from going on.
-use Rattle.std.specs.Prelude.{◌≡◌, ◌≢◌, ◌⊎◌, ℕ, List, Option, None}
+use Rattle.std.specs.Prelude.{◌≡◌, ◌≢◌, ◌⊎◌, ℕ, List, Option, None, Some}
 use Rattle.store_api.specs.{declared.moves.Move.Move}
 use Rattle.store_api.specs.declared.moves.Move.TheVariants.{At, End, Done, Latch, Full, TooDeep, NoMemory}
-use Rattle.entries.specs.{Index.Index, Index.Goes, Index.AreKept, Calls.Delays, Calls.LacksPages, Calls.IsKeptOff}
+use Rattle.entries.specs.{Index.Index, Index.Goes, Index.AreKept, Index.GoesOn, Calls.Delays, Calls.LacksPages, Calls.IsKeptOff}
 use Rattle.row_versions.specs.Versions.{Stays}
 use Rattle.law_stored_rows.specs.Edits.{with_value}
 use Rattle.world.specs.{State.WorldState, Stores.StoreGoes}
@@ -35,3 +35,17 @@ Hinders actor old new (Full need free) = LacksPages old new (Full need free)
 Hinders actor old new TooDeep = LacksPages old new TooDeep
 Hinders actor old new NoMemory = Unit {0}
 Hinders actor old new other = Delays actor old new other
+
+-- What calls that came before in the same step have left: no pair has changed and no place, and who is awaited was so, or is this actor.
+pub record IsReached (actor : ℕ) (old mid : Index) : Type 0 where
+  pub pairs : AreKept old.pairs mid.pairs
+  pub place : mid.place ≡ old.place
+  pub awaited : (by : ℕ) → mid.awaited ≡ Some by → (old.awaited ≡ Some by) ⊎ (by ≡ actor)
+  pub later : GoesOn old.paged mid.paged
+
+-- why the last of a step's calls has not done what it was asked
+pub record HindersBehind (actor : ℕ) (old new : Index) (why : Move) : Type 0 where
+  pub mid : Index
+  pub reached : IsReached actor old mid
+  pub kept : AreKept mid.pairs new.pairs
+  pub cause : Hinders actor mid new why

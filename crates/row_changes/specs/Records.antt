@@ -12,10 +12,11 @@ use Rattle.entries.specs.{Pairs.value_of, Index.Index, Index.Told, Index.Goes, I
 use Rattle.txn_table.specs.Txns.{Txns, is_there, id_at, with_id}
 use Rattle.world.specs.{State.WorldState, State.Session, State.Work, State.Logged, State.HasWork, Stores.StoreGoes, Indexes.KeepsIf, Undoing.MakesRoom}
 use Rattle.row_changes.specs.{declared.record_change.RecordChange.RecordChange, RecordReached.RecordReached, Asides.StepsAside}
-use Rattle.row_changes.specs.{declared.record_change.RecordStage.RecordStage, declared.row_edit.RowEdit.RowEdit, Entries.IsThere, Pairs.Hinders}
+use Rattle.row_changes.specs.{declared.record_change.RecordStage.RecordStage, declared.row_edit.RowEdit.RowEdit, Entries.IsThere, Pairs.HindersBehind}
+use Rattle.row_changes.specs.{Pairs.IsReached, Pairs.RowsStay}
 use Rattle.row_changes.specs.RecordReached.{Went, Recorded, Hindered}
 use Rattle.row_changes.specs.declared.row_edit.RowEdit.TheVariants.{Put, Remove}
-use Rattle.row_changes.specs.declared.record_change.RecordStage.TheVariants.{Enter, Room, Find, Insert, Replace}
+use Rattle.row_changes.specs.declared.record_change.RecordStage.TheVariants.{Enter, Room, Find, Replace}
 use Rattle.row_changes.specs.Edits.{change_of, rows_put, FitsEdit, IsPut, FindsRow, version_by, LacksRow}
 
 -- the version is that of the bytes, or none is, or memory ran out
@@ -58,7 +59,6 @@ abbrev pub StageHolds : RecordStage → Schema → RowEdit → List ℕ → Sess
 StageHolds Enter schema edit key session index = Unit {0}
 StageHolds Room schema edit key session index = session.can_change ≡ true
 StageHolds Find schema edit key session index = HasRoom session
-StageHolds Insert schema edit key session index = HasRoom session × IsPut edit × IsThere false key index
 StageHolds (Replace before bytes) schema edit key session index = HasRoom session × FindsRow edit before × IsFormer schema key bytes before index
 
 pub record IsChangingRecord (s : ℕ) (state : WorldState) (change : RecordChange) : Type 0 where
@@ -77,8 +77,15 @@ abbrev pub record_steps : RecordStage → ℕ
 record_steps Enter = 4
 record_steps Room = 3
 record_steps Find = 2
-record_steps Insert = 1
 record_steps (Replace before bytes) = 1
+
+-- The step has begun at one world, has seen there that the place has no record, and is at another by calls that change nothing.
+pub record IsMissing (s : ℕ) (change : RecordChange) (start state : WorldState) : Type 0 where
+  pub changing : IsChangingRecord s start change
+  pub stage_is : change.stage ≡ Find
+  pub absent : Told (λ pairs. value_of change.key pairs ≡ None) (start.indexes (clustered_index change.table))
+  pub stays : RowsStay start state
+  pub reached : IsReached s (start.indexes (clustered_index change.table)) (state.indexes (clustered_index change.table))
 
 -- the same record, some steps nearer
 pub record GoesOnWithRecord (s : ℕ) (old new : WorldState) (change next : RecordChange) : Type 0 where
@@ -195,7 +202,7 @@ IsSpoiled schema key index =
 -- record that is there is none of the table's; or a row that is to be removed isn't there.
 abbrev pub HindersRecord : ℕ → RecordChange → Schema → WorldState → WorldState → Move → Type 0
 HindersRecord s change schema old new why =
-    Hinders s (old.indexes (clustered_index change.table)) (new.indexes (clustered_index change.table)) why
+    HindersBehind s (old.indexes (clustered_index change.table)) (new.indexes (clustered_index change.table)) why
     ⊎ ((why ≢ Done) × MakesRoom s most_undo_bytes old new why)
     ⊎ IsSpoiled schema change.key (old.indexes (clustered_index change.table))
     ⊎ LacksRow change.edit schema change.key (old.indexes (clustered_index change.table)) why
@@ -208,11 +215,6 @@ ChangesRecord s old new change (Hindered same why) =
     schema old new why
 
 -- ---- what was found
-
--- the place has no record: a row may be put there, but none removed
-abbrev pub when_missed : RowEdit → RecordChange → RecordReached
-when_missed (Put row) change = Went (record change { stage = Insert })
-when_missed (Remove value) change = Hindered change End
 
 -- the place has a record: a row may be put over it, and removed where it isn't marked
 abbrev pub when_found : RowEdit → Version → List ℕ → RecordChange → RecordReached

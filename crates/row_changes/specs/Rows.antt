@@ -89,3 +89,37 @@ ChangesRow s chains beside old new change (Hindered same why) =
 -- the same while no other change is under way
 abbrev pub ChangesRowAlone : ℕ → Chains → WorldState → WorldState → RowChange → Reached RowChange → Type 0
 ChangesRowAlone s chains old new change reached = ChangesRow s chains (what_is_there chains) old new change reached
+
+-- ---- while others are at work, too
+
+-- What is known between the steps, whatever others do at other places, and at this one before its record: what keys say of it is known
+-- from its record on.
+abbrev pub IsAtRow : ℕ → Chains → Said → WorldState → RowChange → Type 0
+IsAtRow s chains beside state (Record change key after) = IsChangingRecord s state change × (key ≡ change.key) × (after ≡ row_after change.edit)
+IsAtRow s chains beside state (Keys change) = IsChangingKeys chains beside state change
+
+-- what has to be known of the rows where the record is put
+abbrev pub RowsBefore : Chains → Said → WorldState → RowChange → Type 0
+RowsBefore chains beside state (Record change key after) = HasRowsAt chains beside change.table change.key state
+RowsBefore chains beside state (Keys change) = Unit {0}
+
+abbrev pub MovesRow : ℕ → Chains → Said → WorldState → WorldState → RowChange → RowChange → Type 0
+MovesRow s chains beside old new (Record change key after) (Record next key' after') =
+    GoesOnWithRecord s old new change next × IsAtRow s chains beside new (Record next key' after')
+MovesRow s chains beside old new (Record change key after) (Keys next) =
+    ChangesRecord s old new change (records.Recorded next.before) ×
+    (HasRowsAt chains beside change.table change.key old → (pushed : Chains) → PushesEdit s change old chains pushed → IsChangingKeys pushed beside new next) ×
+    (next.table ≡ change.table) × (next.key ≡ change.key)
+MovesRow s chains beside old new (Keys change) (Record next key after) = ⊥
+MovesRow s chains beside old new (Keys change) (Keys next) = GoesOnWithKeys chains beside old new change next
+
+-- `ChangesRow`, where the rows before are asked for by the step alone that puts the record
+abbrev pub MakesRow : ℕ → Chains → Said → WorldState → WorldState → RowChange → Reached RowChange → Type 0
+MakesRow s chains beside old new change (Went next) =
+    MovesRow s chains beside old new change next ×
+    ((schema : Schema) → slice_get old.schemas (table_of change) ≡ Some schema → row_steps (length schema.keys) next < row_steps (length schema.keys)
+    change)
+MakesRow s chains beside old new (Record change key after) Done = ⊥
+MakesRow s chains beside old new (Keys change) Done = RowsStay old new × HasRowsAt chains beside change.table change.key new
+MakesRow s chains beside old new change (Hindered same why) =
+    (same ≡ change) × IsAtRow s chains beside new change × HindersRow s old new change why

@@ -5,11 +5,11 @@
 ghost use Rattle.std.specs.Prelude.{◌≡◌, ℕ, List, IfOk, slice_get, Some};
 ghost use Rattle.inno_types.specs.declared.value.Schema.{Schema};
 ghost use Rattle.row_codec.specs.Rows.{version_code};
-ghost use Rattle.world.specs.State.{Session, Work, HasWork};
+ghost use Rattle.world.specs.State.{WorldState, Session, Work, HasWork};
 ghost use Rattle.law_stored_rows.specs.Edits.{clustered_index};
 ghost use Rattle.law_stored_rows.specs.Records.{row_shown};
-ghost use Rattle.row_changes.specs.Edits.{version_by};
-ghost use Rattle.row_changes.specs.Records.{IsChangingRecord, ChangesRecord, MayMake, when_missed, when_found, row_found, undo_of_former, record_steps, id_for};
+ghost use Rattle.row_changes.specs.Edits.{version_by, IsPut};
+ghost use Rattle.row_changes.specs.Records.{IsChangingRecord, ChangesRecord, MayMake, when_found, row_found, undo_of_former, id_for, IsMissing};
 ghost use Rattle.row_changes.specs.Awaited.{AwaitsAt};
 ghost use Rattle.row_changes.specs.InPlace.{record_reached};
 ghost use Rattle.row_changes.specs.RecordReached.{Went};
@@ -34,10 +34,8 @@ pub enum RecordStage {
     Enter,
     /// Take room for the undo record.
     Room,
-    /// See whether the place has a record.
+    /// See whether the place has a record, and insert it where it has none.
     Find,
-    /// It has none.
-    Insert,
     /// It has this one, with these bytes.
     Replace { before: Version, bytes: Bytes },
 }
@@ -68,7 +66,6 @@ impl RecordChange {
             RecordStage::Enter => self.enter(world, s),
             RecordStage::Room => self.make_room(world, s),
             RecordStage::Find => self.find(alloc, world, s),
-            RecordStage::Insert => self.insert(alloc, world, s),
             RecordStage::Replace { .. } => self.replace(alloc, world, s),
         }
     }
@@ -124,16 +121,24 @@ impl RecordChange {
                 Ok(before) => self.found(before, Bytes::from_vec(value)),
                 Err(why) => Stepped::Hindered(why),
             },
-            Move::End => self.missed(),
+            Move::End => self.missed(alloc, world, s),
             hindrance => Stepped::Hindered(hindrance),
         }
     }
 
-    fn missed(&mut self) -> Stepped<Option<Row>, Move>
-        ensures { record_reached self.new result ≡ when_missed self.old.edit self.old }
+    /// The place has no record. It is inserted in the step in which that was seen, so nothing is known of the key between steps.
+    fn missed<W: World>(
+        &mut self,
+        alloc: Global,
+        world: &mut W,
+        s: u32,
+    ) -> Stepped<Option<Row>, Move>
+        requires missing { (start : WorldState) × IsMissing s self.old start (W.state world.old) }
+        ensures changes { (start : WorldState) → IsMissing s self.old start (W.state world.old) → ChangesRecord s start (W.state world.new) self.old (record_reached self.new result) }
+        ensures awaits { AwaitsAt s (clustered_index self.old.table) (W.state world.old) (W.state world.new) }
     {
         match &self.edit {
-            RowEdit::Put(_) => self.then(RecordStage::Insert),
+            RowEdit::Put(_) => self.insert(alloc, world, s),
             RowEdit::Remove(_) => Stepped::Hindered(Move::End),
         }
     }
@@ -156,9 +161,9 @@ impl RecordChange {
         world: &mut W,
         s: u32,
     ) -> Stepped<Option<Row>, Move>
-        requires changing { IsChangingRecord s (W.state world.old) self.old }
-        requires stage { self.old.stage ≡ RecordStage.Insert }
-        ensures changes { ChangesRecord s (W.state world.old) (W.state world.new) self.old (record_reached self.new result) }
+        requires missing { (start : WorldState) × IsMissing s self.old start (W.state world.old) }
+        requires put { IsPut self.old.edit }
+        ensures changes { (start : WorldState) → IsMissing s self.old start (W.state world.old) → ChangesRecord s start (W.state world.new) self.old (record_reached self.new result) }
         ensures awaits { AwaitsAt s (clustered_index self.old.table) (W.state world.old) (W.state world.new) }
     {
         let Ok(value) = self.value(alloc, world, s, 0) else {
@@ -223,7 +228,7 @@ impl RecordChange {
         pointer: u64,
     ) -> Result<Bytes, NoMemory>
         requires changing { IsChangingRecord s (W.state world.now) self.now }
-        requires makes { record_steps self.now.stage ≡ 1 }
+        requires makes { MayMake self.now.edit self.now.stage }
         ensures { IfOk result (λ bytes. (schema : Schema) (session : Session) (work : Work)
             → slice_get (W.state world.now).schemas self.now.table ≡ Some schema → HasWork s session work (W.state world.now)
             → bytes ≡ version_code schema (version_by self.now.edit (row_found self.now.stage) (id_for work.id (W.state world.now).txns.next) pointer)) }
@@ -240,10 +245,8 @@ impl RecordChange {
         let (row, marked) = match (&self.edit, &self.stage) {
             (RowEdit::Put(row), _) => (row, false),
             (RowEdit::Remove(_), RecordStage::Replace { before, .. }) => (&before.row, true),
-            (
-                RowEdit::Remove(_),
-                RecordStage::Enter | RecordStage::Room | RecordStage::Find | RecordStage::Insert,
-            ) => unreachable!(),
+            (RowEdit::Remove(_), RecordStage::Enter | RecordStage::Room | RecordStage::Find) =>
+                unreachable!(),
         };
         Ok(Version {
             row: row.copied()?,
@@ -264,8 +267,7 @@ fn former(table: u8, key: &Bytes, stage: &RecordStage) -> Result<(Option<Row>, U
             shown_row(before)?,
             undo_of_former(table, key, bytes)?,
         )),
-        RecordStage::Enter | RecordStage::Room | RecordStage::Find | RecordStage::Insert =>
-            unreachable!(),
+        RecordStage::Enter | RecordStage::Room | RecordStage::Find => unreachable!(),
     }
 }
 

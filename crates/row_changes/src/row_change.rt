@@ -6,7 +6,7 @@ ghost use Rattle.row_versions.specs.Chains.{Chains};
 ghost use Rattle.law_stored_rows.specs.Tables.{Said};
 ghost use Rattle.row_changes.specs.Awaited.{AwaitsIn};
 ghost use Rattle.row_changes.specs.InPlace.{reached_at};
-ghost use Rattle.row_changes.specs.Rows.{IsChangingRow, ChangesRow, row_after, table_of};
+ghost use Rattle.row_changes.specs.Rows.{IsAtRow, MakesRow, row_after, table_of};
 
 use crate::keys_change::KeysChange;
 use crate::record_change::{RecordChange, RecordStage};
@@ -44,8 +44,8 @@ impl RowChange {
     /// One step. Between the steps others may change other rows, and what keys say of those. It asks that nobody else changes
     /// this row.
     pub fn advance<W: World>(&mut self, alloc: Global, world: &mut W, s: u32) -> Stepped<(), Move>
-        requires { (chains : Chains) × (beside : Said) × IsChangingRow s chains beside (W.state world.old) self.old }
-        ensures changes { (chains : Chains) (beside : Said) → IsChangingRow s chains beside (W.state world.old) self.old → ChangesRow s chains beside (W.state world.old) (W.state world.new) self.old (reached_at self.new result) }
+        requires { (chains : Chains) × (beside : Said) × IsAtRow s chains beside (W.state world.old) self.old }
+        ensures makes { (chains : Chains) (beside : Said) → IsAtRow s chains beside (W.state world.old) self.old → MakesRow s chains beside (W.state world.old) (W.state world.new) self.old (reached_at self.new result) }
         ensures awaits { AwaitsIn s (table_of self.old) (W.state world.old) (W.state world.new) }
     {
         match self {

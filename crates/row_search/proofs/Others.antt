@@ -6,9 +6,10 @@ use Rattle.inno_types.specs.{declared.value.Value.Value, declared.value.Kind.Kin
 use Rattle.key_codec.specs.Keys.{HasKey, HasEntry, Has64Bits, key_code, entry_code}
 use Rattle.entries.specs.{Pairs.Pair, Pairs.value_of, Calls.HasKey as IsAtKey}
 use Rattle.row_versions.specs.{declared.kept.Kept.Kept, declared.version.Version.Version, Chains.first_seen, Chains.newest}
-use Rattle.law_stored_rows.specs.{Entries.value_in, Entries.has_value, Entries.HasEntries, Records.IsRecordWith, Records.IsClustered, Records.KeepsMore}
+use Rattle.law_stored_rows.specs.{Entries.value_in, Entries.has_value, Entries.entry_of, Entries.HasEntries, Records.IsRecordWith, Records.IsClustered}
+use Rattle.law_stored_rows.specs.{Records.KeepsMore}
 use Rattle.law_stored_rows.specs.Records.{kept_of}
-use Rattle.law_stored_rows.proofs.{Values.value_itself, RowRecords.leads_still, RowRecords.no_record}
+use Rattle.law_stored_rows.proofs.{Entries.holds_said, Values.value_itself, RowRecords.leads_still, RowRecords.no_record}
 use Rattle.sql_plan.specs.Visits.{kind_if, kind_at, index_key}
 use Rattle.world.specs.State.{WorldState}
 use Rattle.row_search.specs.declared.phase.Phase.TheVariants.{Follow, Fetch, Look, Walk, Keep}
@@ -116,7 +117,8 @@ in_keyed table schema kept pairs entries versions_at said sight at key is there 
     ∙ (keyed_is schema at row key e.indexed there e.indexed_is
     ∙ ap (entry_code e.indexed.kind (value_in key.column row)) (key_is_value schema value row h ∙ ap (λ (k : Kind). key_code k value) kind)) in
     ap (λ k. is_some (value_of k entries)) code
-    ∙ (ap is_some (e.marks value (value_in key.column row) has has_entry) ∙ rw (says value row seen))
+    ∙ (let some : is_some (entry_of key.column (value_in key.column row) (said value)) ≡ true = rw (says value row seen) refl in
+    ap is_some (holds_said (e.marks value (value_in key.column row) has has_entry) some) ∙ some)
 
 pub seen_among : (column : ℕ) (sight : Sight) (versions : List Version) (row : List Value) → first_seen (sees_by sight) versions ≡ Some row
     → list_any (λ told. has_value column (value_in column row) told.row) versions ≡ true

@@ -1,7 +1,7 @@
 -- The place that an undo record tells of, its versions, and the keys of its table: their columns, entries, and what they say.
 use Rattle.std.proofs.Common.{◌≡◌, ◌≢◌, ◌⊎◌, inl, inr, ℕ, Bool, true, false, List, [], ◌∷◌, Option, Some, None, refl, sym, ap, subst, ◌∙◌, arith, zero}
 use Rattle.std.proofs.Common.{suc, ◌+◌, ◌-◌, ◌<◌, ◌≤◌, slice_get, length}
-use Rattle.std.specs.Prelude.{◌==◌, not, All}
+use Rattle.std.specs.Prelude.{◌==◌, not, All, is_some}
 use Rattle.std.proofs.Math.Bool.{or-true}
 use Rattle.std.proofs.lemmas.{Option.slice_get_within, Bool.cond-false, Bool.ne_eqb}
 use Rattle.std.proofs.lemmas.List.Elements.{All-head, All-tail}
@@ -17,6 +17,7 @@ use Rattle.row_versions.specs.Chains.{Chains, versions_at, newest, older}
 use Rattle.law_stored_rows.specs.{Edits.key_index, Records.row_shown, Records.shown, Records.IsCodeOf, Records.IsRecordWith}
 use Rattle.law_stored_rows.specs.{Records.LeadTo, Tables.place_in, Tables.Said, Tables.AreClustered, Storable.IsStorable, Storable.IsKeyOn}
 use Rattle.law_stored_rows.specs.Entries.{value_in, has_value, entry_of as entry_said}
+use Rattle.law_stored_rows.proofs.Entries.{holds_said}
 use Rattle.law_stored_rows.proofs.Values.{one_key, key_there, entry_there, place_itself, value_itself}
 use Rattle.law_stored_rows.specs.Records.{kept_of}
 use Rattle.law_stored_rows.proofs.RowRecords.{record_of, record_read, pointer_followed, leads_nowhere}
@@ -49,6 +50,18 @@ module _ (undo : Undo) (schema : Schema) (place : Place) (schemas : List Schema)
       (place_is bytes coded is.code_is) here in
       let told = record_of schema undo.key kept undo.table (Some bytes) (versions_at place chains) at_place in
       record_read schema undo.key bytes kept (versions_at place chains) coded told is.code_is
+
+  -- all of them are kept as versions of the row
+  pub newest_own : (pairs : ℕ → List Pair) (kept : ℕ → Option Kept) (chains : Chains) (bytes : List ℕ) (coded : Coded)
+      → AreClustered schemas pairs kept chains → IsNewest undo schema pairs kept bytes coded
+      → LeadTo schema undo.key (kept_of kept undo.table undo.key) coded.pointer (versions_before chains place)
+  newest_own pairs kept chains bytes coded are is =
+      let clustered = are.tables undo.table schema tells.there in
+      let both = key_there schema undo.key bytes coded clustered.primary clustered.primary_is is.code_is in
+      let here = rw (← both.1, is.there) at (clustered.records (key_of schema coded.row) both.0) in
+      (record_read schema undo.key bytes (kept_of kept undo.table undo.key) (versions_at place chains) coded
+      (subst (λ (p : Place). IsRecordWith schema undo.key (kept_of kept undo.table undo.key) (Some bytes) (versions_at p chains))
+      (place_is bytes coded is.code_is) here) is.code_is).1
 
 -- ---- what was before the change
 
@@ -170,16 +183,19 @@ module _ (chains : Chains) (beside : Said) (place : Place) (undo : Undo) (schema
   -- the entry of a record of the place holds what the key says
   pub entry_says : (said : ℕ → List Version) (which : ℕ) (version : Coded) (bytes : List ℕ) → which < length schema.keys
       → AreCodedBut rows.schemas rows.pairs rows.kept chains beside place said → IsCodeOf schema undo.key bytes version
+      → is_some (entry_said (column_of schema which) (value_in (column_of schema which) version.row) (said which)) ≡ true
       → value_of (entry_of schema (which + 1) version.row undo.key) (rows.pairs (key_index undo.table which)) ≡ entry_said (column_of schema which)
       (value_in (column_of schema which) version.row) (said which)
-  entry_says said which version bytes within are code =
+  entry_says said which version bytes within are code some =
       let it = key_at schema tells.storable which within in
       let e = are.keyed.keys undo.table which schema it.key tells.there it.key_is in
       let one : tells.primary ≡ e.primary = cc (tells.primary_is, e.primary_is) in
       let has_entry = entry_there schema undo.key bytes version it.key.column e.indexed code e.indexed_is in
       let indexed : it.on.column ≡ e.indexed = cc (it.on.there, e.indexed_is) in
       let found = e.marks place.key (value_in it.key.column version.row) (rw one at tells.has_key) has_entry in
-      rw (it.entry_is version.row undo.key, it.column_is, indexed, tells.key_is, one) (found ∙ ap (entry_said it.key.column _) (says_here said which))
+      let says = ap (entry_said it.key.column (value_in it.key.column version.row)) (says_here said which) in
+      let told : is_some (entry_said it.key.column (value_in it.key.column version.row) (said which)) ≡ true = rw it.column_is at some in
+      rw (it.entry_is version.row undo.key, it.column_is, indexed, tells.key_is, one) (holds_said found (ap is_some says ∙ told) ∙ says)
 
 -- an entry of versions of which one has the value is one byte
 pub one_byte : (column : ℕ) (value : Value) (versions : List Version) → list_any (λ version. has_value column value version.row) versions ≡ true

@@ -10,13 +10,15 @@ use Rattle.store_api.specs.{declared.answers.Undo.Undo, declared.moves.Move.Move
 use Rattle.store_api.specs.declared.answers.Version.{Version as Coded}
 use Rattle.store_api.specs.declared.moves.Move.TheVariants.{Done, Step, End, NoMemory}
 use Rattle.key_codec.proofs.Once.{same_entry}
-use Rattle.law_stored_rows.specs.{Storable.IsStorable, Records.row_shown, Records.shown, Records.IsCodeOf, Records.LeadTo, Entries.is_same_value}
+use Rattle.law_stored_rows.specs.{Storable.IsStorable, Records.row_shown, Records.shown, Records.IsCodeOf, Records.LeadTo, Records.kept_of}
+use Rattle.law_stored_rows.specs.{Entries.is_same_value}
 use Rattle.law_stored_rows.specs.{Entries.value_in, Entries.has_value, Edits.key_index, Edits.with_value, Edits.clustered_index, Tables.Said}
 use Rattle.row_versions.specs.{declared.kept.Kept.Kept, declared.version.Version.Version, declared.place.Place.Place, Chains.Chains}
 use Rattle.row_versions.specs.Versions.{Versions, leads, IsPointer}
 use Rattle.secondary.specs.Entries.{entry_of}
 use Rattle.law_stored_rows.proofs.Values.{same_value, value_itself, entry_there}
-use Rattle.law_stored_rows.proofs.RowRecords.{leads_nowhere, one_lead, pointer_followed}
+use Rattle.law_stored_rows.proofs.RowRecords.{leads_nowhere, leads_still, one_lead, pointer_followed}
+use Rattle.law_stored_rows.proofs.KeptRows.{found_of}
 use Rattle.undo_apply.specs.{declared.work_room.WorkRoom.WorkRoom, declared.work_room.Stage.Stage, Rooms.IsWhole, Rooms.steps_left, Told.Rows, Told.rows_of}
 use Rattle.undo_apply.specs.Standing.{column_of, some_has, AreCodedBut, TellsOf, had_row, versions_before, IsCleared, IsUnderWay, IsLagging}
 use Rattle.undo_apply.specs.Standing.{LeadsBack, was_before, IsTakenBack}
@@ -24,13 +26,13 @@ use Rattle.undo_apply.specs.Stages.{FitsKeys, StageHolds, IsPuttingBack, Changes
 use Rattle.undo_apply.specs.Moves.{WentOn, WentOnOrEnded, at_stage, LooksAt, LooksOn, Ended}
 use Rattle.undo_apply.specs.declared.work_room.Stage.TheVariants.{Key, Mark, Await, Remove, Unmark, Walk, AwaitRecords, Record, Find}
 use Rattle.undo_apply.proofs.Columns.{key_at, one_less, entry_short, entry_says, one_byte, cleared_any, lagging_any, newest_any, absent_stays}
-use Rattle.undo_apply.proofs.Columns.{newest_read, what_was, WasThere, WasNot, not_new, before_new}
+use Rattle.undo_apply.proofs.Columns.{newest_read, newest_own, what_was, WasThere, WasNot, not_new, before_new}
 use Rattle.undo_apply.proofs.Taken.{ends, stands, with_entry, dropped, unmarked_now, passed, clear_unless_row, clear_of_same}
 use Rattle.undo_apply.proofs.Telling.{schemas_stay, rows_stay, leaves_told, leaves_rows, rows_after, pairs_after}
 use Rattle.undo_apply.proofs.Telling.{told_of, IsThereAs, replace_stops, remove_stops, next_key_stops, delay_stops}
 use Rattle.world.specs.{State.WorldState, Undoing.IsUnchanged, Indexes.Calls, Indexes.Changes, Indexes.ReplacesWith}
 use Rattle.world.specs.Told.{pairs_of, IsTold, LeavesRows, TellsTogether}
-use Rattle.row_changes.specs.Pairs.{RowsStay, PutsPair}
+use Rattle.row_changes.specs.{Pairs.RowsStay, Pairs.PutsPair, Keys.IsEntryAt}
 use Rattle.std.specs.declared.alloc.Global.{Global}
 use Rattle.entries.specs.{Pairs.Pair, Pairs.value_of, Index.Index, Index.HasGone, Calls.NextKeys, Calls.Removes, Calls.is_done, Calls.Fetches}
 use Rattle.row_codec.specs.Rows.{IsRecordOf, IsVersion, head_code, others_code}
@@ -45,6 +47,18 @@ pub walk_leads : (schema : Schema) (key : List ℕ) (versions : Versions) (point
     → LeadTo schema key versions.kept_at pointer left → IsTrue (leads pointer versions)
 walk_leads schema key versions pointer [] is = ap (λ (b : Bool). b || is_some (versions.kept_at pointer)) (eq-eqb pointer 0 is)
 walk_leads schema key versions pointer (version ∷ rest) is = ap (λ (o : Option Kept). pointer == 0 || is_some o) is.1.there ∙ or-true (pointer == 0)
+
+-- a pointer that leads along a row leads there
+along : (schema : Schema) (key : List ℕ) (kept : ℕ → Option Kept) (table pointer : ℕ) (left : List Version)
+    → LeadTo schema key (kept_of kept table key) pointer left → LeadTo schema key kept pointer left
+along schema key kept table pointer left = leads_still schema key (kept_of kept table key) kept pointer left (found_of kept table key)
+
+own_bytes : (schema : Schema) (key : List ℕ) (kept : ℕ → Option Kept) (table pointer : ℕ) (left : List Version) (read : List ℕ)
+    → LeadTo schema key (kept_of kept table key) pointer left → pointer ≢ 0 → option_map (λ (k : Kept). k.bytes) (kept pointer) ≡ Some read
+    → option_map (λ (k : Kept). k.bytes) (kept_of kept table key pointer) ≡ Some read
+own_bytes schema key kept table pointer [] read leads some bytes = absurd (some leads)
+own_bytes schema key kept table pointer (version ∷ rest) read leads some bytes =
+    ap (option_map (λ (k : Kept). k.bytes)) (leads.1.there ∙ sym (found_of kept table key pointer leads.0 leads.1.there)) ∙ bytes
 
 -- the version that was read behind a pointer
 pub record IsRead (schema : Schema) (key read : List ℕ) (kept : ℕ → Option Kept) (left : List Version) : Type 0 where
@@ -456,17 +470,32 @@ module _ {chains : Chains} {beside : Said} {place : Place} (actor : ℕ) {undo :
 
     -- ---- the entry of a record has another value, or none
 
+    entry_at : (value entry : List ℕ) (version : Coded) → which < keys → IsCodeOf is.schema undo.key value version
+        → entry ≡ entry_of is.schema (which + 1) version.row undo.key → IsEntryAt is.schema which undo.key entry
+    entry_at value entry version within code entry_is =
+        let it = key_at is.schema is.tells.storable which within in
+        record {
+          key = it.key;
+          key_is = it.key_is;
+          indexed = it.on.column;
+          indexed_is = it.on.there;
+          value = value_in it.key.column version.row;
+          has = entry_there is.schema undo.key value version it.key.column it.on.column code it.on.there;
+          spelled = entry_is ∙ it.entry_is version.row undo.key;
+        }
+
     -- the rows once the entry of a record has this value
     abbrev Put : Coded → Option (List ℕ) → Rows
     Put version value = with_entry chains beside (rows_of old) is.tells which version value
 
     entry_done : (stage next : Stage) → room.stage ≡ stage → (entry : List ℕ) (value now : Option (List ℕ)) (new : WorldState) → which < keys
         → PutsPair number entry value old new → value ≡ now → FitsKeys keys undo next → steps_left keys next < steps_left keys stage
+        → (IsTold old → IsEntryAt is.schema which undo.key entry)
         → (IsTold old → (version : Coded) × (entry ≡ entry_of is.schema (which + 1) version.row undo.key) × At (Put version now) next)
         → Back (at_stage next (written entry)) new Step
-    entry_done stage next is_at entry value now new within puts value_is fits nearer holds =
+    entry_done stage next is_at entry value now new within puts value_is fits nearer its holds =
         went_to (written entry) (written_leaves entry) stage next is_at new (ap (λ (s : WorldState). s.schemas) puts.rest)
-        (inr (which, within, entry, value, puts)) fits (λ told.
+        (inr (which, within, entry, value, puts, its)) fits (λ told.
         let h = holds (put_told number entry value old new puts told) in
         let rows : rows_of new ≡ Put h.0 now =
         rows_after puts told ∙ (λ i. record (rows_of old) { pairs = pairs_after number (h.1 i) (value_is i) (rows_of old).pairs }) in
@@ -521,6 +550,7 @@ module _ {chains : Chains} {beside : Said} {place : Place} (actor : ℕ) {undo :
         went_on next (written entry) new (Changing entry mark new) (λ changes.
         entry_done stage next is_at entry (Some mark) (Some (byte ∷ [])) new within
         (puts_if entry (Some mark) changes changes.index_is.here.1) (ap Some mark_is) fits nearer (λ told. let it = marked told in
+        entry_at value entry it.version within it.code (written_is value entry result it.version writes within it.code).1) (λ told. let it = marked told in
         (it.version, (written_is value entry result it.version writes within it.code).1, it.holds)))
         (λ answer other changes. stopped_by stage is_at (written entry) (written_leaves entry) new answer other
         (change_stays_if changes (replace_leaves None actor entry mark (old.indexes number) (new.indexes number) answer changes.index_is.here other).0)
@@ -532,8 +562,9 @@ module _ {chains : Chains} {beside : Said} {place : Place} (actor : ℕ) {undo :
         there : IsTold old → IsThereAs entry mark old number
         there told =
             let it = marked told in
-            let says = entry_says chains beside place undo is.schema (rows_of old) is.tells it.said which it.version value within it.coded_but it.code in
             let one = one_byte (column_of is.schema which) (value_in (column_of is.schema which) it.version.row) (it.said which) it.some in
+            let says = entry_says chains beside place undo is.schema (rows_of old) is.tells it.said which it.version value within it.coded_but it.code
+            (ap is_some one.1) in
             (one.0 ∷ [], rw (written_is value entry result it.version writes within it.code).1 (says ∙ one.1), sym (ap length mark_is))
 
     pub mark_step : room.stage ≡ Mark which → (entry : List ℕ) (result : Bool) → Writes old undo which room.newest.items entry result
@@ -600,7 +631,10 @@ module _ {chains : Chains} {beside : Said} {place : Place} (actor : ℕ) {undo :
       remove_step =
           went_or_ended following (written entry) new Removing
           (λ calls. entry_done (Remove which) following is_at entry None None new within (removed_if entry calls calls.index_is.here.2) refl
-          (comes within).fits (follows (Remove which) within (omega arith)) remove_holds) remove_ended
+          (comes within).fits (follows (Remove which) within (omega arith)) (λ told.
+          let h = held (Remove which) is_at told in
+          entry_at room.newest.items entry h.0 within h.1.newest.code_is
+          (written_is room.newest.items entry result h.0 writes within h.1.newest.code_is).1) remove_holds) remove_ended
           (λ answer other not_end calls. stopped_by (Remove which) is_at (written entry) (written_leaves entry) new answer other
           (stays_if calls (remove_keeps actor entry (old.indexes number) (new.indexes number) answer calls.index_is.here other))
           (remove_stops actor old new number entry answer calls.index_is.here other not_end))
@@ -698,7 +732,9 @@ module _ {chains : Chains} {beside : Said} {place : Place} (actor : ℕ) {undo :
             let code = h.1.newest.code_is in
             let fields = others_code is.schema.primary is.schema.columns h.0.row in
             let same = pointer_is h.0.marked h.0.writer h.0.pointer fields code.numbers.pointer code.record_is.value_is in
-            let leads = (what_stood is.tells h.1).0 in
+            let leads =
+            newest_own undo is.schema place old.schemas is.tells (rows_of old).pairs (rows_of old).kept chains room.newest.items h.0 h.1.coded_but.clustered
+            h.1.newest in
             (h.0, h.1, mark_of h.0 code ∙ not_marked, record { left = before; leads = rw same leads; fewer = omega arith; passed = refl })) (omega arith)
 
     -- ---- a walk goes on
@@ -707,7 +743,8 @@ module _ {chains : Chains} {beside : Said} {place : Place} (actor : ℕ) {undo :
       pub walk_pointer : TellsTogether old → IsPointer pointer old.versions
       walk_pointer together told =
           let h = held (Walk which pointer) is_at (record { pairs = together told; versions = told }) in
-          walk_leads is.schema undo.key old.versions pointer h.3.left h.3.leads
+          walk_leads is.schema undo.key old.versions pointer h.3.left
+          (along is.schema undo.key old.versions.kept_at undo.table pointer h.3.left h.3.leads)
 
       module _ (read : Vec ℕ Global) (room_is : vec_capacity room.older ≤ vec_capacity read) (new : WorldState) (same : IsUnchanged old new) where
         stays : RowsStay old new
@@ -722,7 +759,8 @@ module _ {chains : Chains} {beside : Said} {place : Place} (actor : ℕ) {undo :
         pub walk_over : pointer ≡ 0 → Back (at_stage (Await which) mid) new Step
         walk_over nowhere =
             moved mid (older_leaves read room_is) (Walk which pointer) (Await which) is_at new stays inside (λ told h.
-            let none = ap (some_has is.schema which h.0) (leads_nowhere is.schema undo.key (rows_of old).kept pointer h.3.left h.3.leads nowhere) in
+            let none = ap (some_has is.schema which h.0) (leads_nowhere is.schema undo.key (kept_of (rows_of old).kept undo.table undo.key) pointer h.3.left
+            h.3.leads nowhere) in
             (h.0, h.1, record { plain = h.2; found_is = h.3.passed ∙ none })) (omega arith)
 
         pub walk_stopped : (answer : Move) → answer ≢ Done → StopsWalk old new answer → Back mid new answer
@@ -736,8 +774,9 @@ module _ {chains : Chains} {beside : Said} {place : Place} (actor : ℕ) {undo :
             abbrev known : At (rows_of old) (Walk which pointer)
             known = held (Walk which pointer) is_at told
 
-            seen : IsRead is.schema undo.key read.items (rows_of old).kept known.3.left
-            seen = version_read is.schema undo.key read.items (rows_of old).kept pointer known.3.left known.3.leads leads_on (bytes told.versions)
+            seen : IsRead is.schema undo.key read.items (kept_of (rows_of old).kept undo.table undo.key) known.3.left
+            seen = version_read is.schema undo.key read.items (kept_of (rows_of old).kept undo.table undo.key) pointer known.3.left known.3.leads leads_on
+                (own_bytes is.schema undo.key (rows_of old).kept undo.table pointer known.3.left read.items known.3.leads leads_on (bytes told.versions))
 
             abbrev Looks : Stage → Type 0
             Looks stage =
@@ -777,8 +816,10 @@ module _ {chains : Chains} {beside : Said} {place : Place} (actor : ℕ) {undo :
             fewer behind walk (inr on) versions others from leads =
                 let e : Walk which behind ≡ Walk which seen.version.pointer = sym walk ∙ on.0 in
                 let one : behind ≡ seen.version.pointer = cc in
-                let all = one_lead is.schema undo.key (rows_of old).kept pointer versions known.3.left from known.3.leads ∙ seen.left_is in
-                let less = one_lead is.schema undo.key (rows_of old).kept seen.version.pointer others seen.rest (rw one at leads) seen.leads in
+                let all = one_lead is.schema undo.key (rows_of old).kept pointer versions known.3.left from
+                (along is.schema undo.key (rows_of old).kept undo.table pointer known.3.left known.3.leads) ∙ seen.left_is in
+                let less = one_lead is.schema undo.key (rows_of old).kept seen.version.pointer others seen.rest (rw one at leads)
+                (along is.schema undo.key (rows_of old).kept undo.table seen.version.pointer seen.rest seen.leads) in
                 omega (arith, ap length all, ap length less)
 
           nears_by : (after.stage ≡ Mark which) ⊎ ((behind : ℕ) × (after.stage ≡ Walk which behind)) → Nears is.schema undo new room.stage after.stage

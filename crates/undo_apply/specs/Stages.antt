@@ -1,14 +1,14 @@
 -- What is known between the steps of a taking back, stage by stage, and what each step does.
-use Rattle.std.specs.Prelude.{◌≡◌, ◌≢◌, ◌⊎◌, ℕ, ◌<◌, ◌≤◌, Bool, true, false, List, length, slice_get, Option, Some}
+use Rattle.std.specs.Prelude.{◌≡◌, ◌≢◌, ◌⊎◌, ℕ, ◌<◌, ◌≤◌, Bool, true, false, List, length, slice_get, Some}
 use Rattle.inno_types.specs.declared.value.Schema.{Schema}
 use Rattle.store_api.specs.{declared.answers.Undo.Undo, declared.moves.Move.Move}
 use Rattle.store_api.specs.declared.answers.Version.{Version as Coded}
 use Rattle.store_api.specs.declared.moves.Move.TheVariants.{Done, Step, Latch, Again, Failed, Bad}
 use Rattle.entries.specs.Pairs.{value_of}
 use Rattle.row_versions.specs.{Calls.IsUnseen, declared.place.Place.Place, declared.version.Version.Version, Chains.Chains, Chains.Pops}
-use Rattle.law_stored_rows.specs.{Edits.clustered_index, Edits.key_index, Records.shown, Records.LeadTo, Tables.Said}
+use Rattle.law_stored_rows.specs.{Edits.clustered_index, Edits.key_index, Records.shown, Records.LeadTo, Records.kept_of, Tables.Said}
 use Rattle.world.specs.{State.WorldState, Told.IsTold}
-use Rattle.row_changes.specs.Pairs.{RowsStay, PutsPair, Hinders}
+use Rattle.row_changes.specs.{Pairs.RowsStay, Pairs.PutsPair, Pairs.Hinders, Keys.ChangesItsEntry}
 use Rattle.undo_apply.specs.{declared.work_room.WorkRoom.WorkRoom, declared.work_room.Stage.Stage, Rooms.IsWhole, Rooms.steps_left, Told.Rows, Told.rows_of}
 use Rattle.undo_apply.specs.declared.work_room.Stage.TheVariants.{Find, Key, Walk, Mark, Await, Remove, Unmark, AwaitRecords, Record}
 use Rattle.undo_apply.specs.Standing.{TellsOf, was_before, had_row, versions_before, IsCleared, IsLagging, IsUnderWay, IsTakenBack, some_has, HasWalked}
@@ -43,7 +43,8 @@ module _ (chains : Chains) (beside : Said) (place : Place) (undo : Undo) (schema
       (IsLagging (shown coded) (versions_before chains place))) ⊎ IsTakenBack chains beside place undo rows
   StageHolds (Key which) = (coded : Coded) × LagsAt which coded
   StageHolds (Walk which pointer) =
-      (coded : Coded) × LagsAt which coded × (coded.marked ≡ false) × HasWalked schema undo.key rows.kept which pointer coded (versions_before chains place)
+      (coded : Coded) × LagsAt which coded × (coded.marked ≡ false) × HasWalked schema undo.key (kept_of rows.kept undo.table undo.key) which pointer coded
+      (versions_before chains place)
   StageHolds (Mark which) = (coded : Coded) × LagsAt which coded × IsFound schema which coded (versions_before chains place) true
   StageHolds (Await which) = (coded : Coded) × LagsAt which coded × IsFound schema which coded (versions_before chains place) false
   StageHolds (Remove which) = (coded : Coded) × LagsAt which coded × IsFound schema which coded (versions_before chains place) false
@@ -62,11 +63,10 @@ pub record IsPuttingBack (chains : Chains) (beside : Said) (place : Place) (undo
 
 -- ---- steps
 
--- one entry of a key of the table was changed, or none
+-- one entry of the row in a key of the table was changed, or none
 abbrev pub ChangesOneEntry : Schema → Undo → WorldState → WorldState → Type 0
 ChangesOneEntry schema undo old new =
-    RowsStay old new ⊎ ((which : ℕ) × (which < length schema.keys) × (entry : List ℕ) × (value : Option (List ℕ)) × PutsPair (key_index undo.table which)
-    entry value old new)
+    ChangesItsEntry schema undo.table undo.key old new
 
 -- a walk goes on where fewer versions are left
 abbrev pub WalksOn : Schema → Undo → WorldState → Stage → Stage → Type 0

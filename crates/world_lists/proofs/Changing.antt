@@ -2,7 +2,7 @@
 -- or was hindered, and a change that is given up.
 use Rattle.store_api.specs.declared.stepped.Stepped.TheVariants as stepped
 use Rattle.shared_lists.specs.declared.answers.ChangePart.TheVariants as part
-use Rattle.std.proofs.Common.{◌≡◌, ℕ, zero, suc, ◌+◌, ◌<◌, ◌^◌, false, true, List, ◌∷◌, length, Option, Some, refl, sym, ap, subst, ◌∙◌, arith, [], ◌≢◌, ◌⊎◌}
+use Rattle.std.proofs.Common.{◌≡◌, ℕ, zero, suc, ◌+◌, ◌<◌, ◌^◌, false, true, List, ◌∷◌, length, Option, Some, refl, sym, ap, subst, ◌∙◌, arith, []}
 use Rattle.std.proofs.Common.{inl, inr, ⊎_elim, Bool, None}
 use Rattle.std.proofs.lemmas.Bool.{false≢true, cases_eq}
 use Rattle.std.specs.{Prelude.slice_get, Prelude.slice_index_or, Prelude.slice_set, Prelude.get_or, Prelude.is_some, List.list_any}
@@ -18,12 +18,14 @@ use Rattle.desks.specs.Desks.{desk_at, doing_at, with_doing, doing_in, Store}
 use Rattle.desks.specs.{declared.desk.Desk.Desk, declared.desk.Doing.Doing, Shown.lists_of, Shown.shown, Undoing.left_in, Holding.IsHeld}
 use Rattle.desks.proofs.Showing.{task_is, desk_read, given_at}
 use Rattle.law_held_steps.proofs.Showing.{begun_turns, begun_task, went_shown, entered_shown, done_shown, given_up_shown, rows_shown, left_shown}
-use Rattle.law_held_steps.proofs.{Made.can_be_keyed, Made.begins, Made.change_made, Hindering.call_lacks, Hindering.room_lacks, Hindering.keys_lack}
+use Rattle.row_changes.proofs.Pushed.{at_row, changes_row}
+use Rattle.law_held_steps.proofs.{Made.can_be_keyed, Made.begins, Made.change_made, Hindering.last_lacks, Hindering.room_lacks, Hindering.keys_lack}
 use Rattle.law_held_steps.proofs.{Putting.changing_rows, Putting.alone_if, AnyStep.doing_here, AnyStep.changes_at_a_desk, Places.held_left}
 use Rattle.world_lists.specs.Parts.{StepsChange, StepsAtDesk, HasChange, IsThereToRemove, RemovesRow, MayGoOn, LeavesIfOver, doing_now, is_told, answer_for}
 use Rattle.world_lists.specs.Between.{IsKept, AwaitsWriter}
 use Rattle.inno_model.specs.{Past.IsOpen, Past.own, Past.commits, Past.committed, declared.event.Event.Event}
-use Rattle.row_changes.specs.{Reached.Went, Reached.Done, Reached.Hindered, Reached.Reached, Rows.IsChangingRow, Rows.ChangesRow, Rows.table_of}
+use Rattle.row_changes.specs.{Reached.Went, Reached.Done, Reached.Hindered, Reached.Reached, Rows.IsChangingRow, Rows.IsAtRow, Rows.MakesRow, Rows.ChangesRow}
+use Rattle.row_changes.specs.{Rows.table_of}
 use Rattle.row_changes.specs.{Rows.primary_of, Edits.change_of, Edits.FitsEdit, Edits.HasNoRow, Edits.LacksRow, Records.IsTable, Records.IsSpoiled}
 use Rattle.row_changes.specs.{Records.HindersRecord, declared.row_change.RowChange.TheVariants.Record, declared.row_change.RowChange.TheVariants.Keys}
 use Rattle.row_changes.specs.{declared.row_edit.RowEdit.TheVariants.Put, declared.row_edit.RowEdit.TheVariants.Remove, Awaited.AwaitsIn, Awaited.IsAwaitedAlone}
@@ -108,11 +110,12 @@ module _ (chains : Chains) (beside : Said) (state : WorldState) (told : IsTold s
 
 -- ---- a step
 
-module _ (s : ℕ) (chains : Chains) (beside : Said) (old new : WorldState) (memory : IsInMemory old) (alone : IsAwaitedAlone s old) where
+module _ (s : ℕ) (chains : Chains) (beside : Said) (old new : WorldState) (memory : IsInMemory old) (tells : IsTold new) (alone : IsAwaitedAlone s old) where
   record_lacks : (change : RecordChange) (schema : Schema) (why : Move) → IsTable change.table schema old → FitsEdit schema change.edit change.key
       → HasRowsAt chains beside change.table change.key old → IsThereToRemove chains change.table change.edit → HindersRecord s change schema old new why
       → why ≡ NoMemory
-  record_lacks change schema why is fits rows has (inl call) = call_lacks s old new memory alone (clustered_index change.table) why call
+  record_lacks change schema why is fits rows has (inl call) =
+      last_lacks s old new memory alone tells (clustered_index change.table) why call
   record_lacks change schema why is fits rows has (inr (inl room)) = room_lacks s old new memory _ why room.0 room.1
   record_lacks change schema why is fits rows has (inr (inr (inl spoiled))) =
       absurd (never_spoiled chains beside old memory.told change.table schema change.edit change.key is.there fits rows spoiled)
@@ -120,15 +123,15 @@ module _ (s : ℕ) (chains : Chains) (beside : Said) (old new : WorldState) (mem
       absurd (never_lacks chains beside old memory.told change.table schema change.edit change.key is.there fits rows change.edit why refl has lacks)
 
 -- a step of a change that may go on is hindered for want of memory alone
-pub hindered_for_memory : (s : ℕ) (old new : WorldState) (change same : RowChange) (why : Move) → IsInMemory old → (may : MayGoOn s old change)
+pub hindered_for_memory : (s : ℕ) (old new : WorldState) (change same : RowChange) (why : Move) → IsInMemory old → IsTold new → (may : MayGoOn s old change)
     → ChangesRow s may.chains may.beside old new change (Hindered same why) → why ≡ NoMemory
-hindered_for_memory s old new (Record change key after) same why memory may made =
+hindered_for_memory s old new (Record change key after) same why memory tells may made =
     let is = may.changing.0 in
     let off = made.2 in
     let one = one_found is.schema off.1 is.table.there off.2.there in
-    record_lacks s may.chains may.beside old new memory may.alone change off.1 why off.2
+    record_lacks s may.chains may.beside old new memory tells may.alone change off.1 why off.2
     (subst (λ (schema : Schema). FitsEdit schema change.edit change.key) one is.fits) may.changing.1 may.removes off.3
-hindered_for_memory s old new (Keys change) same why memory may made =
+hindered_for_memory s old new (Keys change) same why memory tells may made =
     keys_lack s old new memory may.alone change why made.2.1
 
 -- ---- the newest row of a place is the one that the session sees, where no other has changes of it
@@ -186,6 +189,17 @@ module _ (s : ℕ) (chains : Chains) (beside : Said) where
 pub its_rows : {s : ℕ} {state : WorldState} {change : RowChange} → MayGoOn s state change
     → (chains : Chains) × (beside : Said) × IsChangingRow s chains beside state change
 its_rows may = (may.chains, may.beside, may.changing)
+
+pub its_start : {s : ℕ} {state : WorldState} {change : RowChange} → MayGoOn s state change
+    → (chains : Chains) × (beside : Said) × IsAtRow s chains beside state change
+its_start {s} {state} {change} may = (may.chains, may.beside, at_row s may.chains may.beside state change may.changing)
+
+-- where the rows before it are known
+pub changed_as : (s : ℕ) (old new : WorldState) (change : RowChange) (reached : Reached RowChange)
+    → ((chains : Chains) (beside : Said) → IsAtRow s chains beside old change → MakesRow s chains beside old new change reached)
+    → (chains : Chains) (beside : Said) → IsChangingRow s chains beside old change → ChangesRow s chains beside old new change reached
+changed_as s old new change reached made chains beside p =
+    changes_row s chains beside old new change reached p (made chains beside (at_row s chains beside old change p))
 
 -- it is there where a change has come so far, and where one is given up
 module _ (s : ℕ) {table : ℕ} (change : RowChange) (table_is : table ≡ table_of change) (old : WorldState)

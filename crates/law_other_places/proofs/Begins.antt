@@ -1,0 +1,91 @@
+-- A store that nobody has joined, and a change of a row that begins while others are at work.
+use Rattle.std.proofs.Common.{◌≡◌, ◌∙◌, refl, sym, ap, ℕ, ◌<◌, List, [], length, None, Some, arith}
+use Rattle.std.proofs.lemmas.{Bool.true≢false, Option.slice_get_within}
+use Rattle.std.specs.List.{list_any}
+use Rattle.inno_types.specs.{declared.lock.Lock.Lock, declared.value.Schema.Schema}
+use Rattle.inno_model.specs.Past.{own}
+use Rattle.law_past_agreement.specs.Rows.{is_at, is_place}
+use Rattle.world.specs.State.{WorldState, Session, Work, HasWork}
+use Rattle.world.specs.Told.{IsTold}
+use Rattle.row_changes.specs.{Records.IsTable, Edits.FitsEdit, declared.row_edit.RowEdit.RowEdit}
+use Rattle.row_changes.proofs.Sessions.{same_versions}
+use Rattle.law_logged_changes.proofs.Listed.{listed_of, small_of}
+use Rattle.desks.specs.declared.desk.Doing.TheVariants.{Nothing, Changing}
+use Rattle.desks.specs.{declared.desk.Desk.Desk, declared.desk.Doing.Doing, Desks.Store, Desks.desk_at, Desks.doing_in, Desks.doing_at, Desks.with_doing}
+use Rattle.desks.specs.{Desks.is_undoing}
+use Rattle.desks.specs.Holding.{IsFresh, lags_in, said_beside}
+use Rattle.law_held_steps.specs.Making.{begun}
+use Rattle.law_held_steps.proofs.AnyStep.{IsGiven, given, there, rooms_then}
+use Rattle.law_held_steps.proofs.Items.{first_held}
+use Rattle.law_other_places.specs.{Kept.RowsKept, Steps.StepsAt, Many.IsHeldByAll}
+use Rattle.law_other_places.proofs.{Sessions.rows_after, Steps.kept_at, TakingBack.held_pairs, TakingBack.owned_pairs, Quiet.held_by_all}
+
+-- ---- nobody has joined
+
+pub first_all : (state : WorldState) → IsTold state → IsFresh state → IsHeldByAll (record { world = state; writer = None; desks = []; cuts = 0 }) []
+first_all state told fresh =
+    held_by_all (first_held state told fresh) (record {
+      changed = λ s place has. absurd (true≢false (sym has ∙ ap (list_any (is_at state.schemas place)) (ap (own s) fresh.past)));
+      working = λ s place works. absurd (let e : None ≡ Some place = works in cc);
+    }) tt (λ s. record {})
+
+-- ---- a change begins
+
+module _ (t : ℕ) {store : Store} {granted : List Lock} (held : IsHeldByAll store granted) (told : IsTold store.world)
+    (idle : doing_at t store.desks ≡ Nothing) {session : Session} {work : Work} (has : HasWork t session work store.world) (table : ℕ) (schema : Schema)
+    (table_is : IsTable table schema store.world) (edit : RowEdit) (key : List ℕ) (fits : FitsEdit schema edit key) where
+  abbrev later : Doing
+  later = Changing (begun table edit key)
+
+  within : t < length store.desks
+  within = omega (arith, slice_get_within store.world.sessions t session has.session_is, held.agrees.count, held.count)
+
+  was : (desk : Desk) × (desk_at t store.desks ≡ Some desk)
+  was = there t store.desks within
+
+  gives : IsGiven t was.0 (record was.0 { doing = later }) store.desks (with_doing t later store.desks)
+  gives = given t later store.desks was.1
+
+  same_steps : StepsAt t None held.chains held.chains held.rows.said held.rows.said store.world store.world
+  same_steps = record {
+    told = told;
+    tells = told;
+    schemas = refl;
+    coded = held.rows.coded;
+    versions = λ other apart. refl;
+    says = λ other which apart. refl;
+    rows = λ other also apart is. record { same = refl; kept = λ pointer found is. is };
+    entries = λ other apart key is which entry at. refl;
+    sessions = λ s differs. record { session = refl; own_is = refl };
+  }
+
+  doing_was : was.0.doing ≡ Nothing
+  doing_was = sym (ap doing_in was.1) ∙ idle
+
+  rows_now : RowsKept held.chains store.world (with_doing t later store.desks)
+  rows_now = rows_after t held.rows same_steps (record { same = gives.others; apart = λ s other differs works. refl }) held.logs held.agrees
+      (kept_at held.chains (said_beside held.chains held.rows.said store.world (with_doing t later store.desks) t) store.world t
+      (desk_at t (with_doing t later store.desks)) later (ap doing_in gives.here) (λ undo room. (
+        record {
+          schema = schema;
+          table = table_is;
+          fits = fits;
+          session = session;
+          work = work;
+          has_work = has;
+          listed = listed_of held.chains store.world t session work held.agrees has;
+          small = small_of held.chains store.world t session work held.agrees has;
+          stage = record {};
+        },
+        refl,
+        refl,
+      )))
+      (λ other is. absurd (true≢false (sym is ∙ ap (λ d. is_place other (lags_in store.world t (doing_in d))) gives.here)))
+      (λ other same not. absurd (true≢false (sym same)))
+      (λ other is apart. absurd (true≢false (sym is ∙ ap (λ d. is_place other (lags_in store.world t d)) idle)))
+
+  pub begun_all : IsHeldByAll (record store { desks = with_doing t later store.desks }) granted
+  begun_all = held_pairs held refl (same_versions store.world.versions) told told (λ index. refl) gives (record {})
+      (rooms_then t later store.desks (held.rooms t) (ap is_undoing idle) (record was.0 { doing = later }) gives.here) rows_now held.logs
+      (owned_pairs held refl (same_versions store.world.versions) told told (λ index. refl) gives (λ s session work index key is alone. alone)
+      (λ place works. absurd (let e : None ≡ Some place = works in cc))) held.apart

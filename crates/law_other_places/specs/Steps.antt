@@ -1,0 +1,28 @@
+-- A step of one session at one place, as all other sessions see it.
+use Rattle.std.specs.Prelude.{◌≡◌, ◌≢◌, ℕ, false, List, Option, Some}
+use Rattle.row_versions.specs.{declared.place.Place.Place}
+use Rattle.row_versions.specs.Chains.{Chains, versions_at}
+use Rattle.law_past_agreement.specs.Rows.{is_place}
+use Rattle.law_stored_rows.specs.{Tables.Said}
+use Rattle.world.specs.{State.WorldState, Told.IsTold}
+use Rattle.row_changes.specs.Told.{AreRowsAs}
+use Rattle.desks.specs.{declared.desk.Desk.Desk, Desks.desk_at, Desks.doing_at}
+use Rattle.law_other_places.specs.{Beside.IsKeyOf, Beside.LeavesRow, Beside.LeavesEntries, Beside.LeavesSession, Kept.works_in}
+
+-- Rows, versions and what keys say are the same of all places but this one, if there is one, and so is what the other
+-- sessions have.
+pub record StepsAt (t : ℕ) (at : Option Place) (chains after : Chains) (said now : Said) (old new : WorldState) : Type 0 where
+  pub told : IsTold old
+  pub tells : IsTold new
+  pub schemas : new.schemas ≡ old.schemas
+  pub coded : AreRowsAs after now new
+  pub versions : (other : Place) → is_place other at ≡ false → versions_at other after ≡ versions_at other chains
+  pub says : (other : Place) (which : ℕ) → is_place other at ≡ false → now other.table which other.key ≡ said other.table which other.key
+  pub rows : (other : Place) (key : List ℕ) → is_place other at ≡ false → IsKeyOf other old.schemas key → LeavesRow other.table key old new
+  pub entries : (other : Place) → is_place other at ≡ false → LeavesEntries other old new
+  pub sessions : (s : ℕ) → s ≢ t → LeavesSession s old new
+
+-- The other sessions' desks are as they were, and none is at work at the place.
+pub record LeavesWork (t : ℕ) (at : Option Place) (old : WorldState) (desks now : List Desk) : Type 0 where
+  pub same : (s : ℕ) → s ≢ t → desk_at s now ≡ desk_at s desks
+  pub apart : (s : ℕ) (other : Place) → s ≢ t → works_in old s (doing_at s desks) ≡ Some other → is_place other at ≡ false
