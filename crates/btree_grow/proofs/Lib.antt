@@ -10,3 +10,8 @@ pub mod SplitTree
 pub mod TakenPage
 pub mod TakenTree
 pub mod Together
+pub mod Laid
+pub mod Raising
+pub mod AddedPair
+pub mod Inserting
+pub mod Staying

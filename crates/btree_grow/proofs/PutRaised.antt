@@ -7,8 +7,8 @@ use Rattle.mtr.specs.Calls.{Puts}
 use Rattle.btree.specs.declared.tree.Tree.{Tree}
 use Rattle.btree_change.specs.Calls.{Rewrites}
 use Rattle.btree_change.proofs.Steps.{put_rewrites}
-use Rattle.btree_raise.specs.Raised.{IsRaised, RaisesTree}
-use Rattle.btree_raise.proofs.Laid.{root_put}
+use Rattle.btree_grow.specs.Raised.{IsRaised, RaisesTree}
+use Rattle.btree_grow.proofs.Laid.{root_put}
 use Rattle.btree_split.proofs.Put.{fields_shown}
 use Rattle.btree_grow.specs.Going.{GoesOn}
 use Rattle.btree_grow.specs.Raising.{IsRaiseReady}

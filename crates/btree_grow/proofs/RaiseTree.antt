@@ -21,8 +21,8 @@ use Rattle.btree_split.specs.Halves.{IsTakenFor}
 use Rattle.btree_split.specs.Placed.{IsPlacedPage, IsPlacedTree}
 use Rattle.btree_split.specs.Ways.{IsWayTo, AreFull, IsLowestRoom}
 use Rattle.btree_split.proofs.Followed.{room_shown}
-use Rattle.btree_raise.specs.Raised.{RaisesTree}
-use Rattle.btree_raise.proofs.Raising.{raised_placed, raised_pairs, raised_to, raised_held, raised_mark}
+use Rattle.btree_grow.specs.Raised.{RaisesTree}
+use Rattle.btree_grow.proofs.Raising.{raised_placed, raised_pairs, raised_to, raised_held, raised_mark}
 use Rattle.btree_grow.specs.Taken.{TakesPage}
 use Rattle.btree_grow.specs.Grown.{Grows, HasGrown}
 use Rattle.btree_grow.specs.Raising.{IsRaiseReady}

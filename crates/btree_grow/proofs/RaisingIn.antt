@@ -7,7 +7,7 @@ use Rattle.mtr.specs.Calls.{Consults}
 use Rattle.btree.specs.declared.tree.Tree.{Tree}
 use Rattle.btree_split.specs.Placed.{IsPlacedTree}
 use Rattle.btree_split.specs.Ways.{IsLowestRoom}
-use Rattle.btree_raise.specs.Raised.{RaisesTree}
+use Rattle.btree_grow.specs.Raised.{RaisesTree}
 use Rattle.btree_grow.specs.Going.{GoesOn}
 use Rattle.btree_grow.specs.Taken.{TakesPage}
 use Rattle.btree_grow.specs.Grown.{HasGrown}

@@ -3,8 +3,16 @@
 #![tactic(auto)]
 
 mod growing;
+mod inserts;
+mod laws;
+mod others;
 mod raises;
+mod root;
 mod splits;
 mod taking;
 
 pub use growing::{Room, make_room};
+pub use inserts::{Outcome, insert};
+pub use laws::{a_placed_tree_is_raised, a_raised_root_is_put};
+pub use others::another_tree_stays;
+pub use root::raised_root;

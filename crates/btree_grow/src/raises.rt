@@ -7,7 +7,7 @@ ghost use Rattle.mtr.specs.Seen.{is_in, claim};
 ghost use Rattle.space_map.specs.Taking.{map_pages};
 ghost use Rattle.btree_split.specs.Placed.{IsPlacedTree};
 ghost use Rattle.btree_split.specs.Ways.{IsLowestRoom};
-ghost use Rattle.btree_raise.specs.Raised.{RaisesTree};
+ghost use Rattle.btree_grow.specs.Raised.{RaisesTree};
 ghost use Rattle.btree_grow.specs.Going.{GoesOn, IsHalt};
 ghost use Rattle.btree_grow.specs.Grown.{HasGrown};
 ghost use Rattle.btree_grow.specs.Raising.{IsRaiseReady};
@@ -15,7 +15,7 @@ ghost use Rattle.btree_grow.specs.Raising.{IsRaiseReady};
 use crate::splits::put_image;
 use crate::taking::{copy_of, take_blank};
 use btree::Tree;
-use btree_raise::raised_root;
+use crate::raised_root;
 use mtr::Mtr;
 use store_api::{NoMemory, SpaceBad};
 

@@ -7,7 +7,7 @@ use Rattle.mtr.specs.Seen.{MtrState, IsWithin}
 use Rattle.mtr.specs.Calls.{Makes}
 use Rattle.space_map.specs.Map.{byte_of, mark_of}
 use Rattle.space_map.specs.Taking.{Marks}
-use Rattle.law_tree_merges.specs.Merges.{FreesPage}
+use Rattle.btree_merge.specs.Merges.{FreesPage}
 use Rattle.btree_merge.specs.Going.{GoesOn}
 use Rattle.btree_merge.proofs.Going.{on_then, marked_on, made_on}
 

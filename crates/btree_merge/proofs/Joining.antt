@@ -14,7 +14,7 @@ use Rattle.page_format.proofs.Pieces.{AreWide, AreWide-append, IsBody, concat-ap
 use Rattle.page_format.proofs.Edited.{same_part, same_byte, byte_is, middle_part, middle_byte, same_width, body_of, edited, counted, few}
 use Rattle.page_format.proofs.Headed.{Over, over, back_byte, back_more, tree_from, tree_over}
 use Rattle.stored_pages.proofs.Sealed.{back_part}
-use Rattle.law_tree_merges.specs.Merges.{IsJoined}
+use Rattle.btree_merge.specs.Merges.{IsJoined}
 use Rattle.btree_merge.specs.Merged.{FitTogether}
 
 -- a piece was written over

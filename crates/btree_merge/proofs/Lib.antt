@@ -8,3 +8,6 @@ pub mod Putting
 pub mod Sparse
 pub mod Under
 pub mod Passing
+pub mod Freeing
+pub mod Lists
+pub mod Merging

@@ -5,10 +5,10 @@ use Rattle.store_api.specs.declared.visits.SpaceBad.{SpaceBad}
 use Rattle.stored_pages.specs.Words.{u32_at}
 use Rattle.mtr.specs.Seen.{MtrState, IsWithin}
 use Rattle.btree.specs.declared.tree.Tree.{Tree}
-use Rattle.law_tree_merges.specs.Merges.{MergesLeaves, FreesPage, Shrinks}
+use Rattle.btree_merge.specs.Merges.{MergesLeaves, FreesPage, Shrinks}
 use Rattle.btree_split.specs.Halves.{child_under}
-use Rattle.law_tree_merges.proofs.Merging as merging
-use Rattle.law_tree_merges.proofs.Freeing.{shrinks}
+use Rattle.btree_merge.proofs.Merging as merging
+use Rattle.btree_merge.proofs.Freeing.{shrinks}
 use Rattle.btree_merge.specs.declared.look.Siblings.{Siblings}
 use Rattle.btree_merge.specs.Going.{GoesOn, Reads, IsMergeReason}
 use Rattle.btree_merge.specs.Merged.{CanMerge, MergesCouple}

@@ -17,8 +17,8 @@ use Rattle.btree_change.specs.Edits.{edited, IsRemoval}
 use Rattle.btree_change.specs.Calls.{Touches, Rewrites}
 use Rattle.btree_change.proofs.Bytes.{HasRecords, removed_page, removal_shown}
 use Rattle.btree_change.proofs.Steps.{put_rewrites}
-use Rattle.law_tree_merges.specs.Merges.{IsJoined, MergesLeaves}
-use Rattle.law_tree_merges.proofs.Merging as merging
+use Rattle.btree_merge.specs.Merges.{IsJoined, MergesLeaves}
+use Rattle.btree_merge.proofs.Merging as merging
 use Rattle.btree_merge.specs.declared.look.Siblings.{Siblings}
 use Rattle.btree_merge.specs.Going.{GoesOn}
 use Rattle.btree_merge.specs.Siblings.{AreToMerge}

@@ -13,9 +13,9 @@ use Rattle.btree.proofs.Shown.{same_count, same_width, same_records, same_level,
 use Rattle.btree.proofs.Standing.{Reached, at_child, at_leaf}
 use Rattle.btree_split.specs.Placed.{IsPlacedTree}
 use Rattle.btree_merge.specs.Parents.{IsParent}
-use Rattle.law_tree_merges.specs.Merges.{IsAboveLeaves}
+use Rattle.btree_merge.specs.Merges.{IsAboveLeaves}
 use Rattle.btree_split.specs.Halves.{child_under}
-use Rattle.law_tree_merges.proofs.Merging as merging
+use Rattle.btree_merge.proofs.Merging as merging
 use Rattle.btree_merge.specs.declared.look.Couple.{Couple}
 use Rattle.btree_merge.specs.Merged.{FitTogether, HoldsFew, CanMerge}
 use Rattle.btree_merge.specs.Siblings.{IsCouple, AreToMerge}

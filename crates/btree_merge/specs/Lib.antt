@@ -3,3 +3,4 @@ pub mod Merged
 pub mod Siblings
 pub mod Tidied
 pub mod Parents
+pub mod Merges

@@ -2,7 +2,7 @@
 use Rattle.std.specs.Prelude.{◌≡◌, ℕ, suc, ◌+◌, ◌*◌, ◌<◌, ◌≤◌, List, length, Option, None, Some}
 use Rattle.page_format.specs.Words.{count_of, record_len_of, records_of}
 use Rattle.btree.specs.declared.tree.Tree.{Tree}
-use Rattle.law_tree_merges.specs.Merges.{Shrinks}
+use Rattle.btree_merge.specs.Merges.{Shrinks}
 use Rattle.btree_split.specs.Halves.{child_under}
 
 -- the records of both pages have room in one

@@ -7,7 +7,7 @@ use Rattle.btree.specs.declared.tree.Tree.{Tree}
 use Rattle.btree.specs.Layout.{IsLaidOut}
 use Rattle.btree.specs.Walks.{IsReadableLeaf}
 use Rattle.btree_split.specs.Placed.{IsPlacedTree}
-use Rattle.law_tree_merges.specs.Merges.{IsAboveLeaves}
+use Rattle.btree_merge.specs.Merges.{IsAboveLeaves}
 use Rattle.btree_split.specs.Halves.{child_under}
 use Rattle.btree_merge.specs.declared.look.Couple.{Couple}
 use Rattle.btree_merge.specs.declared.look.Siblings.{Siblings}

@@ -3,7 +3,7 @@
 
 ghost use Rattle.std.specs.Prelude.{◌≡◌, ◌+◌, ◌<◌, ◌≤◌, length, IsTrue, IfErr, OnOk};
 ghost use Rattle.mtr.specs.Seen.{IsWithin};
-ghost use Rattle.law_tree_merges.specs.Merges.{FreesPage};
+ghost use Rattle.btree_merge.specs.Merges.{FreesPage};
 ghost use Rattle.btree_merge.specs.Going.{GoesOn, IsMergeReason};
 
 use mtr::Mtr;

@@ -4,7 +4,7 @@
 ghost use Rattle.std.specs.Prelude.{◌≡◌, ◌+◌, ◌*◌, ◌<◌, ◌≤◌, length, MatchBool};
 ghost use Rattle.page_format.specs.Shape.{HasTreeFields};
 ghost use Rattle.page_format.specs.Words.{count_of, record_len_of};
-ghost use Rattle.law_tree_merges.specs.Merges.{IsJoined};
+ghost use Rattle.btree_merge.specs.Merges.{IsJoined};
 ghost use Rattle.btree_merge.specs.Merged.{FitTogether, HoldsFew};
 
 use big_endian::u16_bytes;

@@ -6,6 +6,7 @@ mod free;
 mod join;
 mod look;
 mod merge;
+mod merges;
 mod parent;
 mod reading;
 mod tidying;
@@ -13,4 +14,8 @@ mod tidying;
 pub use free::free_page;
 pub use join::joined;
 pub use merge::merge_in;
+pub use merges::{
+    a_merge_that_frees_its_page_shrinks_the_tree, a_page_outside_the_tree_is_freed,
+    two_leaves_become_one,
+};
 pub use tidying::tidy;

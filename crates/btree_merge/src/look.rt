@@ -6,7 +6,7 @@ ghost use Rattle.store_api.specs.declared.visits.Visit.TheVariants.{Bad};
 ghost use Rattle.page_format.specs.Words.{level_of, records_of};
 ghost use Rattle.btree.specs.Descents.{IsReadable};
 ghost use Rattle.btree_split.specs.Placed.{IsPlacedTree};
-ghost use Rattle.law_tree_merges.specs.Merges.{IsAboveLeaves};
+ghost use Rattle.btree_merge.specs.Merges.{IsAboveLeaves};
 ghost use Rattle.btree_merge.specs.Going.{Reads, IsStop};
 ghost use Rattle.btree_merge.specs.Merged.{CanMerge};
 ghost use Rattle.btree_merge.specs.Siblings.{IsCouple, AreReadable, AreDealtWith, AreToMerge};

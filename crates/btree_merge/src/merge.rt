@@ -5,7 +5,7 @@ ghost use Rattle.std.specs.Prelude.{◌≡◌, ◌+◌, ◌<◌, ◌≤◌, leng
 ghost use Rattle.mtr.specs.Seen.{is_in, IsWithin};
 ghost use Rattle.mtr.specs.Calls.{Puts};
 ghost use Rattle.btree_split.specs.Placed.{IsPlacedTree};
-ghost use Rattle.law_tree_merges.specs.Merges.{IsAboveLeaves, MergesLeaves};
+ghost use Rattle.btree_merge.specs.Merges.{IsAboveLeaves, MergesLeaves};
 ghost use Rattle.btree_merge.specs.Going.{GoesOn, IsMergeReason};
 ghost use Rattle.btree_merge.specs.Merged.{DoesMerge};
 ghost use Rattle.btree_merge.specs.Siblings.{AreReadable, AreDealtWith, AreToMerge};

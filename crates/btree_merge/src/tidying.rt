@@ -14,7 +14,7 @@ ghost use Rattle.btree.specs.Reads.{IsIdle};
 ghost use Rattle.btree_change.specs.Calls.{Ends};
 ghost use Rattle.btree_split.specs.Placed.{IsPlacedTree};
 ghost use Rattle.btree_merge.specs.Parents.{IsParent};
-ghost use Rattle.law_tree_merges.specs.Merges.{IsAboveLeaves};
+ghost use Rattle.btree_merge.specs.Merges.{IsAboveLeaves};
 ghost use Rattle.btree_merge.specs.Going.{GoesOn, Reads, IsStop, IsMergeReason};
 ghost use Rattle.btree_merge.specs.Tidied.{IsSparse, MergesBeside, DoesTidy};
 

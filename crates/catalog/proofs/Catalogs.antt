@@ -3,8 +3,8 @@ use Rattle.std.proofs.Common.{◌≡◌, ◌≢◌, ℕ, ◌+◌, ◌<◌, ◌�
 use Rattle.std.proofs.lemmas.Bool.{cases_lt}
 use Rattle.std.proofs.lemmas.List.{same_lists}
 use Rattle.std.proofs.lemmas.Option.{slice_get_cases, slice_get_within, get_or_from_slice_get}
-use Rattle.catalog_entry.specs.declared.held.Held.{Held}
-use Rattle.catalog_entry.proofs.Entries.{one_entry}
+use Rattle.catalog.specs.declared.held.Held.{Held}
+use Rattle.catalog.proofs.Entries.{one_entry}
 use Rattle.catalog.specs.Makeable.{is_makeable}
 use Rattle.catalog.specs.Tables.{IsUnused, HoldsTable, is_new_name, IsTable, page_count, IsCatalog}
 use Rattle.catalog.specs.Creating.{IsFilled}

@@ -9,10 +9,10 @@ use Rattle.page_format.specs.Words.{kind_of}
 use Rattle.mtr.specs.Seen.{MtrState, is_in, capacity_of, IsWithin, with_bytes}
 use Rattle.mtr.specs.Calls.{Consults}
 use Rattle.mtr.proofs.Consulting.{goes_then}
-use Rattle.catalog_entry.specs.declared.held.Held.{Held}
+use Rattle.catalog.specs.declared.held.Held.{Held}
 use Rattle.schema_codec.specs.Numbers.{u32_bytes}
 use Rattle.schema_codec.specs.Schema.{schema_bytes}
-use Rattle.catalog_entry.specs.Entry.{IsRoot, IsEntry}
+use Rattle.catalog.specs.Entry.{IsRoot, IsEntry}
 use Rattle.catalog.specs.Makeable.{is_makeable}
 use Rattle.catalog.specs.Tables.{IsCatalogPage, IsUnused, HoldsTable, is_new_name, page_count, IsCatalog}
 use Rattle.catalog.specs.Creating.{HasRoom, IsFilled, IsEmptyLeaf, record_len, AreEmptyRoots, ReservesPages, Reserves, MakesRoots, PutsEntry, IsCreated, Creates, asked_pages}

@@ -13,3 +13,4 @@ pub mod Reserving
 pub mod Rooted
 pub mod Shown
 pub mod Told
+pub mod Entries

@@ -4,7 +4,7 @@ use Rattle.std.specs.Prelude.{slice_get}
 use Rattle.std.proofs.lemmas.Bool.{cases_eq, cases_lt}
 use Rattle.std.proofs.lemmas.List.{take-append-le, take_all}
 use Rattle.std.proofs.lemmas.Option.{slice_get_within}
-use Rattle.catalog_entry.specs.declared.held.Held.{Held}
+use Rattle.catalog.specs.declared.held.Held.{Held}
 use Rattle.catalog.specs.Tables.{IsUnused, HoldsTable, IsTable, page_count, HoldsBelow}
 use Rattle.catalog.specs.Loading.{Shows, Accepts, Adds}
 

@@ -2,11 +2,11 @@
 use Rattle.std.proofs.Common.{◌≡◌, ℕ, ◌<◌, ◌≤◌, ◌==◌, ◌||◌, Bool, List, drop, true, false, Option, Some, None, inl, inr, sym, ◌∙◌, refl, subst, arith}
 use Rattle.std.specs.Prelude.{slice_index, All}
 use Rattle.std.proofs.lemmas.Bool.{cases_eq}
-use Rattle.catalog_entry.specs.declared.held.Held.{Held}
-use Rattle.catalog_entry.specs.declared.held.EntryBad.{EntryBad}
-use Rattle.catalog_entry.specs.declared.held.EntryBad.TheVariants.{Shape, NoMemory}
-use Rattle.catalog_entry.specs.Refused.{BeginsWith, IsRefused}
-use Rattle.catalog_entry.proofs.Entries.{one_entry}
+use Rattle.catalog.specs.declared.held.Held.{Held}
+use Rattle.catalog.specs.declared.held.EntryBad.{EntryBad}
+use Rattle.catalog.specs.declared.held.EntryBad.TheVariants.{Shape, NoMemory}
+use Rattle.catalog.specs.Refused.{BeginsWith, IsRefused}
+use Rattle.catalog.proofs.Entries.{one_entry}
 use Rattle.page_format.specs.Words.{kind_of}
 use Rattle.mtr.specs.Seen.{is_in, AreDistinct}
 use Rattle.mtr.proofs.Behind.{byte-behind, drop-behind}

@@ -1,7 +1,7 @@
 -- Why the catalog can't be told, once some of its pages were read.
 use Rattle.std.proofs.Common.{◌≡◌, ℕ, ◌+◌, ◌<◌, ◌≤◌, inl, inr, List, ◌∷◌, [], length, Option, Some, None, sym, ap, subst, arith, length-append}
 use Rattle.std.specs.Prelude.{IsTrue, Result, Ok, Err}
-use Rattle.catalog_entry.specs.declared.held.Held.{Held}
+use Rattle.catalog.specs.declared.held.Held.{Held}
 use Rattle.store_api.specs.declared.visits.Visit.{Visit}
 use Rattle.store_api.specs.declared.visits.FindBad.{FindBad}
 use Rattle.store_api.specs.declared.visits.FindBad.TheVariants as find

@@ -20,7 +20,7 @@ use Rattle.mtr.specs.Seen.{MtrState, is_in, claim, capacity_of, AreDistinct, IsS
 use Rattle.mtr.specs.Calls.{Goes, SeesAt, IsReason}
 use Rattle.space_map.specs.Map.{map_page, byte_of, mark_of, IsFree, free_among}
 use Rattle.space_map.specs.Taking.{map_pages, HasPageCount, Miscounts}
-use Rattle.catalog_entry.specs.declared.held.Held.{Held}
+use Rattle.catalog.specs.declared.held.Held.{Held}
 use Rattle.schema_codec.specs.Numbers.{u32_bytes}
 use Rattle.schema_codec.specs.Schema.{schema_bytes}
 use Rattle.catalog.specs.Tables.{is_new_name, IsCatalog}

@@ -3,3 +3,6 @@ pub mod Declaration
 pub mod Loading
 pub mod Makeable
 pub mod Tables
+pub mod Entry
+pub mod Reading
+pub mod Refused

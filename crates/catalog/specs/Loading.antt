@@ -1,9 +1,9 @@
 -- Why the tables of the catalog can't be told.
 use Rattle.std.specs.Prelude.{◌≡◌, ◌⊎◌, ℕ, ◌+◌, ◌<◌, ◌≤◌, true, false, List, [], ◌∷◌, ◌++◌, length, IsTrue, Option, Some, None}
-use Rattle.catalog_entry.specs.declared.held.Held.{Held}
-use Rattle.catalog_entry.specs.declared.held.EntryBad.{EntryBad}
-use Rattle.catalog_entry.specs.declared.held.EntryBad.TheVariants.{Shape}
-use Rattle.catalog_entry.specs.declared.held.EntryBad.TheVariants as entry
+use Rattle.catalog.specs.declared.held.Held.{Held}
+use Rattle.catalog.specs.declared.held.EntryBad.{EntryBad}
+use Rattle.catalog.specs.declared.held.EntryBad.TheVariants.{Shape}
+use Rattle.catalog.specs.declared.held.EntryBad.TheVariants as entry
 use Rattle.store_api.specs.declared.visits.FindBad.{FindBad}
 use Rattle.store_api.specs.declared.visits.FindBad.TheVariants.{Visit, Malformed, NoMemory}
 use Rattle.mtr.specs.Seen.{MtrState}

@@ -4,8 +4,8 @@ use Rattle.std.specs.Prelude.{◌≡◌, ℕ, ◌+◌, ◌<◌, ◌≤◌, Bool,
 use Rattle.std.specs.List.{list_all}
 use Rattle.page_format.specs.Words.{kind_of}
 use Rattle.stored_pages.specs.Words.{u32_at}
-use Rattle.catalog_entry.specs.declared.held.Held.{Held}
-use Rattle.catalog_entry.specs.Refused.{BeginsWith}
+use Rattle.catalog.specs.declared.held.Held.{Held}
+use Rattle.catalog.specs.Refused.{BeginsWith}
 use Rattle.catalog.specs.Makeable.{is_makeable}
 
 -- a page of the catalog, whose byte 32 tells whether it is in use

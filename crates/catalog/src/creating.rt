@@ -14,7 +14,7 @@ ghost use Rattle.catalog.specs.Creating.{HasRoom, IsFilled, Nears, PutsEntry, Cr
 use crate::pages::FIRST;
 use crate::roots::make_roots;
 use crate::tables::IN_USE;
-use catalog_entry::put_table;
+use crate::put_table;
 use inno_types::Schema;
 use mtr::Mtr;
 use std::alloc::Global;

@@ -3,14 +3,20 @@
 #![tactic(auto)]
 
 mod creating;
+mod entry;
+mod held;
 mod laws;
 mod loading;
 mod makeable;
 mod pages;
+mod reading;
 mod roots;
 mod tables;
+mod write;
 
 pub use creating::create;
+pub use entry::{get_entry, put_entry, put_table};
+pub use held::{EntryBad, Held, Roots, Schemas};
 pub use laws::made_is_declared;
 pub use loading::load;
 pub use makeable::could_be_made;

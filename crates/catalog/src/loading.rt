@@ -10,7 +10,7 @@ ghost use Rattle.catalog.specs.Loading.{catalog_pages, Accepts, Refuses, Adds, I
 
 use crate::makeable::could_be_made;
 use crate::pages::{END, FIRST, table_on};
-use catalog_entry::{Held, Schemas};
+use crate::{Held, Schemas};
 use inno_types::{Bytes, Listed};
 use mtr::{Mtr, capacity};
 use std::alloc::Global;

@@ -7,7 +7,7 @@ ghost use Rattle.mtr.specs.Calls.{Consults};
 ghost use Rattle.catalog.specs.Loading.{catalog_pages, Shows, IsTableReason};
 
 use crate::tables::table_in;
-use catalog_entry::{EntryBad, Held};
+use crate::{EntryBad, Held};
 use mtr::Mtr;
 use std::alloc::Global;
 use store_api::FindBad;

@@ -6,7 +6,7 @@ ghost use Rattle.page_format.specs.Words.{kind_of};
 ghost use Rattle.catalog.specs.Tables.{HoldsTable};
 ghost use Rattle.catalog.specs.Loading.{Shows, IsNoTable};
 
-use catalog_entry::{EntryBad, Held, get_entry};
+use crate::{EntryBad, Held, get_entry};
 use std::alloc::Global;
 
 /// The kind of a page of the catalog.

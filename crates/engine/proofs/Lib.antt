@@ -1,0 +1,9 @@
+mod Laying
+mod Finishing
+mod Sums
+mod Taking
+mod Below
+mod Each
+mod Fitting
+mod Grown
+mod Last

@@ -2,7 +2,15 @@
 //! for. `mount` is the one way to open it on a disk; `sessions_over` opens sessions without one, which only tests do.
 #![tactic(auto)]
 
+mod counting;
+mod keys;
+mod layout;
+mod opened;
 mod opening;
+mod rows;
+mod tables;
 
 pub use durable_engine::Root;
+pub use layout::{LayBad, lay};
+pub use opened::{OpenBad, Opening, PutBad};
 pub use opening::{Engine, Sessions, mount, sessions_over};

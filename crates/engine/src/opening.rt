@@ -12,7 +12,7 @@ ghost use Rattle.law_crashes.specs.Since.{IsMounted};
 ghost use Rattle.file_zero.specs.Refused.{IsRefused, HasFewRows};
 ghost use Rattle.commit_log.specs.Room.{IsLoggable};
 ghost use Rattle.commit_log.specs.View.{IsLogging};
-ghost use Rattle.opened_world.specs.Laid.{IsTooLarge};
+ghost use Rattle.engine.specs.Laid.{IsTooLarge};
 ghost use Rattle.session_engine.specs.Calls.{AreFirst};
 ghost use Rattle.engine.specs.Opened.{IsOpened};
 
@@ -21,7 +21,7 @@ use durable_engine::{DurableEngine, Root};
 use file_zero::Mounted;
 use inno_db::Db;
 use list_world::ListWorld;
-use opened_world::{LayBad, OpenBad, Opening, lay};
+use crate::{LayBad, OpenBad, Opening, lay};
 use session_engine::SessionEngine;
 use sql_lists::SqlLists;
 use std::alloc::Global;

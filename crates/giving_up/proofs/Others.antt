@@ -24,8 +24,8 @@ use Rattle.law_past_agreement.specs.Order.{IsOfRow, IsNoOthers}
 use Rattle.sql_lists.specs.Steps.{IsTaken, StaysRunning}
 use Rattle.sql_lists.proofs.Moving.{AddingOne, stays_running}
 use Rattle.sql_lists.proofs.Staying.{other_of, not_starting, at_work, point_now, point_stays}
-use Rattle.law_beside.specs.Beside.{touches, AreOfRows}
-use Rattle.law_beside.proofs.Apart.{schemas_stay}
+use Rattle.law_db.specs.Beside.{touches, AreOfRows}
+use Rattle.law_db.proofs.Apart.{schemas_stay}
 use Rattle.law_claims.specs.Claims.{Tables, Basis, KeepsBasis, Stands, GoesBeside}
 use Rattle.law_claims.proofs.Standing.{of_rows, rests_as, stands_then, stands_as}
 use Rattle.law_claims.proofs.Keeping.{kept_on, goes_beside}

@@ -8,7 +8,7 @@ use Rattle.inno_db.specs.declared.change.Change.{Change}
 use Rattle.inno_db.specs.declared.change.Change.TheVariants.{Create, Put, Remove}
 use Rattle.inno_db.specs.Database.{Place}
 use Rattle.law_past_agreement.specs.Order.{IsOfRow}
-use Rattle.law_beside.specs.Beside.{touches, AreOfRows}
+use Rattle.law_db.specs.Beside.{touches, AreOfRows}
 use Rattle.law_claims.proofs.Standing.{touches_append}
 
 pub front_rows : (front later : List Change) → AllByRecursion IsOfRow (front ++ later) → AreOfRows front

@@ -11,7 +11,7 @@ use Rattle.inno_model.specs.Moments.{Sometime}
 use Rattle.inno_model.specs.Past.{own, IsOpen}
 use Rattle.sql_history.specs.Items.{base, point, HasMade}
 use Rattle.sql_history.specs.Counts.{rows_kept, most_rows}
-use Rattle.law_beside.specs.Beside.{touches}
+use Rattle.law_db.specs.Beside.{touches}
 use Rattle.law_claims.specs.Claims.{Basis, KeepsBasis, Stands}
 
 abbrev pub is_refusal : Reply → Bool

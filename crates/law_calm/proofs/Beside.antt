@@ -21,11 +21,11 @@ use Rattle.sql_history.specs.declared.settings.Save.{Save}
 use Rattle.sql_history.specs.Serial.{Piece}
 use Rattle.sql_history.specs.Statements.{is_on_rows}
 use Rattle.law_histories.specs.Work.{Tracks, IsReplied}
-use Rattle.law_beside.specs.Beside.{is_change_at, touches, AreApart, AreOfRows, passed, IsUnmet, IsBesideSearch}
+use Rattle.law_db.specs.Beside.{is_change_at, touches, AreApart, AreOfRows, passed, IsUnmet, IsBesideSearch}
 use Rattle.law_calm.specs.Pieces.{IsBeside, AreBeside, is_answered, AreAnswered}
-use Rattle.law_beside.proofs.Apart.{schemas_stay, get_untouched, get_touched, beside_commutes}
-use Rattle.law_beside.proofs.Searching.{select_beside, update_beside, delete_beside}
-use Rattle.law_beside.proofs.Inserting.{insert_beside, insert_no_rows}
+use Rattle.law_db.proofs.Apart.{schemas_stay, get_untouched, get_touched, beside_commutes}
+use Rattle.law_db.proofs.Searching.{select_beside, update_beside, delete_beside}
+use Rattle.law_db.proofs.BesideInserting.{insert_beside, insert_no_rows}
 
 -- ---- lists of changes
 

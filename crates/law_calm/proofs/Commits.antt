@@ -20,7 +20,7 @@ use Rattle.sql_history.specs.Legal.{IsLegal, MayCommit, CommitsBy, IsSettled, Is
 use Rattle.sql_history.specs.Serial.{Piece, HasWorked, compared}
 use Rattle.sql_history.proofs.Pasts.{point_now}
 use Rattle.law_db.specs.RowChanges.{AreOfTables}
-use Rattle.law_beside.proofs.Apart.{schemas_stay}
+use Rattle.law_db.proofs.Apart.{schemas_stay}
 use Rattle.law_histories.specs.Work.{AllIn, committed_db, IsReplied, Tracks, settled}
 use Rattle.law_histories.proofs.Pieces.{tracks-in}
 use Rattle.law_histories.proofs.Alike.{ReadsOne, keeps_changes, never_begins}

@@ -28,9 +28,9 @@ use Rattle.sql_history.specs.Serial.{Piece, HasDone, DoesItem, with_item, with_a
 use Rattle.law_db.specs.RowChanges.{AreOfTables}
 use Rattle.law_histories.proofs.Entries.{by_session}
 use Rattle.law_histories.specs.Work.{Tracks}
-use Rattle.law_beside.specs.Beside.{is_change_at, touches, AreOfRows}
+use Rattle.law_db.specs.Beside.{is_change_at, touches, AreOfRows}
 use Rattle.law_calm.specs.Pieces.{is_answered, AreAnswered}
-use Rattle.law_beside.proofs.Apart.{schemas_stay}
+use Rattle.law_db.proofs.Apart.{schemas_stay}
 use Rattle.law_calm.proofs.RowsOnly.{rows_make_no_table}
 use Rattle.law_calm.proofs.Beside.{and_front, and_behind}
 

@@ -21,7 +21,7 @@ use Rattle.law_histories.proofs.Items.{set_kept, set_one}
 use Rattle.law_histories.specs.Work.{Tracks}
 use Rattle.law_histories.proofs.Pieces.{tracks-back}
 use Rattle.law_calm.proofs.Going.{reads_back, goes_nowhere}
-use Rattle.law_beside.specs.Beside.{touches, AreOfRows}
+use Rattle.law_db.specs.Beside.{touches, AreOfRows}
 use Rattle.law_calm.specs.Pieces.{AreBeside, AreAnswered}
 use Rattle.law_histories.specs.Work.{settled}
 use Rattle.law_calm.specs.Standing.{HasStanding}

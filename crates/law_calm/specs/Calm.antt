@@ -14,7 +14,7 @@ use Rattle.sql_history.specs.Statements.{is_on_rows, sight_of}
 use Rattle.sql_history.specs.Waiting.{is_victim}
 use Rattle.sql_history.specs.Answers.{MaySee}
 use Rattle.sql_history.specs.Serial.{Piece}
-use Rattle.law_beside.specs.Beside.{touches, AreOfRows}
+use Rattle.law_db.specs.Beside.{touches, AreOfRows}
 use Rattle.law_histories.specs.Work.{AllIn, committed_db}
 use Rattle.law_calm.specs.Pieces.{AreBeside}
 use Rattle.law_calm.specs.Standing.{HasStanding}

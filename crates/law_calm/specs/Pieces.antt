@@ -6,7 +6,7 @@ use Rattle.inno_db.specs.declared.change.Change.{Change}
 use Rattle.inno_db.specs.Database.{Database}
 use Rattle.sql_history.specs.Serial.{Piece}
 use Rattle.sql_history.specs.Statements.{is_on_rows}
-use Rattle.law_beside.specs.Beside.{IsBesideStatement}
+use Rattle.law_db.specs.Beside.{IsBesideStatement}
 
 abbrev pub IsBeside : Piece → Database → List Change → Type 0
 IsBeside (Piece.ran statement reply) db changes = IsBesideStatement statement db changes

@@ -12,7 +12,7 @@ ghost use Rattle.sql_grammar.specs.Grammar.{Spells};
 ghost use Rattle.sql_history.specs.declared.settings.Save.{Save};
 ghost use Rattle.sql_history.specs.Legal.{IsLegal};
 ghost use Rattle.sql_history.specs.Serial.{Piece, AnswersAsAlone};
-ghost use Rattle.law_beside.specs.Beside.{AreApart, AreOfRows};
+ghost use Rattle.law_db.specs.Beside.{AreApart, AreOfRows};
 ghost use Rattle.law_histories.specs.Work.{Tracks};
 ghost use Rattle.law_calm.specs.Pieces.{AreAnswered, AreBeside};
 ghost use Rattle.law_calm.specs.Calm.{IsCalm, AreCalm};

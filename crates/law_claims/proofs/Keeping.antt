@@ -12,8 +12,8 @@ use Rattle.inno_model.specs.declared.event.Event.TheVariants as events
 use Rattle.inno_model.specs.Past.{is_of, own, commits, committed, opening, changed}
 use Rattle.sql_history.specs.Items.{own_before, base}
 use Rattle.law_past_agreement.specs.Order.{IsNoOthers}
-use Rattle.law_beside.specs.Beside.{touches, AreApart, AreOfRows}
-use Rattle.law_beside.proofs.Apart.{schemas_stay, beside_commutes}
+use Rattle.law_db.specs.Beside.{touches, AreApart, AreOfRows}
+use Rattle.law_db.proofs.Apart.{schemas_stay, beside_commutes}
 use Rattle.shared_lists.specs.State.{State}
 use Rattle.sql_lists.specs.Steps.{changes_rows, MayWriteAlone}
 use Rattle.sql_lists.proofs.Moving.{AddingOne}

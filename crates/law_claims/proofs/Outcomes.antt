@@ -25,10 +25,10 @@ use Rattle.inno_db.specs.Keyed.{IsKeyed}
 use Rattle.inno_model.specs.Past.{changed}
 use Rattle.sql_history.specs.Legal.{IsWriting}
 use Rattle.law_db.specs.RowChanges.{AreOfTables}
-use Rattle.law_beside.specs.Beside.{touches, AreOfRows, is_search}
-use Rattle.law_beside.proofs.Apart.{schemas_stay, get_untouched}
-use Rattle.law_beside.proofs.Searching.{search_beside, on_rows-alike, outcome-alike}
-use Rattle.law_beside.proofs.Inserting as inserting
+use Rattle.law_db.specs.Beside.{touches, AreOfRows, is_search}
+use Rattle.law_db.proofs.Apart.{schemas_stay, get_untouched}
+use Rattle.law_db.proofs.Searching.{search_beside, on_rows-alike, outcome-alike}
+use Rattle.law_db.proofs.BesideInserting as inserting
 use Rattle.law_claims.specs.Claims.{Claim, Tables, Row, Rows, Leaves, Basis, SearchesFor, LeavesBasis, IsRefusedAt}
 use Rattle.law_claims.proofs.Standing.{of_rows}
 

@@ -14,8 +14,8 @@ use Rattle.inno_db.specs.Conditions.{matches}
 use Rattle.inno_db.specs.Names.{table_place}
 use Rattle.inno_model.specs.Past.{changed}
 use Rattle.law_db.specs.RowChanges.{AreOfTables}
-use Rattle.law_beside.specs.Beside.{is_change_at, touches, AreApart, AreOfRows, passed, IsUnmet}
-use Rattle.law_beside.proofs.Apart.{schemas_stay, get_untouched, get_touched}
+use Rattle.law_db.specs.Beside.{is_change_at, touches, AreApart, AreOfRows, passed, IsUnmet}
+use Rattle.law_db.proofs.Apart.{schemas_stay, get_untouched, get_touched}
 use Rattle.law_claims.specs.Claims.{Claim, Tables, Row, Rows, Leaves, Basis, RestsOn, LeavesBasis, Stands}
 
 -- ---- changes behind changes

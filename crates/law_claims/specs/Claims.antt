@@ -14,7 +14,7 @@ use Rattle.inno_model.specs.declared.event.Event.{Event}
 use Rattle.inno_model.specs.Past.{own, changed}
 use Rattle.sql_history.specs.Items.{base}
 use Rattle.law_db.specs.RowChanges.{AreOfTables}
-use Rattle.law_beside.specs.Beside.{touches, IsBesideSearch}
+use Rattle.law_db.specs.Beside.{touches, IsBesideSearch}
 
 -- which tables there are; the row at a place, or that there is none; the rows of a table that a condition meets
 pub data Claim : Type 0 where

@@ -17,7 +17,7 @@ ghost use Rattle.inno_db.specs.Keyed.{IsKeyed};
 ghost use Rattle.inno_model.specs.declared.event.Event.{Event};
 ghost use Rattle.inno_model.specs.Past.{own, changed};
 ghost use Rattle.sql_history.specs.Legal.{IsWriting};
-ghost use Rattle.law_beside.specs.Beside.{touches, is_search};
+ghost use Rattle.law_db.specs.Beside.{touches, is_search};
 ghost use Rattle.law_claims.specs.Claims.{Claim, Leaves, Keeps, Basis, LeavesBasis, IsRefusedAt};
 
 /// What another session has changed leaves what is kept as it is, so a commit of it does.

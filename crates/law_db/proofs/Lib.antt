@@ -3,3 +3,7 @@ pub mod Fits
 pub mod Inserting
 pub mod Rows
 pub mod Values
+pub mod Passing
+pub mod Apart
+pub mod Searching
+pub mod BesideInserting

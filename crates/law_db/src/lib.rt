@@ -2,6 +2,10 @@
 //! Nothing calls them; they show that the definitions say what a database user expects.
 #![tactic(auto)]
 
+mod beside;
+
+pub use beside::{changes_apart_commute, outcome_beside, insert_beside};
+
 ghost use Rattle.std.specs.Prelude.{◌≡◌, ℕ, List, ◌++◌, Some, Option, slice_get};
 ghost use Rattle.inno_types.specs.declared.value.Schema.{Schema};
 ghost use Rattle.inno_types.specs.declared.value.Value.{Value};

@@ -26,8 +26,8 @@ use Rattle.inno_db.proofs.Keys.{key_in-at}
 use Rattle.inno_model.specs.declared.event.Event.{Event}
 use Rattle.inno_model.specs.Past.{own, changed}
 use Rattle.sql_history.specs.Items.{own_before, base}
-use Rattle.law_beside.specs.Beside.{is_change_at, touches}
-use Rattle.law_beside.proofs.Apart.{schemas_stay}
+use Rattle.law_db.specs.Beside.{is_change_at, touches}
+use Rattle.law_db.proofs.Apart.{schemas_stay}
 use Rattle.law_claims.specs.Claims.{Claim, Tables, Row, Rows, RestsOn, Stands, GoesBeside}
 use Rattle.law_claims.proofs.Standing.{of_rows, stands_now, stands_then}
 use Rattle.law_claims.proofs.Outcomes.{whole_is}

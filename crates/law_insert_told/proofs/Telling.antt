@@ -31,8 +31,8 @@ use Rattle.inno_model.specs.declared.event.Event.TheVariants.{Changed}
 use Rattle.inno_model.specs.Past.{own, changed, current}
 use Rattle.sql_history.specs.Items.{own_before, base}
 use Rattle.law_db.specs.RowChanges.{AreOfTables}
-use Rattle.law_beside.specs.Beside.{is_change_at, touches, AreApart, AreOfRows}
-use Rattle.law_beside.proofs.Apart.{schemas_stay, get_untouched, beside_commutes}
+use Rattle.law_db.specs.Beside.{is_change_at, touches, AreApart, AreOfRows}
+use Rattle.law_db.proofs.Apart.{schemas_stay, get_untouched, beside_commutes}
 use Rattle.law_claims.specs.Claims.{Tables, Row, Rows, Basis, RestsOn, LeavesBasis, Stands}
 use Rattle.law_claims.proofs.Standing.{of_rows, touches_append}
 use Rattle.law_claims.proofs.Outcomes.{keyed_behind}

@@ -12,7 +12,7 @@ use Rattle.inno_db.specs.Refusals.{refusal}
 use Rattle.inno_model.specs.declared.event.Event.{Event}
 use Rattle.inno_model.specs.Past.{own}
 use Rattle.sql_history.specs.Items.{own_before, base}
-use Rattle.law_beside.specs.Beside.{AreOfRows}
+use Rattle.law_db.specs.Beside.{AreOfRows}
 use Rattle.law_claims.specs.Claims.{Basis, Stands}
 use Rattle.write_statement.specs.Parts.{GoesOnWith}
 

@@ -13,7 +13,7 @@ use Rattle.row_versions.specs.{declared.place.Place.Place, Chains.versions_at, L
 use Rattle.law_past_agreement.specs.{Order.created, Rows.is_at, Rows.row_opened, DatabaseTables.with_all_tables}
 use Rattle.law_past_agreement.proofs.{Gets.get_is, Gets.seen_is, Tables.committed_tabled, Rows.newest_is}
 use Rattle.sql_plan.specs.{declared.choice.Plan.Plan, Visits.index_key}
-use Rattle.law_beside.specs.Beside.{is_change_at, touches, passed}
+use Rattle.law_db.specs.Beside.{is_change_at, touches, passed}
 use Rattle.world.specs.State.{Session, Work, HasWork}
 use Rattle.desks.specs.{Desks.Store, Desks.doing_at, Holding.lags_in}
 use Rattle.law_other_places.specs.Many.{IsHeldByAll}

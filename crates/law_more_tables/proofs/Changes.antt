@@ -18,8 +18,8 @@ use Rattle.inno_db.specs.Outcome.{outcome}
 use Rattle.inno_model.specs.Past.{changed}
 use Rattle.sql_history.specs.Statements.{is_on_rows}
 use Rattle.law_db.specs.RowChanges.{AreOfTables}
-use Rattle.law_beside.specs.Beside.{is_change_at}
-use Rattle.law_beside.proofs.Apart.{schemas_stay, get_one, made_at}
+use Rattle.law_db.specs.Beside.{is_change_at}
+use Rattle.law_db.proofs.Apart.{schemas_stay, get_one, made_at}
 use Rattle.law_claims.proofs.Standing.{of_rows}
 use Rattle.law_past_agreement.proofs.Tables.{key_stays}
 use Rattle.write_statement.specs.Following.{counted_on}

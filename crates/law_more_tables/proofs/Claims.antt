@@ -23,8 +23,8 @@ use Rattle.sql_history.specs.Items.{own_before, base}
 use Rattle.sql_history.specs.Statements.{is_on_rows}
 use Rattle.sql_history.proofs.Pasts.{changed_append, commit_adds}
 use Rattle.law_db.specs.RowChanges.{AreOfTables}
-use Rattle.law_beside.specs.Beside.{is_change_at, touches, AreOfRows, passed}
-use Rattle.law_beside.proofs.Apart.{schemas_stay, get_one, made_at}
+use Rattle.law_db.specs.Beside.{is_change_at, touches, AreOfRows, passed}
+use Rattle.law_db.proofs.Apart.{schemas_stay, get_one, made_at}
 use Rattle.law_claims.specs.Claims.{Claim, Tables, Row, Rows, Leaves, Basis, RestsOn, Stands}
 use Rattle.law_claims.proofs.Standing.{of_rows}
 use Rattle.law_histories.specs.Work.{committed_db}

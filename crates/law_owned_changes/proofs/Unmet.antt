@@ -29,8 +29,8 @@ use Rattle.law_past_agreement.proofs.{Ids.AreIds, Ids.ids_of, Gets.seen_is, Rows
 use Rattle.sql_history.proofs.Pasts.{changed_append}
 use Rattle.sql_lists.specs.Kept.{AreStanding, IsInOrder}
 use Rattle.law_past_agreement.specs.Order.{is_creation}
-use Rattle.law_beside.specs.Beside.{is_change_at, touches, AreOfRows, passed, IsUnmet}
-use Rattle.law_beside.proofs.Apart.{schemas_stay, get_untouched}
+use Rattle.law_db.specs.Beside.{is_change_at, touches, AreOfRows, passed, IsUnmet}
+use Rattle.law_db.proofs.Apart.{schemas_stay, get_untouched}
 use Rattle.law_histories.specs.Work.{committed_db}
 use Rattle.write_statement.proofs.Found.{same_map}
 use Rattle.law_lock_guards.specs.Guards.{has_record}

@@ -40,8 +40,8 @@ use Rattle.law_histories.specs.Trees.{filter_tree, tree_of}
 use Rattle.law_histories.specs.Trees as tree
 use Rattle.law_histories.proofs.OneOutcome.{plain_same}
 use Rattle.law_histories.proofs.Statements.{one_tree}
-use Rattle.law_beside.specs.Beside.{is_change_at, passed, IsUnmet}
-use Rattle.law_beside.proofs.Apart.{get_one}
+use Rattle.law_db.specs.Beside.{is_change_at, passed, IsUnmet}
+use Rattle.law_db.proofs.Apart.{get_one}
 use Rattle.law_histories.specs.Work.{committed_db}
 use Rattle.law_histories.proofs.Entries.{by_session}
 use Rattle.law_calm.specs.Pieces.{AreBeside}

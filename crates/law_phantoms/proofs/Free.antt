@@ -19,7 +19,7 @@ use Rattle.sql_history.specs.LooseReading.{newest}
 use Rattle.sql_history.specs.Legal.{MayFollow}
 use Rattle.law_histories.proofs.Placing.{key_in-more}
 use Rattle.law_histories.proofs.Entries.{by_session}
-use Rattle.law_beside.specs.Beside.{is_change_at, touches}
+use Rattle.law_db.specs.Beside.{is_change_at, touches}
 use Rattle.law_phantoms.specs.Phantoms.{AllApart}
 
 -- ---- places over more tables

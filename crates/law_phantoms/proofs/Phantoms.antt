@@ -20,8 +20,8 @@ use Rattle.sql_history.specs.LooseReading.{newest, uncommitted}
 use Rattle.sql_history.specs.Legal.{IsLegal}
 use Rattle.sql_history.specs.Serial.{Piece, IsSerializable, IsUnstarted, IsSetUp}
 use Rattle.sql_history.proofs.Pasts.{changed_append, commit_adds}
-use Rattle.law_beside.specs.Beside.{AreOfRows}
-use Rattle.law_beside.proofs.Apart.{schemas_stay}
+use Rattle.law_db.specs.Beside.{AreOfRows}
+use Rattle.law_db.proofs.Apart.{schemas_stay}
 use Rattle.law_histories.specs.Work.{committed_db}
 use Rattle.law_histories.proofs.Placing.{made_of, schemas_after}
 use Rattle.law_histories.proofs.Alike.{ReadsOne}

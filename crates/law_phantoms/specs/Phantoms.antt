@@ -11,7 +11,7 @@ use Rattle.inno_model.specs.Past.{own, level}
 use Rattle.sql_history.specs.Items.{Language}
 use Rattle.sql_history.specs.Statements.{Sight, sight_of}
 use Rattle.sql_history.specs.Serial.{Piece, IsUnstarted}
-use Rattle.law_beside.specs.Beside.{touches, IsBesideStatement}
+use Rattle.law_db.specs.Beside.{touches, IsBesideStatement}
 use Rattle.law_histories.specs.Work.{committed_db}
 use Rattle.law_calm.specs.Pieces.{AreBeside}
 use Rattle.law_calm.specs.Standing.{HasStanding}

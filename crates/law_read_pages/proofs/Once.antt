@@ -18,8 +18,8 @@ use Rattle.entries.specs.Pairs.{Pair, value_of}
 use Rattle.row_versions.specs.declared.kept.Kept.{Kept}
 use Rattle.row_versions.specs.declared.place.Place.{Place}
 use Rattle.row_versions.specs.Chains.{in_model}
-use Rattle.catalog_entry.specs.declared.held.Held.{Held}
-use Rattle.catalog_entry.proofs.Entries.{one_entry}
+use Rattle.catalog.specs.declared.held.Held.{Held}
+use Rattle.catalog.proofs.Entries.{one_entry}
 use Rattle.catalog.specs.Tables.{IsCatalog}
 use Rattle.catalog.proofs.Catalogs.{filled}
 use Rattle.catalog.proofs.Makeables.{parts_of, place_within}

@@ -5,7 +5,7 @@ use Rattle.inno_model.specs.declared.event.Event.{Event}
 use Rattle.inno_model.specs.Past.{changed, commits, committed}
 use Rattle.entries.specs.Pairs.{Pair}
 use Rattle.row_versions.specs.declared.kept.Kept.{Kept}
-use Rattle.catalog_entry.specs.declared.held.Held.{Held}
+use Rattle.catalog.specs.declared.held.Held.{Held}
 use Rattle.catalog.specs.Tables.{IsCatalog}
 use Rattle.catalog.specs.Creating.{key_bytes_at, clustered_len}
 use Rattle.btree.specs.declared.tree.Tree.{Tree}

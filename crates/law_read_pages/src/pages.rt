@@ -7,7 +7,7 @@ ghost use Rattle.inno_db.specs.Database.{Database};
 ghost use Rattle.inno_model.specs.declared.event.Event.{Event};
 ghost use Rattle.entries.specs.Pairs.{Pair};
 ghost use Rattle.row_versions.specs.declared.kept.Kept.{Kept};
-ghost use Rattle.catalog_entry.specs.declared.held.Held.{Held};
+ghost use Rattle.catalog.specs.declared.held.Held.{Held};
 ghost use Rattle.row_versions.specs.declared.place.Place.{Place};
 ghost use Rattle.row_versions.specs.Chains.{Chains, versions_at, in_model};
 ghost use Rattle.law_past_agreement.specs.Order.{IsOrdered, created};

@@ -9,7 +9,7 @@ ghost use Rattle.inno_model.specs.declared.event.Event.{Event};
 ghost use Rattle.store_api.specs.declared.answers.Version.{Version as Coded};
 ghost use Rattle.entries.specs.Pairs.{Pair};
 ghost use Rattle.row_versions.specs.declared.kept.Kept.{Kept};
-ghost use Rattle.catalog_entry.specs.declared.held.Held.{Held};
+ghost use Rattle.catalog.specs.declared.held.Held.{Held};
 ghost use Rattle.row_versions.specs.declared.place.Place.{Place};
 ghost use Rattle.row_versions.specs.Chains.{Chains, versions_at, in_model};
 ghost use Rattle.law_past_agreement.specs.Order.{IsOrdered, created};

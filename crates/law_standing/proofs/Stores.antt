@@ -15,7 +15,7 @@ use Rattle.sql_history.specs.Statements.{Sight, sight_of}
 use Rattle.sql_history.specs.Counts.{has_stopped}
 use Rattle.sql_history.specs.Legal.{IsLegal}
 use Rattle.sql_history.specs.Serial.{Piece}
-use Rattle.law_beside.specs.Beside.{IsBesideStatement}
+use Rattle.law_db.specs.Beside.{IsBesideStatement}
 use Rattle.law_histories.specs.Work.{committed_db}
 use Rattle.law_histories.proofs.Alike.{ReadsOne}
 use Rattle.law_histories.proofs.Entries.{by_session}

@@ -17,7 +17,7 @@ use Rattle.inno_db.specs.Database.{Database}
 use Rattle.inno_db.specs.Conditions.{truth_of, matches, not_of, and_of, or_of, is_true}
 use Rattle.inno_model.specs.Past.{changed}
 use Rattle.sql_history.specs.Statements.{sight_of}
-use Rattle.law_beside.specs.Beside.{passed, IsUnmet, IsBesideSearch, IsBesideStatement}
+use Rattle.law_db.specs.Beside.{passed, IsUnmet, IsBesideSearch, IsBesideStatement}
 use Rattle.law_histories.specs.Trees.{FilterTree, filter_tree, where_tree, tree_of}
 use Rattle.law_histories.specs.Trees as tree
 use Rattle.law_histories.proofs.OneOutcome.{plain_same}

@@ -15,7 +15,7 @@ use Rattle.law_logged_pages.specs.Applied.{logical}
 use Rattle.flusher.specs.Flushing.{IsHome, IsNowhere}
 use Rattle.law_logged_pages.specs.Keeping.{IsRun, IsPlaced}
 use Rattle.page_recovery.specs.Leaving.{IsFileRun, LeavesRun}
-use Rattle.law_checkpoints.specs.Checkpoints.{begun, IsClean, IsCheckpoint}
+use Rattle.page_checkpoint.specs.Checkpoints.{begun, IsClean, IsCheckpoint}
 use Rattle.page_checkpoint.specs.declared.checking.NewRun.{NewRun}
 use Rattle.page_checkpoint.specs.Header.{IsNextHeader}
 use Rattle.page_checkpoint.specs.Beginning.{IsNextRun, HoldsAll, HasBegun, IsUnused, LeavesOne, alone}

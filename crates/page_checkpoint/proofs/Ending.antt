@@ -22,7 +22,7 @@ use Rattle.law_logged_pages.specs.Heads.{head_of}
 use Rattle.law_logged_pages.specs.Stages.{AreBytes}
 use Rattle.law_logged_pages.proofs.Spared.{stage_spares}
 use Rattle.page_recovery.specs.Reading.{IsFileHeader}
-use Rattle.law_checkpoints.specs.Checkpoints.{IsClean, IsCheckpoint}
+use Rattle.page_checkpoint.specs.Checkpoints.{IsClean, IsCheckpoint}
 use Rattle.page_checkpoint.specs.declared.checking.NewRun.{NewRun}
 use Rattle.page_checkpoint.specs.Header.{IsNextHeader}
 use Rattle.page_checkpoint.specs.Beginning.{IsNextRun, HoldsAll, IsUnused, alone}

@@ -15,7 +15,7 @@ use Rattle.law_logged_pages.specs.Stages.{SameButSum}
 use Rattle.law_logged_pages.proofs.Edits.{same_itself}
 use Rattle.flusher.specs.Flushing.{IsHome, IsNowhere}
 use Rattle.flusher.proofs.Homes as homes
-use Rattle.law_checkpoints.specs.Checkpoints.{begun}
+use Rattle.page_checkpoint.specs.Checkpoints.{begun}
 use Rattle.page_checkpoint.specs.Beginning.{alone}
 use Rattle.page_checkpoint.proofs.Alone.{page_alone}
 

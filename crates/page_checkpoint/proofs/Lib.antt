@@ -8,3 +8,5 @@ mod Alone
 mod Found
 mod Headers
 mod Homes
+mod NewRun
+mod Staying

@@ -15,7 +15,7 @@ use Rattle.law_logged_pages.specs.Stages.{SameButSum}
 use Rattle.law_logged_pages.specs.Keeping.{IsPlaced}
 use Rattle.flusher.specs.Flushing.{HoldsRun, IsHome, IsNowhere, AreKept}
 use Rattle.page_recovery.specs.Leaving.{IsFileRun, LeavesRun}
-use Rattle.law_checkpoints.specs.Checkpoints.{begun}
+use Rattle.page_checkpoint.specs.Checkpoints.{begun}
 use Rattle.page_checkpoint.specs.declared.checking.CheckpointBad.{CheckpointBad}
 use Rattle.page_checkpoint.specs.declared.checking.CheckpointBad.TheVariants.{Dirty, NotFlushed, NoGroups, NoNumbers, NoMemory, Failed}
 use Rattle.page_checkpoint.specs.declared.checking.NewRun.{NewRun}

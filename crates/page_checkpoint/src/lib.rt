@@ -6,10 +6,14 @@ mod beginning;
 mod checking;
 mod header;
 mod making;
+mod new_runs;
 mod placing;
 mod premise;
 
 pub use beginning::begin_log;
 pub use checking::{CheckpointBad, NewRun};
 pub use making::checkpoint;
+pub use new_runs::{
+    a_checkpoint_begins_a_run, a_crash_leaves_one_of_both_runs, a_placed_checkpoint_stays,
+};
 pub use premise::a_flushed_run_may_end;

@@ -9,7 +9,7 @@ ghost use Rattle.buffer_pool.specs.Frames.{is_pooled, bytes_of, fixes_of};
 ghost use Rattle.stored_pages.specs.Reading.{IsGoodPage};
 ghost use Rattle.doublewrite.specs.Kept.{IsReady, IsReadyAs, IsStaged, HasPlaced, KeepsPages};
 ghost use Rattle.law_logged_pages.specs.Stages.{AreBytes};
-ghost use Rattle.law_checkpoints.specs.Checkpoints.{begun};
+ghost use Rattle.page_checkpoint.specs.Checkpoints.{begun};
 ghost use Rattle.page_checkpoint.specs.Header.{IsNextHeader};
 ghost use Rattle.page_checkpoint.specs.Beginning.{IsNextRun, IsCause, IsFault, IsFailure, HasHeader, HoldsAll, HasBegun, LeavesOne, alone};
 
@@ -18,7 +18,7 @@ use crate::header::{PAGE, next_header};
 use crate::placing::place_header;
 use buffer_pool::Pool;
 use doublewrite::Batch;
-use law_checkpoints::{
+use crate::{
     a_checkpoint_begins_a_run, a_crash_leaves_one_of_both_runs, a_placed_checkpoint_stays,
 };
 use redo_log::{Log, stands_for_what_is_left};

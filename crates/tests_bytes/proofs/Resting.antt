@@ -1,7 +1,7 @@
 -- A mini-transaction that has put nothing looks at the tables, and the next one sees the same.
 use Rattle.std.proofs.Common.{◌≡◌, ℕ, ◌≤◌, List, [], sym, ap, ◌∙◌, subst, arith}
 use Rattle.std.specs.Prelude.{IsTrue}
-use Rattle.catalog_entry.specs.declared.held.Held.{Held}
+use Rattle.catalog.specs.declared.held.Held.{Held}
 use Rattle.mtr.specs.Seen.{MtrState, claim}
 use Rattle.mtr.specs.Calls.{Consults, GivesUp}
 use Rattle.space_map.specs.Taking.{map_pages}

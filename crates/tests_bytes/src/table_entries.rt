@@ -1,7 +1,7 @@
 //! An entry with two columns, one key and two roots is read and spelled again. Entries that are none are refused.
 //! Only `catalog_entry` is tried: no page has the entry.
 
-use catalog_entry::{EntryBad, get_entry, put_entry};
+use catalog::{EntryBad, get_entry, put_entry};
 use std::alloc::Global;
 use std::test::Fail;
 

@@ -5,7 +5,7 @@ ghost use Rattle.std.specs.Prelude.{◌≡◌, [], IsTrue, IfOk};
 ghost use Rattle.catalog.specs.Tables.{is_new_name, IsCatalog};
 
 use catalog::{could_be_made, create, load};
-use catalog_entry::{Held, Schemas};
+use catalog::{Held, Schemas};
 use inno_types::{Bytes, Column, Key, Kind, Listed, Schema};
 use mtr::{ListedPages, Mtr};
 use std::alloc::{AllocError, Global};

@@ -12,7 +12,7 @@ use Rattle.btree.specs.Sound.{lows_of, levels_of, tree_pairs, HoldsKey}
 use Rattle.btree_change.specs.Trees.{Becomes, DoesReplace, DoesRemove}
 use Rattle.btree_change.specs.Calls.{IsLeafFor, Touches}
 use Rattle.btree_split.specs.Placed.{IsPlacedPage, IsPlacedTree}
-use Rattle.btree_insert.proofs.AddedPair.{placed_still}
+use Rattle.btree_grow.proofs.AddedPair.{placed_still}
 use Rattle.law_flat_tree.proofs.PageSplits.{all_in}
 use Rattle.btree.proofs.Passed.{leaves_each}
 use Rattle.tree_use.specs.Stored.{IsAtRest, IsStill}

@@ -23,9 +23,9 @@ use Rattle.btree_grow.specs.Grown.{Grows}
 use Rattle.btree_grow.proofs.PutHalves.{ne_false}
 use Rattle.btree_grow.specs.Going as grow
 use Rattle.btree_merge.specs.Going as merge
-use Rattle.btree_insert.specs.declared.inserts.Outcome.{Outcome}
-use Rattle.btree_insert.specs.declared.inserts.Outcome.TheVariants.{Added, Present, Full, TooDeep}
-use Rattle.btree_insert.specs.Adding.{DoesAdd}
+use Rattle.btree_grow.specs.declared.inserts.Outcome.{Outcome}
+use Rattle.btree_grow.specs.declared.inserts.Outcome.TheVariants.{Added, Present, Full, TooDeep}
+use Rattle.btree_grow.specs.Adding.{DoesAdd}
 use Rattle.btree_merge.specs.Tidied.{DoesTidy}
 use Rattle.tree_use.specs.Stored.{IsAtRest}
 use Rattle.tree_use.proofs.Resting.{AreResident, no_rise, no_rule, told_on}

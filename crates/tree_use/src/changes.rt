@@ -5,13 +5,13 @@ ghost use Rattle.std.specs.Prelude.{◌≡◌, true, false, length, IfOk, OnErr}
 ghost use Rattle.btree.specs.Sound.{tree_pairs};
 ghost use Rattle.mtr.specs.Calls.{Commits, GivesUp};
 ghost use Rattle.btree_change.specs.Trees.{DoesReplace, DoesRemove};
-ghost use Rattle.btree_insert.specs.Adding.{DoesAdd};
+ghost use Rattle.btree_grow.specs.Adding.{DoesAdd};
 ghost use Rattle.tree_use.specs.Stored.{HasWidths, IsAtRest};
 
 use crate::reading::sure_leaf;
 use btree::Tree;
 use btree_change::{remove_in, replace_in};
-use btree_insert::{Outcome, insert};
+use btree_grow::{Outcome, insert};
 use btree_merge::tidy;
 use mtr::Resident;
 use store_api::{NoMemory, SpaceBad};

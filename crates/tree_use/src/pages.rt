@@ -9,7 +9,7 @@ ghost use Rattle.tree_use.specs.Stored.{stored_of, HasWidths, IsAtRest, IsPut, I
 use crate::changes::{add_pair, put_value, take_pair, tidy_leaf};
 use crate::reading::{Row, copy_into, find_row, follow_row, lacks_key, read_next, seek_row};
 use btree::Tree;
-use btree_insert::Outcome;
+use btree_grow::Outcome;
 use entries::PairBuffers;
 use inno_types::Bytes;
 use mtr::Resident;

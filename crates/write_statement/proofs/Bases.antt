@@ -24,9 +24,9 @@ use Rattle.inno_model.specs.Past.{own, changed, current}
 use Rattle.law_past_agreement.specs.Order.{IsOfRow}
 use Rattle.sql_history.specs.Items.{own_before, base}
 use Rattle.sql_history.specs.Legal.{IsWriting}
-use Rattle.law_beside.specs.Beside.{is_change_at, touches, AreApart, AreOfRows}
-use Rattle.law_beside.proofs.Apart.{schemas_stay, beside_commutes}
-use Rattle.law_beside.proofs.Searching.{on_rows-alike, outcome-alike}
+use Rattle.law_db.specs.Beside.{is_change_at, touches, AreApart, AreOfRows}
+use Rattle.law_db.proofs.Apart.{schemas_stay, beside_commutes}
+use Rattle.law_db.proofs.Searching.{on_rows-alike, outcome-alike}
 use Rattle.law_claims.specs.Claims.{Claim, Tables, Row, Rows, Leaves, Basis, RestsOn, LeavesBasis, SearchesFor, IsRefusedAt}
 use Rattle.law_claims.proofs.Standing.{of_rows, rests_as, leaves_behind}
 use Rattle.law_claims.proofs.Outcomes.{search_stands, counted_stands, refusal_stands}

@@ -32,7 +32,7 @@ use Rattle.giving_up.specs.Leaving.{IsWorking, IsBackingOut, MayGoBack}
 use Rattle.write_statement.specs.Running.{IsEarly, IsChanging}
 use Rattle.giving_up.specs.Leaving.{given_up}
 use Rattle.write_statement.specs.Running.{basis_for}
-use Rattle.law_beside.specs.Beside.{touches}
+use Rattle.law_db.specs.Beside.{touches}
 use Rattle.law_claims.specs.Claims.{Claim, Tables, Basis, RestsOn, Stands}
 use Rattle.law_claims.proofs.Standing.{stands_now}
 use Rattle.law_claims.proofs.Keeping.{all_kept}

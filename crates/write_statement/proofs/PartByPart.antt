@@ -31,8 +31,8 @@ use Rattle.giving_up.specs.Replies.{is_count, is_refusal}
 use Rattle.write_statement.specs.Parts.{with_tuple, left_of, rest_of, IsCut, behind, of_part, of_rest, GoesOnWith, IsFirstPart}
 use Rattle.write_statement.specs.declared.machine.Part.{Part}
 use Rattle.law_db.specs.RowChanges.{AreOfTables}
-use Rattle.law_beside.specs.Beside.{touches}
-use Rattle.law_beside.proofs.Apart.{schemas_stay}
+use Rattle.law_db.specs.Beside.{touches}
+use Rattle.law_db.proofs.Apart.{schemas_stay}
 use Rattle.law_claims.specs.Claims.{Claim, Tables, Basis, Keeps, RestsOn, LeavesBasis, Stands}
 use Rattle.law_claims.proofs.Standing.{of_rows, stands_now, stands_as}
 use Rattle.law_claims.proofs.Keeping.{all_kept}

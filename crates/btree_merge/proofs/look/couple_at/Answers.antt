@@ -1,5 +1,5 @@
 use Rattle.std.proofs.Common.{arith}
-use Rattle.law_tree_merges.proofs.Merging.{counted_records}
+use Rattle.btree_merge.proofs.Merging.{counted_records}
 use Rattle.btree_merge.proofs.look.couple_at.Goals as goal
 
 pub returns-then-from-clause-couple : goal.returns-then-from-clause-couple

@@ -1,7 +1,7 @@
 use Rattle.std.proofs.Common.{[], slice_index_or, ap, arith}
 use Rattle.page_format.specs.Words.{records_of}
 use Rattle.law_flat_tree.specs.Pages.{child_of}
-use Rattle.law_tree_merges.proofs.Merging.{counted_records}
+use Rattle.btree_merge.proofs.Merging.{counted_records}
 use Rattle.btree_merge.proofs.tidying.place_for.Goals as goal
 
 pub returns-clause-leads : goal.returns-clause-leads

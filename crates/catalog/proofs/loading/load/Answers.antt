@@ -1,7 +1,7 @@
 use Rattle.std.proofs.Common.{ℕ, ◌≡◌, List, length, refl, sym, ap, subst, arith}
 use Rattle.std.proofs.lemmas.Result.{err_from_is_err_and}
 use Rattle.mtr.proofs.Consulting.{consults_asked, consults_then, claim_left}
-use Rattle.catalog_entry.specs.declared.held.Held.{Held}
+use Rattle.catalog.specs.declared.held.Held.{Held}
 use Rattle.catalog.specs.Tables.{HoldsBelow}
 use Rattle.catalog.specs.Loading.{catalog_pages}
 use Rattle.catalog.proofs.Prefixes.{below_first, below_more}

@@ -2,7 +2,7 @@ use Rattle.std.proofs.Common.{ℕ, ◌<◌, List, sym, subst}
 use Rattle.std.specs.Prelude.{All}
 use Rattle.std.proofs.lemmas.List.{take_rest}
 use Rattle.std.proofs.lemmas.Result.{err_from_is_err_and}
-use Rattle.catalog_entry.specs.Refused.{BeginsWith, IsRefused}
+use Rattle.catalog.specs.Refused.{BeginsWith, IsRefused}
 use Rattle.catalog.proofs.Shown.{no_table, no_roots}
 use Rattle.catalog.proofs.tables.held_in.Goals as goal
 

@@ -1,7 +1,7 @@
 use Rattle.std.proofs.Common.{◌≡◌, ◌+◌, ◌-◌, ℕ, List, sym, ap, subst, ◌∙◌, arith}
 use Rattle.store_api.specs.Past.{Now}
 use Rattle.buffer_pool.specs.Frames.{PoolView, bytes_of, at_slot, changed, placed}
-use Rattle.law_checkpoints.specs.Checkpoints.{begun}
+use Rattle.page_checkpoint.specs.Checkpoints.{begun}
 use Rattle.page_checkpoint.specs.Header.{IsNextHeader}
 use Rattle.page_checkpoint.specs.Beginning.{HasHeader, HasBegun}
 use Rattle.page_checkpoint.proofs.Begun.{crash, done}

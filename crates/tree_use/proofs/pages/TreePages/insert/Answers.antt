@@ -1,6 +1,6 @@
 use Rattle.std.proofs.Common.{ℕ, List, sym, ap, ◌∙◌, subst}
-use Rattle.btree_insert.specs.declared.inserts.Outcome.{Outcome}
-use Rattle.btree_insert.specs.Adding.{DoesAdd}
+use Rattle.btree_grow.specs.declared.inserts.Outcome.{Outcome}
+use Rattle.btree_grow.specs.Adding.{DoesAdd}
 use Rattle.tree_use.specs.Stored.{Stored, stored_of}
 use Rattle.tree_use.proofs.Growing.{eight_levels}
 use Rattle.tree_use.proofs.pages.TreePages.insert.Goals as goal

@@ -1,2 +1,0 @@
-pub mod AddedPair
-pub mod Inserting

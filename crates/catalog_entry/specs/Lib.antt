@@ -1,3 +1,0 @@
-pub mod Entry
-pub mod Reading
-pub mod Refused

@@ -1,0 +1,17 @@
+use Rattle.std.proofs.Common.{arith}
+use Rattle.list_world.specs.Parts.{world_of}
+use Rattle.engine.proofs.Taking.{key_short, value_short, new_record}
+use Rattle.engine.proofs.keys.put_record.Goals as goal
+
+pub insert-requires-clause-key : goal.insert-requires-clause-key
+insert-requires-clause-key c = key_short c.args.schema.now c.args.row.now c.in-Ok.key c.requires.storable c.in-Ok.ensures.key
+
+pub insert-requires-clause-value : goal.insert-requires-clause-value
+insert-requires-clause-value c =
+    value_short c.args.schema.now c.args.row.now c.in-Ok.key c.in-Ok.value c.requires.storable c.in-Ok.ensures.key c.in-Ok.ensures.value
+
+pub returns-in-Done-clause-ok : goal.returns-in-Done-clause-ok
+returns-in-Done-clause-ok c =
+    let index = c.index_number.ensures in
+    new_record c.args.table c.args.schema.now c.args.row.now (world_of c.args.world.now) (world_of c.insert.new.self) c.in-Ok.key c.in-Ok.value
+    c.index_number.result c.in-Ok.ensures.key c.in-Ok.ensures.value (omega (arith, index)) c.in-Done.ensures

@@ -1,4 +1,0 @@
-pub mod Passing
-pub mod Apart
-pub mod Searching
-pub mod Inserting

@@ -1,5 +1,0 @@
-use Rattle.law_beside.proofs.Inserting as inserting
-use Rattle.law_beside.proofs.insert_beside.Goals as goal
-
-pub returns : goal.returns
-returns c db changes name columns tuples n rows counts apart = inserting.insert_beside db changes name columns tuples n rows counts apart

@@ -1,5 +1,0 @@
-use Rattle.law_beside.proofs.Searching.{search_beside}
-use Rattle.law_beside.proofs.outcome_beside.Goals as goal
-
-pub returns : goal.returns
-returns c statement db changes rows search beside = search_beside db changes rows statement search beside

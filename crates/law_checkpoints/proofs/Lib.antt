@@ -1,2 +1,0 @@
-mod NewRun
-mod Staying

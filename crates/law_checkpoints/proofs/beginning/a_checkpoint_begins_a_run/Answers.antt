@@ -1,8 +1,0 @@
-use Rattle.law_checkpoints.proofs.NewRun.{begins, begun_other}
-use Rattle.law_checkpoints.proofs.beginning.a_checkpoint_begins_a_run.Goals as goal
-
-pub returns-clause-run : goal.returns-clause-run
-returns-clause-run c = λ capacity run first groups base batch before is check. begins capacity run first groups base batch before is check
-
-pub returns-clause-same : goal.returns-clause-same
-returns-clause-same c = λ groups base header page unlike. begun_other header base groups page unlike

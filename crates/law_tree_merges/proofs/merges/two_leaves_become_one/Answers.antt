@@ -1,5 +1,0 @@
-use Rattle.law_tree_merges.proofs.Merging.{loses}
-use Rattle.law_tree_merges.proofs.merges.two_leaves_become_one.Goals as goal
-
-pub returns : goal.returns
-returns c = λ tree old new u j placed above inside merges. loses tree old u placed above j inside new merges

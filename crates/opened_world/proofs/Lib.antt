@@ -1,9 +1,0 @@
-mod Laying
-mod Finishing
-mod Sums
-mod Taking
-mod Below
-mod Each
-mod Fitting
-mod Grown
-mod Last

@@ -1,5 +1,0 @@
-use Rattle.opened_world.proofs.Taking.{row_for}
-use Rattle.opened_world.proofs.keys.record_of.Goals as goal
-
-pub returns-clause-key : goal.returns-clause-key
-returns-clause-key c = row_for c.args.schema.now c.args.row.now _ c.requires.fits c.requires.numbers c.in_ok-key.ensures

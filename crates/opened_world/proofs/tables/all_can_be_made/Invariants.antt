@@ -1,6 +1,0 @@
-use Rattle.std.proofs.Common.{All, take}
-use Rattle.opened_world.specs.Fit.{CanBeMade}
-use Rattle.opened_world.proofs.tables.all_can_be_made.Given as goal
-
-abbrev pub invariant-loop-schema : goal.invariant-loop-schema
-invariant-loop-schema l = All CanBeMade (take l.schema-index l.schemas)
