@@ -13,12 +13,12 @@ use Rattle.lock_rules.proofs.Booleans.{first, split}
 use Rattle.lock_rules.proofs.Beside.{spot_same}
 use Rattle.lock_table.specs.Records.{after_removal}
 use Rattle.lock_table.specs.View.{Table}
-use Rattle.law_lock_guards.specs.Guards.{Guards, is_lock_at, is_gap_lock_at, is_record_lock_at}
-use Rattle.law_lock_guards.proofs.Guarding.{guards_kept, removed_guards}
-use Rattle.law_lock_guards.proofs.Locks.{any_removed, moved_keeps, lock_at}
-use Rattle.law_locked_insertions.specs.Index.{keys_of, spot_at, next_spot, InsertsIn, StandsIn}
-use Rattle.law_locked_insertions.proofs.AtOnce as at_once
-use Rattle.law_locked_insertions.proofs.Spots as spots
+use Rattle.law_locks.specs.Guards.{Guards, is_lock_at, is_gap_lock_at, is_record_lock_at}
+use Rattle.law_locks.proofs.Guarding.{guards_kept, removed_guards}
+use Rattle.law_locks.proofs.Locks.{any_removed, moved_keeps, lock_at}
+use Rattle.law_locks.specs.Index.{keys_of, spot_at, next_spot, InsertsIn, StandsIn}
+use Rattle.law_locks.proofs.AtOnce as at_once
+use Rattle.law_locks.proofs.InsertionSpots as spots
 
 -- each guard, in each index
 abbrev pub GuardsStay : (ℕ → List Pair) → (ℕ → List Pair) → List Lock → List Lock → Type 0

@@ -14,12 +14,12 @@ use Rattle.lock_rules.proofs.Beside.{spot_same}
 use Rattle.lock_table.specs.Queue.{AreApart, serve, without, without_lock}
 use Rattle.lock_table.specs.Records.{after_removal, after_end}
 use Rattle.lock_table.specs.View.{Table, IsAnswered}
-use Rattle.law_lock_guards.specs.Guards.{has_alone, is_record_lock_at, is_lock_at}
-use Rattle.law_lock_guards.proofs.Guarding.{answered_locks, ended_locks, given_back_locks, served_locks}
-use Rattle.law_lock_guards.proofs.Locks.{any_removed, moved_keeps, lock_at}
-use Rattle.law_lock_guards.proofs.Clashes.{nobody_beside}
-use Rattle.law_locked_insertions.specs.AtOnce.{InsertsAtOnce}
-use Rattle.law_locked_insertions.proofs.AtOnce as at_once
+use Rattle.law_locks.specs.Guards.{has_alone, is_record_lock_at, is_lock_at}
+use Rattle.law_locks.proofs.Guarding.{answered_locks, ended_locks, given_back_locks, served_locks}
+use Rattle.law_locks.proofs.Locks.{any_removed, moved_keeps, lock_at}
+use Rattle.law_locks.proofs.Clashes.{nobody_beside}
+use Rattle.law_locks.specs.AtOnce.{InsertsAtOnce}
+use Rattle.law_locks.proofs.AtOnce as at_once
 use Rattle.law_other_places.specs.Owning.{KeepsAlone}
 use Rattle.law_other_places.proofs.Owning.{alone_has}
 

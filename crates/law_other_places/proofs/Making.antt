@@ -14,7 +14,7 @@ use Rattle.row_versions.specs.Chains.{Chains, versions_at, is_same_place, Pushes
 use Rattle.law_stored_rows.specs.Tables.{Said}
 use Rattle.law_stored_rows.proofs.Values.{same_place, place_itself}
 use Rattle.law_stored_rows.specs.Edits.{clustered_index}
-use Rattle.law_lock_guards.specs.Guards.{has_alone}
+use Rattle.law_locks.specs.Guards.{has_alone}
 use Rattle.law_past_agreement.specs.{Rows.place_in, Rows.is_place, Rows.is_at, Order.created}
 use Rattle.world.specs.State.{WorldState}
 use Rattle.world.specs.{Told.IsTold, Undoing.read_into}

@@ -25,11 +25,11 @@ use Rattle.lock_rules.specs.Coverage.{stands_in}
 use Rattle.lock_rules.proofs.Booleans.{first, or_cases}
 use Rattle.lock_table.specs.Queue.{AreApart}
 use Rattle.lock_table.specs.View.{Table, IsGranted}
-use Rattle.law_lock_guards.specs.Guards.{has_alone, has_record, is_record_lock_at, is_lock_at}
-use Rattle.law_lock_guards.specs.Stand.{LocksStand}
-use Rattle.law_lock_guards.proofs.{Locks.any_other, Locks.lock_at, Clashes.nobody_beside, Granting.granted_alone}
-use Rattle.law_locked_insertions.specs.Index.{keys_of}
-use Rattle.law_locked_insertions.proofs.Spots.{stands_is}
+use Rattle.law_locks.specs.Guards.{has_alone, has_record, is_record_lock_at, is_lock_at}
+use Rattle.law_locks.specs.Stand.{LocksStand}
+use Rattle.law_locks.proofs.{Locks.any_other, Locks.lock_at, Clashes.nobody_beside, Granting.granted_alone}
+use Rattle.law_locks.specs.Index.{keys_of}
+use Rattle.law_locks.proofs.InsertionSpots.{stands_is}
 use Rattle.desks.specs.{declared.desk.Desk.Desk, declared.desk.Doing.Doing, Desks.desk_at, Desks.doing_in, Desks.doing_at}
 use Rattle.desks.specs.declared.desk.Doing.TheVariants.{Changing, Lagging, Undoing}
 use Rattle.desks.specs.Holding.{newest_place}

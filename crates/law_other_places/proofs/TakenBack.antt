@@ -17,7 +17,7 @@ use Rattle.row_versions.specs.Chains.{Chains, versions_at, older, with_versions,
 use Rattle.law_past_agreement.specs.{Order.IsOfRow, Rows.place_in, Rows.is_at}
 use Rattle.law_past_agreement.proofs.Rows.{own_undone}
 use Rattle.law_stored_rows.specs.{Edits.clustered_index, Tables.Said}
-use Rattle.law_lock_guards.specs.Guards.{has_alone}
+use Rattle.law_locks.specs.Guards.{has_alone}
 use Rattle.lock_rules.proofs.Booleans.{or_right}
 use Rattle.world.specs.State.{WorldState, Session, Work, Logged, HasWork}
 use Rattle.world.specs.{Told.IsTold, Told.LeavesRows, Undoing.read_into, Undoing.IsCutBack, Sessions.undone_added}

@@ -7,7 +7,7 @@ use Rattle.row_versions.specs.declared.place.Place.{Place}
 use Rattle.law_stored_rows.specs.Edits.{clustered_index}
 use Rattle.law_past_agreement.specs.Rows.{is_at}
 use Rattle.world.specs.{State.WorldState, State.Session, State.Work, State.HasWork}
-use Rattle.law_lock_guards.specs.Guards.{has_alone}
+use Rattle.law_locks.specs.Guards.{has_alone}
 use Rattle.desks.specs.{declared.desk.Desk.Desk, Desks.doing_at}
 use Rattle.law_other_places.specs.{Beside.IsKeyOf, Kept.works_in}
 

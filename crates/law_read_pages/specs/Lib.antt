@@ -1,3 +1,5 @@
 pub mod Rows
 pub mod Pages
 pub mod Undo
+pub mod Stores
+pub mod Durable

@@ -5,3 +5,8 @@ pub mod Causes
 pub mod Shown
 pub mod Generating
 pub mod Reports
+pub mod Replay
+pub mod Tables
+pub mod Pending
+pub mod Entries
+pub mod Report

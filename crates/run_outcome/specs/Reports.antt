@@ -5,7 +5,7 @@ use Rattle.inno_db.specs.Keyed.{IsKeyed}
 use Rattle.inno_model.specs.Recorded.{Recorded}
 use Rattle.inno_model.specs.Past.{opening}
 use Rattle.inno_model.specs.Text.{text}
-use Rattle.replay.specs.Report.{report_text}
+use Rattle.run_outcome.specs.Report.{report_text}
 use Rattle.run_outcome.specs.declared.words.Asked.{Asked}
 use Rattle.run_outcome.specs.declared.outcome.Fault.{Fault}
 use Rattle.run_outcome.specs.declared.reports.Report.{Report}

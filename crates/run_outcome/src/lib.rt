@@ -3,17 +3,26 @@
 #![tactic(auto)]
 
 mod cause;
+mod changes;
+mod commit_count;
+mod commits;
+mod copies;
 mod generated;
 mod input;
+mod line;
 mod outcome;
 mod output;
+mod pending;
 mod reports;
 mod shown;
+mod total;
 mod words;
 
 pub use cause::cause_line;
+pub use commits::{committed_db, replayed_db};
 pub use generated::{generate_input, print_generated};
 pub use input::{ReadBad, read_all};
+pub use line::report;
 pub use outcome::{Fault, Outcome, fault_of, finish, has_stopped, read_input, without_engine};
 pub use output::write_all;
 pub use reports::Report;

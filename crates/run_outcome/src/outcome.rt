@@ -6,7 +6,7 @@ ghost use Rattle.std.specs.List.{list_any};
 ghost use Rattle.store_api.specs.Causes.{Rose};
 ghost use Rattle.sql_history.specs.Counts as counts;
 ghost use Rattle.script.specs.Script.{Spells, IsPlayable};
-ghost use Rattle.replay.specs.Replay.{OpensOnce};
+ghost use Rattle.run_outcome.specs.Replay.{OpensOnce};
 ghost use Rattle.run_outcome.specs.Reports.{IsReported, IsReportedWhole};
 ghost use Rattle.run_outcome.specs.Faults.{allowed, status_of, fault_of, told, IsInputFault, IsOutputFault, IsPlayedFault, IsPrinted, Refuses, answers_no_memory, stops};
 

@@ -6,14 +6,14 @@ ghost use Rattle.store_api.specs.Causes.{Rose};
 ghost use Rattle.inno_db.specs.Keyed.{IsKeyed};
 ghost use Rattle.inno_model.specs.Past.{opening};
 ghost use Rattle.inno_model.specs.Text.{text};
-ghost use Rattle.replay.specs.Replay.{OpensOnce};
+ghost use Rattle.run_outcome.specs.Replay.{OpensOnce};
 ghost use Rattle.run_outcome.specs.Faults.{IsOutputFault, IsPrinted};
 ghost use Rattle.run_outcome.specs.Reports.{IsReported, totals_text};
 
 use crate::outcome::{Fault, print_bytes};
 use crate::words::Asked;
 use inno_model::History;
-use replay::report;
+use crate::report;
 use script::transcript;
 use std::alloc::Global;
 use store_api::{NoMemory, Sink};

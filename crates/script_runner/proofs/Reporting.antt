@@ -7,7 +7,7 @@ use Rattle.inno_model.specs.Recorded.{Recorded}
 use Rattle.inno_model.specs.Text.{text}
 use Rattle.sql_grammar.specs.Grammar.{Spells}
 use Rattle.sql_history.specs.Legal.{IsLegal}
-use Rattle.replay.specs.Replay.{OpensOnce}
+use Rattle.run_outcome.specs.Replay.{OpensOnce}
 use Rattle.run_outcome.specs.Faults.{fault_of}
 use Rattle.run_outcome.specs.declared.reports.Report.{Report}
 use Rattle.run_outcome.specs.declared.reports.Report.TheVariants.{Transcript, Totals}

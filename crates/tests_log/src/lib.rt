@@ -2,13 +2,24 @@
 //! There is nothing here but tests.
 #![tactic(auto)]
 
-#[cfg(test)]
+mod disks_in_memory;
+mod failing_files;
+mod files;
+mod files_that_fail;
 mod groups;
-#[cfg(test)]
 mod halves;
-#[cfg(test)]
 mod mounts;
-#[cfg(test)]
 mod packing;
-#[cfg(test)]
 mod placed_pages;
+
+
+
+#[cfg(test)]
+#[cfg(test)]
+#[cfg(test)]
+#[cfg(test)]
+#[cfg(test)]
+#[cfg(test)]
+#[cfg(test)]
+#[cfg(test)]
+#[cfg(test)]

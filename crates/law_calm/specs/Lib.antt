@@ -1,4 +1,0 @@
-pub mod Pieces
-pub mod Standing
-pub mod Work
-pub mod Calm

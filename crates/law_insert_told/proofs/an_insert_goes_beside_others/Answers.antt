@@ -1,6 +1,0 @@
-use Rattle.law_insert_told.proofs.Going.{stays}
-use Rattle.law_insert_told.proofs.an_insert_goes_beside_others.Goals as goal
-
-pub returns : goal.returns
-returns c = λ statement name names n schema s made tuples old new owns before beside r.
-    stays name names n schema s statement made tuples old new owns before beside r

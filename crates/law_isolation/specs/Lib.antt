@@ -1,0 +1,12 @@
+pub mod Pieces
+pub mod Standing
+pub mod Work
+pub mod Calm
+pub mod Turns
+pub mod SerialExample
+pub mod Phantoms
+pub mod Example
+pub mod Searching
+pub mod Kept
+pub mod Stood
+pub mod Stores

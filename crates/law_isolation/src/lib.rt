@@ -1,0 +1,46 @@
+//! Laws of calm histories: each statement sees the latest committed rows and its session's own, and no commit of another
+//! meets what an open transaction has searched or changed. They answer as their transactions do alone.
+//! Each function has an empty body: its contract is the law.
+#![tactic(auto)]
+
+mod loose_readings;
+mod phantoms;
+mod serial;
+mod standing;
+
+pub use loose_readings::{held_rows_are_a_loose_reading};
+pub use phantoms::{open_transactions_stay_apart, phantom_free_histories_are_calm, phantom_free_histories_answer_as_alone, sessions_may_interleave, locked_searches_meet_no_phantoms, serial_histories_are_free_of_phantoms, a_setup_comes_first, a_setup_must_have_ended};
+pub use serial::{serial_histories_are_calm, a_serial_history_answers_as_alone, a_session_alone_answers_as_alone, sessions_may_take_turns};
+pub use standing::{what_stands_stood_before};
+
+ghost use Rattle.std.specs.Prelude.{ℕ, List};
+ghost use Rattle.inno_db.specs.declared.change.Change.{Change};
+ghost use Rattle.inno_db.specs.Database.{Database};
+ghost use Rattle.inno_model.specs.declared.event.Event.{Event};
+ghost use Rattle.inno_model.specs.Past.{changed};
+ghost use Rattle.sql_grammar.specs.Grammar.{Spells};
+ghost use Rattle.sql_history.specs.declared.settings.Save.{Save};
+ghost use Rattle.sql_history.specs.Legal.{IsLegal};
+ghost use Rattle.sql_history.specs.Serial.{Piece, AnswersAsAlone};
+ghost use Rattle.law_db.specs.Beside.{AreApart, AreOfRows};
+ghost use Rattle.law_histories.specs.Work.{Tracks};
+ghost use Rattle.law_isolation.specs.Pieces.{AreAnswered, AreBeside};
+ghost use Rattle.law_isolation.specs.Calm.{IsCalm, AreCalm};
+ghost use Rattle.law_isolation.specs.Work.{HasWork};
+
+/// Work that another's changes are beside goes with its own changes over the rows with these, too.
+pub fn work_goes_on_beside_a_commit()
+    ensures { (db : Database) (others : List Change) (pieces : List Piece) (saves : List Save) (own : List Change) → AreOfRows others → AreOfRows own → AreApart db.schemas own others
+        → AreAnswered pieces → AreBeside pieces db others → Tracks db pieces saves own → Tracks (changed db others) pieces saves own }
+{}
+
+/// In a legal history what stands of a calm session's work goes with its changes, at each moment: amid an item, amid a
+/// rollback, and behind others' commits.
+pub fn standing_work_is_carried()
+    ensures { (past : List Event) → IsLegal Spells past → AreCalm Spells past → (s : ℕ) → IsCalm Spells s past → HasWork Spells s past }
+{}
+
+/// A legal and calm history answers as its committed transactions do alone, in the order of their commits.
+pub fn a_calm_history_answers_as_alone()
+    ensures { (past : List Event) → IsLegal Spells past → AreCalm Spells past → AnswersAsAlone Spells past }
+{}

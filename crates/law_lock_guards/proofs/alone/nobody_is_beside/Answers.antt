@@ -1,5 +1,0 @@
-use Rattle.law_lock_guards.proofs.Clashes as lemmas
-use Rattle.law_lock_guards.proofs.alone.nobody_is_beside.Goals as goal
-
-pub returns : goal.returns
-returns c txn other index key granted differ apart alone has = lemmas.nobody_beside txn other index key differ granted apart alone has

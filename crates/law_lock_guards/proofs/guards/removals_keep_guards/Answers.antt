@@ -1,6 +1,0 @@
-use Rattle.law_lock_guards.proofs.Guarding as lemmas
-use Rattle.law_lock_guards.proofs.guards.removals_keep_guards.Goals as goal
-
-pub returns : goal.returns
-returns c txn by records gone_key key gone next granted waiting removes fit was =
-    lemmas.removed_guards txn by records gone_key key gone next granted waiting removes fit was

@@ -1,6 +1,0 @@
-use Rattle.law_lock_guards.proofs.Pinning as lemmas
-use Rattle.law_lock_guards.proofs.pins.own_removals_keep_what_is_guarded.Goals as goal
-
-pub returns : goal.returns
-returns c txn records gone_key key gone next granted waiting made undo log removes fit creation within was =
-    lemmas.taken_back_guarded txn txn records gone_key key gone next granted waiting removes fit made undo log creation within was

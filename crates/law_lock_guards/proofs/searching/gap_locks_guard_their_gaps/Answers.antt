@@ -1,5 +1,0 @@
-use Rattle.law_lock_guards.proofs.Granting as lemmas
-use Rattle.law_lock_guards.proofs.searching.gap_locks_guard_their_gaps.Goals as goal
-
-pub returns : goal.returns
-returns c txn index records locks spot key stands has gap = lemmas.gap_guards txn index records locks spot key stands has gap

@@ -1,6 +1,0 @@
-use Rattle.law_lock_guards.proofs.Places as lemmas
-use Rattle.law_lock_guards.proofs.standing.new_records_are_free.Goals as goal
-
-pub returns : goal.returns
-returns c txn records new_key new next granted waiting asked insertion all own at =
-    lemmas.new_is_free records new_key new next insertion txn granted waiting asked all own at

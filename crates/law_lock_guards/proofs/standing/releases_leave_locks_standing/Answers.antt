@@ -1,5 +1,0 @@
-use Rattle.law_lock_guards.proofs.Places as lemmas
-use Rattle.law_lock_guards.proofs.standing.releases_leave_locks_standing.Goals as goal
-
-pub returns : goal.returns
-returns c index records gone granted waiting all = lemmas.released_stand index records gone granted waiting all

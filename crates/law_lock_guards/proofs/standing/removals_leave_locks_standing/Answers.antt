@@ -1,5 +1,0 @@
-use Rattle.law_lock_guards.proofs.Places as lemmas
-use Rattle.law_lock_guards.proofs.standing.removals_leave_locks_standing.Goals as goal
-
-pub returns : goal.returns
-returns c by records gone_key gone next granted waiting removes all = lemmas.removed_stand by records gone_key gone next removes granted waiting all

@@ -1,5 +1,0 @@
-use Rattle.law_lock_guards.proofs.Places as lemmas
-use Rattle.law_lock_guards.proofs.standing.requests_leave_locks_standing.Goals as goal
-
-pub returns : goal.returns
-returns c index records old new lock answer is there all = lemmas.answered_stand index records old new lock answer is there all

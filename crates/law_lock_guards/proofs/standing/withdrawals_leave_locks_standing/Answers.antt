@@ -1,5 +1,0 @@
-use Rattle.law_lock_guards.proofs.Places as lemmas
-use Rattle.law_lock_guards.proofs.standing.withdrawals_leave_locks_standing.Goals as goal
-
-pub returns : goal.returns
-returns c index txn records granted waiting all = lemmas.withdrawn_stand index records txn granted waiting all

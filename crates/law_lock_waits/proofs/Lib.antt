@@ -1,7 +1,0 @@
-mod Members
-mod Parts
-mod Edges
-mod Calls
-mod Removal
-mod Rounds
-mod Starting

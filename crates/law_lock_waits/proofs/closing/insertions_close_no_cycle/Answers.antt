@@ -1,6 +1,0 @@
-use Rattle.law_lock_waits.proofs.Calls.{stood_before, inserted_less}
-use Rattle.law_lock_waits.proofs.closing.insertions_close_no_cycle.Goals as goal
-
-pub returns : goal.returns
-returns c txn new next granted waiting cycle single dead stands = stood_before granted waiting _ waiting single
-    (inserted_less txn new next granted waiting dead) cycle stands

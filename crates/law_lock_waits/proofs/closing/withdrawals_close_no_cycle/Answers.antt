@@ -1,7 +1,0 @@
-use Rattle.std.specs.Prelude.{◌==◌, not}
-use Rattle.law_lock_waits.proofs.Calls.{stood_before, withdrawn_less}
-use Rattle.law_lock_waits.proofs.closing.withdrawals_close_no_cycle.Goals as goal
-
-pub returns : goal.returns
-returns c txn granted waiting cycle single stands = stood_before granted waiting _ _ single
-    (withdrawn_less (λ lock. not (lock.txn == txn)) granted waiting single) cycle stands

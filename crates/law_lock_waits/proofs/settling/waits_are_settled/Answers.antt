@@ -1,7 +1,0 @@
-use Rattle.law_lock_waits.proofs.Rounds.{settled_free}
-use Rattle.law_lock_waits.proofs.Starting.{all_meet_asker}
-use Rattle.law_lock_waits.proofs.settling.waits_are_settled.Goals as goal
-
-pub returns : goal.returns
-returns c old new lock edges sizes asked rounds sound free is sound_now settled =
-    settled_free _ sizes asked _ sound_now (all_meet_asker old new lock edges sound free is) rounds settled

@@ -1,0 +1,18 @@
+pub mod Spots
+pub mod Locks
+pub mod Guarding
+pub mod Places
+pub mod Clashes
+pub mod Pinning
+pub mod Granting
+pub mod Outside
+pub mod GivenBack
+mod Members
+mod Parts
+mod Edges
+mod Calls
+mod Removal
+mod Rounds
+mod Starting
+pub mod AtOnce
+pub mod InsertionSpots

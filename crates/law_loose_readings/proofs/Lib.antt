@@ -1,3 +1,0 @@
-pub mod Retained
-pub mod Taken
-pub mod Seen

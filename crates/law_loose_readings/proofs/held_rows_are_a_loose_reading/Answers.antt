@@ -1,9 +1,0 @@
-use Rattle.law_loose_readings.proofs.Retained.{rows_found}
-use Rattle.law_loose_readings.proofs.Seen.{held_loose}
-use Rattle.law_loose_readings.proofs.held_rows_are_a_loose_reading.Goals as goal
-
-pub returns-clause-reading : goal.returns-clause-reading
-returns-clause-reading c = held_loose
-
-pub returns-clause-rows : goal.returns-clause-rows
-returns-clause-rows c = λ table test found db. rows_found table test found db

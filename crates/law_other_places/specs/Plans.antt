@@ -1,0 +1,15 @@
+-- What a session keeps of a search that is over.
+use Rattle.std.specs.Prelude.{◌≡◌, ◌≤◌, ℕ, false, List, length, Some, slice_get}
+use Rattle.inno_types.specs.{declared.lock.Lock.Lock, declared.value.Schema.Schema}
+use Rattle.store_api.specs.declared.answers.Undo.{Undo}
+use Rattle.sql_plan.specs.declared.choice.Plan.{Plan}
+use Rattle.world.specs.State.{WorldState}
+use Rattle.law_other_places.specs.Locking.{KeepsTo}
+
+-- The transaction has searched the table by the plan when its log had so many records: each key of the range is guarded, and of each row that
+-- the session sees there the record is locked.
+pub record KeepsPlan (s txn table : ℕ) (plan : Plan) (made : ℕ) (log : List Undo) (state : WorldState) (granted : List Lock) : Type 0 where
+  pub schema : Schema
+  pub there : slice_get state.schemas table ≡ Some schema
+  pub which : plan.which ≤ length schema.keys
+  pub keeps : KeepsTo schema table plan.which plan.range s txn made log (λ key. false) state granted

@@ -1,6 +1,0 @@
-use Rattle.sql_grammar.specs.Grammar.{Spells}
-use Rattle.law_phantoms.proofs.Setup.{sets_up_first}
-use Rattle.law_phantoms.proofs.a_setup_comes_first.Goals as goal
-
-pub returns : goal.returns
-returns c = sets_up_first Spells

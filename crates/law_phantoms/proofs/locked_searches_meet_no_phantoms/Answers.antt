@@ -1,6 +1,0 @@
-use Rattle.sql_grammar.specs.Grammar.{Spells}
-use Rattle.law_phantoms.proofs.Phantoms.{locked_free}
-use Rattle.law_phantoms.proofs.locked_searches_meet_no_phantoms.Goals as goal
-
-pub returns : goal.returns
-returns c = locked_free Spells

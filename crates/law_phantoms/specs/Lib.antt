@@ -1,2 +1,0 @@
-pub mod Phantoms
-pub mod Example

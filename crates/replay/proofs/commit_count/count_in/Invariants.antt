@@ -1,7 +1,0 @@
-use Rattle.std.proofs.Common.{◌≡◌, ◌≤◌, take}
-use Rattle.std.specs.List.{count_by}
-use Rattle.replay.specs.Report.{is_commit}
-use Rattle.replay.proofs.commit_count.count_in.Given as goal
-
-abbrev pub invariant-loop-event : goal.invariant-loop-event
-invariant-loop-event l = (l.count ≡ count_by is_commit (take l.event-index l.events)) × (l.count ≤ l.event-index)

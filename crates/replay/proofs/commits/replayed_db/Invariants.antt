@@ -1,8 +1,0 @@
-use Rattle.std.proofs.Common.{◌≡◌, take, reverse}
-use Rattle.replay.proofs.Going.{IsReplayed}
-use Rattle.replay.proofs.commits.replayed_db.Given as goal
-
--- the entries so far are replayed
-abbrev pub invariant-loop-event : goal.invariant-loop-event
-invariant-loop-event l =
-    IsReplayed (reverse (take l.event-index l.event-items)) l.db l.pending.items × (reverse l.event-items ≡ l.history.past)

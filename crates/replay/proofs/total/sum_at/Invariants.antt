@@ -1,6 +1,0 @@
-use Rattle.std.proofs.Common.{◌≡◌, take}
-use Rattle.replay.specs.Report.{sum_at}
-use Rattle.replay.proofs.total.sum_at.Given as goal
-
-abbrev pub invariant-loop-row : goal.invariant-loop-row
-invariant-loop-row l = (l.sum ≡ sum_at l.place (take l.row-index l.row-items)) × (l.row-items ≡ l.rows)

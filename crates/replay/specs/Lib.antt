@@ -1,5 +1,0 @@
-pub mod Replay
-pub mod Tables
-pub mod Pending
-pub mod Entries
-pub mod Report
