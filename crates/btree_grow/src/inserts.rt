@@ -16,9 +16,9 @@ ghost use Rattle.btree_split.specs.Ways.{IsLowestRoom, needed};
 ghost use Rattle.btree_grow.specs.Going.{IsGrowStop};
 ghost use Rattle.btree_grow.specs.Adding.{DoesAdd};
 
+use crate::{Room, make_room};
 use btree::{Tree, leaf_of};
 use btree_change::{Insertion, insert_in};
-use crate::{Room, make_room};
 use btree_split::{LowestRoom, lowest_room};
 use mtr::Mtr;
 use store_api::{NoMemory, SpaceBad, Visit};

@@ -12,10 +12,10 @@ ghost use Rattle.btree_grow.specs.Going.{GoesOn, IsHalt};
 ghost use Rattle.btree_grow.specs.Grown.{HasGrown};
 ghost use Rattle.btree_grow.specs.Raising.{IsRaiseReady};
 
+use crate::raised_root;
 use crate::splits::put_image;
 use crate::taking::{copy_of, take_blank};
 use btree::Tree;
-use crate::raised_root;
 use mtr::Mtr;
 use store_api::{NoMemory, SpaceBad};
 

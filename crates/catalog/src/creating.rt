@@ -12,9 +12,9 @@ ghost use Rattle.catalog.specs.Makeable.{is_makeable};
 ghost use Rattle.catalog.specs.Creating.{HasRoom, IsFilled, Nears, PutsEntry, Creates, Attempts, asked_pages, IsPutReason, IsCreateReason};
 
 use crate::pages::FIRST;
+use crate::put_table;
 use crate::roots::make_roots;
 use crate::tables::IN_USE;
-use crate::put_table;
 use inno_types::Schema;
 use mtr::Mtr;
 use std::alloc::Global;

@@ -16,12 +16,12 @@ ghost use Rattle.engine.specs.Laid.{IsTooLarge};
 ghost use Rattle.session_engine.specs.Calls.{AreFirst};
 ghost use Rattle.engine.specs.Opened.{IsOpened};
 
+use crate::{LayBad, OpenBad, Opening, lay};
 use commit_log::CommitLog;
 use durable_engine::{DurableEngine, Root};
 use file_zero::Mounted;
 use inno_db::Db;
 use list_world::ListWorld;
-use crate::{LayBad, OpenBad, Opening, lay};
 use session_engine::SessionEngine;
 use sql_lists::SqlLists;
 use std::alloc::Global;

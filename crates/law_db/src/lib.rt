@@ -4,8 +4,6 @@
 
 mod beside;
 
-pub use beside::{changes_apart_commute, outcome_beside, insert_beside};
-
 ghost use Rattle.std.specs.Prelude.{◌≡◌, ℕ, List, ◌++◌, Some, Option, slice_get};
 ghost use Rattle.inno_types.specs.declared.value.Schema.{Schema};
 ghost use Rattle.inno_types.specs.declared.value.Value.{Value};
@@ -19,6 +17,8 @@ ghost use Rattle.inno_db.proofs.Applying.{AreElsewhere};
 ghost use Rattle.inno_db.specs.Keyed.{IsKeyed};
 ghost use Rattle.law_db.specs.Fitting.{AreRowsOf, AllFit};
 ghost use Rattle.law_db.specs.RowChanges.{rows_after, AreOfTables, AreApplicable, AllStand};
+
+pub use beside::{changes_apart_commute, insert_beside, outcome_beside};
 
 /// To make some changes and then others is to make them all.
 pub fn changes_follow_one_another()

@@ -8,11 +8,6 @@ mod phantoms;
 mod serial;
 mod standing;
 
-pub use loose_readings::{held_rows_are_a_loose_reading};
-pub use phantoms::{open_transactions_stay_apart, phantom_free_histories_are_calm, phantom_free_histories_answer_as_alone, sessions_may_interleave, locked_searches_meet_no_phantoms, serial_histories_are_free_of_phantoms, a_setup_comes_first, a_setup_must_have_ended};
-pub use serial::{serial_histories_are_calm, a_serial_history_answers_as_alone, a_session_alone_answers_as_alone, sessions_may_take_turns};
-pub use standing::{what_stands_stood_before};
-
 ghost use Rattle.std.specs.Prelude.{ℕ, List};
 ghost use Rattle.inno_db.specs.declared.change.Change.{Change};
 ghost use Rattle.inno_db.specs.Database.{Database};
@@ -27,6 +22,19 @@ ghost use Rattle.law_histories.specs.Work.{Tracks};
 ghost use Rattle.law_isolation.specs.Pieces.{AreAnswered, AreBeside};
 ghost use Rattle.law_isolation.specs.Calm.{IsCalm, AreCalm};
 ghost use Rattle.law_isolation.specs.Work.{HasWork};
+
+pub use loose_readings::held_rows_are_a_loose_reading;
+pub use phantoms::{
+    a_setup_comes_first, a_setup_must_have_ended, locked_searches_meet_no_phantoms,
+    open_transactions_stay_apart, phantom_free_histories_answer_as_alone,
+    phantom_free_histories_are_calm, serial_histories_are_free_of_phantoms,
+    sessions_may_interleave,
+};
+pub use serial::{
+    a_serial_history_answers_as_alone, a_session_alone_answers_as_alone, serial_histories_are_calm,
+    sessions_may_take_turns,
+};
+pub use standing::what_stands_stood_before;
 
 /// Work that another's changes are beside goes with its own changes over the rows with these, too.
 pub fn work_goes_on_beside_a_commit()

@@ -1,9 +1,6 @@
 //! Laws of an insertion that is made with its locks in one step: the intention is asked for and granted in the step in which
 //! the record comes. Each function has an empty body: its contract is the law.
 
-mod index;
-mod taking;
-
 ghost use Rattle.std.specs.Prelude.{◌≡◌, ◌≢◌, ℕ, true, List, ◌∷◌};
 ghost use Rattle.inno_types.specs.declared.lock.Spot.{Spot};
 ghost use Rattle.inno_types.specs.declared.lock.Lock.{Lock};
@@ -12,12 +9,6 @@ ghost use Rattle.lock_table.specs.View.{Table};
 ghost use Rattle.law_locks.specs.Guards.{Guards, Guarded, has_alone};
 ghost use Rattle.law_locks.specs.Stand.{Inserts};
 ghost use Rattle.law_locks.specs.AtOnce.{InsertsAtOnce};
-
-pub use index::{
-    pairs_that_are_put_keep_guards, pairs_that_are_removed_keep_guards,
-    values_that_are_replaced_keep_guards,
-};
-pub use taking::take_new;
 
 /// It is an insertion as the laws on guards have it, over the locks behind the intention.
 pub fn it_is_an_insertion()

@@ -6,12 +6,14 @@ mod alone;
 mod barring;
 mod closing;
 mod guards;
+mod index;
 mod insertions;
 mod pins;
 mod rooms;
 mod searching;
 mod settling;
 mod standing;
+mod taking;
 
 pub use alone::{nobody_is_beside, nobody_is_granted_what_another_has_alone};
 pub use barring::{rows_before_lie_outside, rows_behind_lie_outside};
@@ -25,7 +27,14 @@ pub use guards::{
     releases_of_others_keep_guards, removals_keep_guards, removals_keep_other_records,
     requests_keep_guards, withdrawals_keep_guards,
 };
-pub use insertions::{it_is_an_insertion, it_keeps_guards, nobody_else_guarded_the_new_key, the_inserter_has_the_record_alone};
+pub use index::{
+    pairs_that_are_put_keep_guards, pairs_that_are_removed_keep_guards,
+    values_that_are_replaced_keep_guards,
+};
+pub use insertions::{
+    it_is_an_insertion, it_keeps_guards, nobody_else_guarded_the_new_key,
+    the_inserter_has_the_record_alone,
+};
 pub use pins::{
     changes_keep_what_is_guarded, insertions_keep_what_is_guarded,
     own_removals_keep_what_is_guarded, removals_of_others_keep_what_is_guarded,
@@ -44,3 +53,4 @@ pub use standing::{
     new_records_with_room_are_granted, releases_leave_locks_standing,
     removals_leave_locks_standing, requests_leave_locks_standing, withdrawals_leave_locks_standing,
 };
+pub use taking::take_new;

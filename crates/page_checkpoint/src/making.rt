@@ -16,11 +16,11 @@ ghost use Rattle.page_checkpoint.specs.Beginning.{IsNextRun, IsCause, IsFault, I
 use crate::checking::{CheckpointBad, NewRun, next_run};
 use crate::header::{PAGE, next_header};
 use crate::placing::place_header;
-use buffer_pool::Pool;
-use doublewrite::Batch;
 use crate::{
     a_checkpoint_begins_a_run, a_crash_leaves_one_of_both_runs, a_placed_checkpoint_stays,
 };
+use buffer_pool::Pool;
+use doublewrite::Batch;
 use redo_log::{Log, stands_for_what_is_left};
 use std::alloc::Global;
 use store_api::{Disk, Failed, NoMemory};

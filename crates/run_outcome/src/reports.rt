@@ -11,9 +11,9 @@ ghost use Rattle.run_outcome.specs.Faults.{IsOutputFault, IsPrinted};
 ghost use Rattle.run_outcome.specs.Reports.{IsReported, totals_text};
 
 use crate::outcome::{Fault, print_bytes};
+use crate::report;
 use crate::words::Asked;
 use inno_model::History;
-use crate::report;
 use script::transcript;
 use std::alloc::Global;
 use store_api::{NoMemory, Sink};

@@ -2,24 +2,21 @@
 //! There is nothing here but tests.
 #![tactic(auto)]
 
+#[cfg(test)]
 mod disks_in_memory;
+#[cfg(test)]
 mod failing_files;
+#[cfg(test)]
 mod files;
+#[cfg(test)]
 mod files_that_fail;
+#[cfg(test)]
 mod groups;
+#[cfg(test)]
 mod halves;
+#[cfg(test)]
 mod mounts;
+#[cfg(test)]
 mod packing;
+#[cfg(test)]
 mod placed_pages;
-
-
-
-#[cfg(test)]
-#[cfg(test)]
-#[cfg(test)]
-#[cfg(test)]
-#[cfg(test)]
-#[cfg(test)]
-#[cfg(test)]
-#[cfg(test)]
-#[cfg(test)]
