@@ -4,6 +4,7 @@
 
 mod answers;
 mod disk;
+mod kinds;
 mod limits;
 mod moves;
 mod outside;
@@ -12,7 +13,11 @@ mod visits;
 
 pub use answers::{Asked, MountBad, Progress, Standing, Undo, Version};
 pub use disk::{Area, Disk};
-pub use limits::{MOST_BYTES_OF_KEY, MOST_BYTES_OF_VALUE, MOST_PAGES, MOST_ROWS, MOST_SESSIONS};
+pub use kinds::{EntryMark, PageRule, UndoKind};
+pub use limits::{
+    LONGEST_WAIT, MOST_BYTES_OF_KEY, MOST_BYTES_OF_VALUE, MOST_ITEMS, MOST_PAGES, MOST_ROWS,
+    MOST_SESSIONS, MOST_SESSIONS_OF_SCRIPT,
+};
 pub use moves::Move;
 pub use outside::{Clock, Failed, Gate, NoMemory, Sink, Source, Worker};
 pub use stepped::Stepped;

@@ -15,3 +15,12 @@ pub const MOST_SESSIONS: usize = 68;
 
 /// The most rows that a history keeps in its changes and its replies.
 pub const MOST_ROWS: u64 = 1_000_000;
+
+/// The most sessions that a script names: an engine's, less the setup part and the seats of workers.
+pub const MOST_SESSIONS_OF_SCRIPT: u32 = 64;
+
+/// The most items of a script.
+pub const MOST_ITEMS: u32 = 100_000;
+
+/// How many seconds an item waits at most, for a signal or for a lock.
+pub const LONGEST_WAIT: u64 = 50;
