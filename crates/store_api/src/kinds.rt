@@ -12,7 +12,7 @@ pub enum UndoKind {
 
 /// The one byte of an entry's value.
 #[derive(Clone, Copy)]
-pub enum EntryMark {
+pub enum Mark {
     /// The newest row has the entry's value.
     Unmarked = 0,
     /// It hasn't: older versions may have it.

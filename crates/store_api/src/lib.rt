@@ -13,7 +13,7 @@ mod visits;
 
 pub use answers::{Asked, MountBad, Progress, Standing, Undo, Version};
 pub use disk::{Area, Disk};
-pub use kinds::{EntryMark, PageRule, UndoKind};
+pub use kinds::{Mark, PageRule, UndoKind};
 pub use limits::{
     LONGEST_WAIT, MOST_BYTES_OF_KEY, MOST_BYTES_OF_VALUE, MOST_ITEMS, MOST_PAGES, MOST_ROWS,
     MOST_SESSIONS, MOST_SESSIONS_OF_SCRIPT,
