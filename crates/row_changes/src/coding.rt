@@ -10,11 +10,8 @@ ghost use Rattle.row_changes.specs.Records.{id_for, undo_of_new, undo_of_former}
 use inno_types::{Bytes, Schema};
 use row_codec::{RowBad, decode, encode};
 use std::alloc::Global;
-use store_api::{Move, NoMemory, Undo, Version};
+use store_api::{Move, NoMemory, PageRule, Undo, UndoKind, Version};
 use world::World;
-
-/// The rule that a record breaks whose bytes are no version of its table.
-const NO_VERSION: u8 = 7;
 
 /// The version whose record this is. Where it is none of the table's, the answer says so of page 0, as of any pair that is
 /// seen without its page.
@@ -33,7 +30,7 @@ pub fn decoded<W: World>(
             Ok(version) => Ok(version),
             Err(RowBad::Shape) => Err(Move::Bad {
                 page: 0,
-                rule: NO_VERSION,
+                rule: PageRule::Coding as u8,
             }),
             Err(RowBad::NoMemory) => Err(Move::NoMemory),
         },
@@ -76,7 +73,7 @@ pub fn undo_of_new(alloc: Global, table: u8, key: &Bytes) -> Result<Undo, NoMemo
     ensures { IfOk result (λ undo. undo ≡ undo_of_new table key.now) }
 {
     Ok(Undo {
-        kind: 1,
+        kind: UndoKind::NewRow as u8,
         table,
         key: key.copied()?,
         value: Bytes::new(alloc),
@@ -88,7 +85,7 @@ pub fn undo_of_former(table: u8, key: &Bytes, bytes: &Bytes) -> Result<Undo, NoM
     ensures { IfOk result (λ undo. undo ≡ undo_of_former table key.now bytes.now) }
 {
     Ok(Undo {
-        kind: 2,
+        kind: UndoKind::FormerRow as u8,
         table,
         key: key.copied()?,
         value: bytes.copied()?,

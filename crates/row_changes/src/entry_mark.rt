@@ -7,11 +7,8 @@ ghost use Rattle.row_changes.specs.Awaited.{AwaitsAt};
 
 use inno_types::Bytes;
 use std::alloc::Global;
-use store_api::Move;
+use store_api::{Mark, Move};
 use world::World;
-
-/// The value of an entry that is its newest row's no longer.
-const MARKED: u8 = 1;
 
 /// An entry that is being marked.
 #[derive(Drop)]
@@ -27,7 +24,7 @@ impl EntryMark {
         ensures marks { MarksEntry actor (W.state world.old) (W.state world.new) self.now result }
         ensures awaits { AwaitsAt actor self.now.index (W.state world.old) (W.state world.new) }
     {
-        let Ok(value) = vec![in alloc; MARKED] else {
+        let Ok(value) = vec![in alloc; Mark::Marked as u8] else {
             return Err(Move::NoMemory);
         };
         match world.replace(

@@ -9,11 +9,8 @@ ghost use Rattle.row_changes.specs.InPlace.{reached_at};
 
 use inno_types::Bytes;
 use std::alloc::Global;
-use store_api::{MOST_BYTES_OF_VALUE, Move, Stepped};
+use store_api::{MOST_BYTES_OF_VALUE, Mark, Move, Stepped};
 use world::World;
-
-/// The value of an entry that is its newest row's.
-const UNMARKED: u8 = 0;
 
 /// What is done next.
 #[derive(Clone, Copy)]
@@ -88,7 +85,7 @@ impl EntryPut {
         ensures puts { PutsEntry actor (W.state world.old) (W.state world.new) self.old (reached_at self.new result) }
         ensures awaits { AwaitsAt actor self.old.index (W.state world.old) (W.state world.new) }
     {
-        let Ok(value) = vec![in alloc; UNMARKED] else {
+        let Ok(value) = vec![in alloc; Mark::Unmarked as u8] else {
             return Stepped::Hindered(Move::NoMemory);
         };
         match world.replace(
@@ -109,7 +106,7 @@ impl EntryPut {
         ensures puts { PutsEntry actor (W.state world.old) (W.state world.new) self.old (reached_at self.new result) }
         ensures awaits { AwaitsAt actor self.old.index (W.state world.old) (W.state world.new) }
     {
-        let Ok(value) = vec![in alloc; UNMARKED] else {
+        let Ok(value) = vec![in alloc; Mark::Unmarked as u8] else {
             return Stepped::Hindered(Move::NoMemory);
         };
         match world.insert(

@@ -9,8 +9,7 @@ ghost use Rattle.run_outcome.specs.Words.{IsNumber, IsCount, AreNumbers, Tells, 
 
 use inno_types::Bytes;
 use std::str;
-
-const MOST_SESSIONS: u64 = 64;
+use store_api::MOST_SESSIONS_OF_SCRIPT;
 
 const MOST_TRANSFERS: u64 = 25_000;
 
@@ -216,7 +215,7 @@ fn numbers_of(number: &[u8], sessions: &[u8], transfers: &[u8]) -> Option<Asked>
         × (asked ≡ record { number = value_of number.now; sessions = value_of sessions.now; transfers = value_of transfers.now })) }
 {
     let number = number_of(number, 20)?;
-    let sessions = count_of(sessions, MOST_SESSIONS)?;
+    let sessions = count_of(sessions, u64::from(MOST_SESSIONS_OF_SCRIPT))?;
     let transfers = count_of(transfers, MOST_TRANSFERS)?;
     Some(Asked {
         number,

@@ -15,10 +15,7 @@ use crate::script::{Directives, Script, ScriptBad, ScriptItem, Tick};
 use crate::{Directive, Part, directive_at, line_at, part_at};
 use inno_types::{Bytes, Item, Listed};
 use std::alloc::{AllocError, Global};
-
-const MOST_SESSIONS: usize = 64;
-
-const MOST_ITEMS: usize = 100_000;
+use store_api::{MOST_ITEMS, MOST_SESSIONS_OF_SCRIPT};
 
 const MOST_STATEMENT_BYTES: usize = 4096;
 
@@ -129,8 +126,8 @@ impl Reading {
         let from = match self.statement {
             Some(span) => span.from,
             None => {
-                if self.script.items.len() >= MOST_ITEMS {
-                    return Err(over(2, MOST_ITEMS));
+                if self.script.items.len() >= MOST_ITEMS as usize {
+                    return Err(over(2, MOST_ITEMS as usize));
                 }
                 self.at
             }
@@ -199,8 +196,8 @@ impl Reading {
             return Err(bad_line(bytes, self.at));
         }
         let number = place_of(self.script.names.as_slice(), name.as_slice());
-        if number > MOST_SESSIONS {
-            return Err(over(1, MOST_SESSIONS));
+        if number > MOST_SESSIONS_OF_SCRIPT as usize {
+            return Err(over(1, MOST_SESSIONS_OF_SCRIPT as usize));
         }
         self.s = number as u32;
         if number == self.script.names.len() {
@@ -219,8 +216,8 @@ impl Reading {
         if !allowed.signals || self.s == 0 {
             return Err(bad_line(bytes, self.at));
         }
-        if self.script.items.len() >= MOST_ITEMS {
-            return Err(over(2, MOST_ITEMS));
+        if self.script.items.len() >= MOST_ITEMS as usize {
+            return Err(over(2, MOST_ITEMS as usize));
         }
         self.script.items.push(ScriptItem { s: self.s, item })?;
         Ok(())

@@ -14,10 +14,7 @@ use rand_core::SeedableRng;
 use rand_xoshiro::SplitMix64;
 use script::{Script, ScriptBad, ScriptItem};
 use std::alloc::{AllocError, Global};
-
-const MOST_SESSIONS: u32 = 64;
-
-const MOST_ITEMS: u32 = 100_000;
+use store_api::{MOST_ITEMS, MOST_SESSIONS_OF_SCRIPT};
 
 const SETUP_ITEMS: u32 = 2;
 
@@ -50,8 +47,8 @@ pub fn generate(
 fn passed(sessions: u32, transfers: u32) -> Option<ScriptBad>
     ensures { result ≡ spelled.passed sessions transfers }
 {
-    if sessions > MOST_SESSIONS && !has_many_items(MOST_SESSIONS, transfers) {
-        return Some(over(1, MOST_SESSIONS));
+    if sessions > MOST_SESSIONS_OF_SCRIPT && !has_many_items(MOST_SESSIONS_OF_SCRIPT, transfers) {
+        return Some(over(1, MOST_SESSIONS_OF_SCRIPT));
     }
     if has_many_items(sessions, transfers) {
         Some(over(2, MOST_ITEMS))

@@ -14,10 +14,7 @@ use crate::sessions::Sessions;
 use inno_types::Bytes;
 use script::{Script, ScriptItem, Tick};
 use std::alloc::Global;
-use store_api::{NoMemory, Progress};
-
-/// So many seconds end each wait.
-const LONGEST_WAIT: u64 = 50;
+use store_api::{LONGEST_WAIT, NoMemory, Progress};
 
 /// Joins the sessions of a script, plays it to its end, and lets all sessions leave.
 pub fn play<E: Sessions>(alloc: Global, engine: &mut E, script: &Script) -> Result<(), NoMemory>

@@ -15,10 +15,7 @@ use inno_model::Event;
 use inno_types::{Bytes, Reply};
 use shared_lists::SharedLists;
 use sql_lists::SqlLists;
-use store_api::Progress;
-
-/// For how many seconds an item waits for its signal.
-const MOST_SECONDS: u64 = 50;
+use store_api::{LONGEST_WAIT, Progress};
 
 /// A step of an item that gives a signal or awaits one, at a moment.
 pub fn signal<L: SharedLists>(
@@ -88,7 +85,7 @@ fn look<L: SharedLists>(s: u32, wait: Wait, now: u64, lists: &mut SqlLists<L>) -
     }
     let since = wait.since.unwrap_or(now);
     let waited = now.saturating_sub(since);
-    if waited >= MOST_SECONDS {
+    if waited >= LONGEST_WAIT {
         lists.end(s, Reply::NotSignalled { waited });
         return (Seat::Idle, Progress::Done(Reply::NotSignalled { waited }));
     }

@@ -21,11 +21,8 @@ use crate::moves::{go_on, go_on_or_end, go_to};
 use crate::record_bytes::{is_marked, pointer_of};
 use crate::work_room::{Stage, WorkRoom};
 use inno_db::index_number;
-use store_api::{Move, Undo, Visit};
+use store_api::{Move, Undo, UndoKind, Visit};
 use world::World;
-
-/// The undo record of a new row.
-const NEW_ROW: u8 = 1;
 
 /// The number of the index of a key.
 fn entries_of(undo: &Undo, which: u8) -> u32
@@ -38,7 +35,7 @@ fn entries_of(undo: &Undo, which: u8) -> u32
 fn had_row(undo: &Undo) -> bool
     ensures { result ≡ row_was_there undo.now }
 {
-    undo.kind != NEW_ROW && undo.value.as_slice().first().copied().unwrap_or(1) == 0
+    undo.kind != UndoKind::NewRow as u8 && undo.value.as_slice().first().copied().unwrap_or(1) == 0
 }
 
 /// What comes once the newest row's entry has been dealt with.
@@ -109,7 +106,7 @@ pub(crate) fn look_at_key<W: World>(world: &W, undo: &Undo, room: &mut WorkRoom,
         → PutsBack chains beside place actor undo.now room.old room.new (W.state world.now) (W.state world.now) result }
 {
     if usize::from(which) >= number_of_keys(world, undo) {
-        if undo.kind == NEW_ROW {
+        if undo.kind == UndoKind::NewRow as u8 {
             return go_to(room, Stage::AwaitRecords);
         }
         return go_to(room, Stage::Record);

@@ -13,11 +13,8 @@ ghost use Rattle.undo_apply.specs.Stages.{IsPuttingBack, PutsBack};
 use crate::moves::{end, go_on_or_end, go_to};
 use crate::work_room::{Stage, WorkRoom};
 use inno_db::index_number;
-use store_api::{Move, Undo};
+use store_api::{Move, Undo, UndoKind};
 use world::World;
-
-/// The undo record of a new row.
-const NEW_ROW: u8 = 1;
 
 /// The number of the table's clustered index.
 fn records_of(undo: &Undo) -> u32
@@ -30,7 +27,7 @@ fn records_of(undo: &Undo) -> u32
 fn is_version_before(undo: &Undo, value: &[u8]) -> bool
     ensures { IsTrue result ↔ (Some value.now ≡ was_before undo.now) }
 {
-    undo.kind != NEW_ROW && value == undo.value.as_slice()
+    undo.kind != UndoKind::NewRow as u8 && value == undo.value.as_slice()
 }
 
 pub(crate) fn find<W: World>(world: &mut W, actor: u32, undo: &Undo, room: &mut WorkRoom) -> Move
@@ -80,7 +77,7 @@ pub(crate) fn put_record<W: World>(
         → PutsBack chains beside place actor undo.now room.old room.new (W.state world.old) (W.state world.new) result }
     ensures awaits { AwaitsAt actor (clustered_index undo.now.table) (W.state world.old) (W.state world.new) }
 {
-    if undo.kind == NEW_ROW {
+    if undo.kind == UndoKind::NewRow as u8 {
         let answer = world.remove(records_of(undo), actor, &undo.key);
         return end(room, answer);
     }

@@ -7,7 +7,7 @@ ghost use Rattle.undo_apply.specs.Rooms.{IsWhole};
 use crate::entry_room::EntryRoom;
 use inno_types::Bytes;
 use std::alloc::Global;
-use store_api::{MOST_BYTES_OF_KEY, MOST_BYTES_OF_VALUE, NoMemory};
+use store_api::{MOST_BYTES_OF_KEY, MOST_BYTES_OF_VALUE, Mark, NoMemory};
 
 /// What is done next. Keys are counted from 0.
 #[derive(Clone, Copy)]
@@ -58,8 +58,8 @@ impl WorkRoom {
             older: Vec::with_capacity(alloc, MOST_BYTES_OF_VALUE)?,
             next: Vec::with_capacity(alloc, MOST_BYTES_OF_KEY)?,
             entries: EntryRoom::new(alloc)?,
-            marked: Bytes::from_vec(vec![in alloc; 1]?),
-            unmarked: Bytes::from_vec(vec![in alloc; 0]?),
+            marked: Bytes::from_vec(vec![in alloc; Mark::Marked as u8]?),
+            unmarked: Bytes::from_vec(vec![in alloc; Mark::Unmarked as u8]?),
         })
     }
 }

@@ -10,10 +10,7 @@ use inno_types::Schema;
 use row_codec::{RowBad, decode};
 use row_versions::Kept;
 use std::alloc::Global;
-use store_api::{NoMemory, Undo};
-
-/// The kind of an undo record that keeps the version which was replaced.
-const KEEPS_VERSION: u8 = 2;
+use store_api::{NoMemory, Undo, UndoKind};
 
 /// An undo record, and the version that it keeps, if it keeps one.
 #[derive(Drop)]
@@ -45,7 +42,7 @@ fn keep_if(alloc: Global, schemas: &[Schema], undo: &Undo) -> Result<Option<Kept
     requires { KeepsAsSaid schemas.now undo.now }
     ensures { IfOk result (KeepsOnly (undo.now.kind == 2) schemas.now undo.now) }
 {
-    if undo.kind == KEEPS_VERSION {
+    if undo.kind == UndoKind::FormerRow as u8 {
         Ok(Some(keep(alloc, schemas, undo)?))
     } else {
         Ok(None)

@@ -28,10 +28,10 @@ end-requires-clause-may g c =
     ∙ (ap (λ (name : List ℕ). list_any (gives name) (take (length es - c.args.wait.seen) (drop c.args.wait.seen es))) (sym c.as_slice.ensures)
     ∙ sym c.any_gives.ensures ∙ c.if-any_gives.false) in
     may_give_up c.args.s c.saturating_sub-waited.result c.args.wait.name past c.requires.asked.0
-    (none_given c.args.wait.name c.args.wait.seen es past c.requires.asked.1 turned none) c.if-waited-ge-MOST_SECONDS.true
+    (none_given c.args.wait.name c.args.wait.seen es past c.requires.asked.1 turned none) c.if-waited-ge-LONGEST_WAIT.true
 
-pub returns-then-waited-ge-MOST_SECONDS : goal.returns-then-waited-ge-MOST_SECONDS
-returns-then-waited-ge-MOST_SECONDS g c =
+pub returns-then-waited-ge-LONGEST_WAIT : goal.returns-then-waited-ge-LONGEST_WAIT
+returns-then-waited-ge-LONGEST_WAIT g c =
     let es = c.events-entries.result.now in
     let past = c.args.lists.now.past in
     let turned : reverse es ≡ past = c.events-entries.ensures ∙ c.history.ensures.past in
@@ -41,7 +41,7 @@ returns-then-waited-ge-MOST_SECONDS g c =
     ∙ sym c.any_gives.ensures ∙ c.if-any_gives.false) in
     let long =
     waited_since c.args.wait.since c.args.now c.unwrap_or-since.result c.saturating_sub-waited.result c.unwrap_or-since.ensures
-    c.saturating_sub-waited.ensures c.if-waited-ge-MOST_SECONDS.true in (
+    c.saturating_sub-waited.ensures c.if-waited-ge-LONGEST_WAIT.true in (
       ended_waiting c.args.s _ c.args.lists.now c.end.new.self c.end.ensures,
       refl,
       (
@@ -64,7 +64,7 @@ returns g c =
     ∙ sym c.any_gives.ensures ∙ c.if-any_gives.false) in
     let none_stands = none_given c.args.wait.name c.args.wait.seen es past c.requires.asked.1 turned none in
     let short : c.args.now - c.unwrap_or-since.result < 50 =
-    omega (arith, c.if-waited-ge-MOST_SECONDS.false, c.saturating_sub-waited.ensures) in (
+    omega (arith, c.if-waited-ge-LONGEST_WAIT.false, c.saturating_sub-waited.ensures) in (
       refl,
       (c.args.wait.name, c.requires.asked.0.asked, none_stands),
       (
