@@ -4,7 +4,8 @@ use Rattle.std.proofs.Common.{◌≡◌, ℕ, ◌+◌, Option, Some, None, List,
 use Rattle.std.specs.Prelude.{IfNone}
 use Rattle.inno_types.specs.{declared.lock.Level.Level, declared.value.Schema.Schema}
 use Rattle.inno_db.specs.declared.change.Change.TheVariants.{Create}
-use Rattle.inno_model.specs.{declared.event.Event.TheVariants as events, Past.begins}
+use Rattle.inno_model.specs.declared.event.Event.TheVariants as events
+use Rattle.inno_model.specs.Past.{begins}
 use Rattle.sql_history.specs.Settings.{Setting, at_first, at_begin, at_end}
 use Rattle.law_past_agreement.specs.Slots.{writer_without}
 use Rattle.shared_lists.specs.{Tasks.Task, Tasks.Idle, State.State, State.Lists, State.IsNow, State.Adds, State.Closes, State.Stays, State.task_of}

@@ -1,5 +1,5 @@
 -- What contracts see of the lists.
-use Rattle.std.specs.Prelude.{◌≡◌, ◌≢◌, ℕ, ◌≤◌, ◌==◌, if◌then◌else◌, Option, Some, None, List, [], ◌∷◌, length, slice_index_or, refl}
+use Rattle.std.specs.Prelude.{◌≡◌, ◌≢◌, ℕ, ◌≤◌, Option, None, List, [], ◌∷◌, length, slice_index_or, refl}
 use Rattle.std.specs.Coded.{Coded, code_by, coded×, coded_list, coded_option, coded_ℕ}
 use Rattle.inno_db.specs.{Database.Database, declared.limits.TheConstants.MOST_TABLES}
 use Rattle.inno_model.specs.contracts.event.Event as of_event

@@ -1,12 +1,12 @@
 -- How a table is made: its own transaction begins, changes and commits in one call.
 -- The contracts of `make_table` cite this, of the trait and of the lists under the rules of SQL.
-use Rattle.std.specs.Prelude.{◌≡◌, ◌×◌, ◌⊎◌, ℕ, ◌+◌, List, ◌∷◌, None, slice_set, slice_index_or}
+use Rattle.std.specs.Prelude.{◌≡◌, ◌⊎◌, ℕ, ◌+◌, List, ◌∷◌, None, slice_set, slice_index_or}
 use Rattle.inno_types.specs.{declared.lock.Level.Level, declared.value.Schema.Schema}
 use Rattle.inno_db.specs.declared.change.Change.TheVariants.{Create}
 use Rattle.inno_model.specs.{declared.event.Event.Event, declared.event.Event.TheVariants.Begin, declared.event.Event.TheVariants.Changed}
 use Rattle.inno_model.specs.{declared.event.Event.TheVariants.Committed, declared.event.Event.TheVariants.RolledBack, Past.begins}
 use Rattle.sql_history.specs.Settings.{Setting, at_first, at_begin, at_end}
-use Rattle.shared_lists.specs.{Tasks.Idle, State.Lists, State.State, State.IsNow, State.Stays}
+use Rattle.shared_lists.specs.{Tasks.Idle, State.Lists, State.IsNow, State.Stays}
 
 -- the session's next transaction has begun
 abbrev pub begun : ℕ → Level → List Event → List Event
