@@ -1,4 +1,5 @@
 -- A tree stays where that of another index grows.
+-- The law of `others` ends here. Of the growing tree only what it did to the file's pages is asked.
 use Rattle.std.proofs.Common.{◌≡◌, ◌≢◌, inr, inl, ℕ, ◌<◌, ◌≤◌, Bool, false, List, [], ◌∷◌, sym, ◌∙◌, ap, subst, arith, refl}
 use Rattle.std.specs.Prelude.{◌||◌}
 use Rattle.std.specs.List.{AllByRecursion}

@@ -1,4 +1,5 @@
 -- What a change of one tree leaves of the file for the trees of other indexes.
+-- Growing a tree gives it, and another tree stays by it. The map's pages alone are left open.
 use Rattle.std.specs.Prelude.{◌≡◌, ℕ, ◌<◌, List}
 use Rattle.space_map.specs.Map.{mark_of}
 use Rattle.law_flat_tree.specs.PageSplits.{StandsNowhere}

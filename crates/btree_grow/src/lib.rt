@@ -1,5 +1,6 @@
 //! B+-trees that grow over mini-transactions: a free page is taken, a full page is split under a parent with room, a root gets a
-//! level below it, and all of that along the way of a key, so that its leaf has room. Who calls commits or gives up.
+//! level below it, and all of that along the way of a key, so that its leaf has room (`make_room`): who calls commits or gives up.
+//! `insert` adds a pair in a mini-transaction of its own. Trees of other indexes stay as they are (`others`).
 #![tactic(auto)]
 
 mod growing;

@@ -1,4 +1,5 @@
 //! Trees of several indexes in one file.
+//! Whoever keeps several trees in one file is to cite it for those that a change does not touch; it changes nothing itself.
 
 ghost use Rattle.std.specs.Prelude.{◌≡◌, ◌≢◌, ℕ, List};
 ghost use Rattle.entries.specs.Pairs.{Pair};

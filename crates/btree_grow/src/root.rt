@@ -1,5 +1,5 @@
 //! A root that stands above one page alone, laid out from the bytes of the root before it. Nothing here asks for a
-//! page. `btree_grow` alone calls it, and puts the root into its place.
+//! page. `raises` alone calls it, and puts the root into its place.
 
 ghost use Rattle.std.specs.Prelude.{◌≡◌, ◌<◌, ◌≤◌, length};
 ghost use Rattle.page_format.specs.Shape.{HasTreeFields};

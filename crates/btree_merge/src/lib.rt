@@ -1,5 +1,6 @@
 //! Merges in B+-trees over mini-transactions: two leaves side by side under one parent become one, and the page of the one to
-//! the right is free again (`merge_in`). `tidy` does so where the leaf of a key holds few records.
+//! the right is free again (`merge_in`). `tidy` does so where the leaf of a key holds few records. What becomes of the tree is
+//! told by the bytes of its pages (`merges`). Who calls commits or gives up.
 #![tactic(auto)]
 
 mod free;

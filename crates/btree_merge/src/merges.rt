@@ -1,5 +1,5 @@
 //! Two neighbours of the lowest level below one parent that become one leaf, and the page that this leaves over.
-//! `btree_merge` cites the lemmas behind them (proofs/Merging.antt, proofs/Freeing.antt).
+//! `look`, `merge` and `tidying` go by the lemmas behind them (proofs/Merging.antt, proofs/Freeing.antt).
 
 ghost use Rattle.std.specs.Prelude.{◌≡◌, ℕ, suc, ◌<◌, List, length};
 ghost use Rattle.page_format.specs.Words.{records_of};

@@ -1,5 +1,5 @@
 //! The way of a key from the root to its leaf, and the lowest page on it that has room. Each page that was read is
-//! given up. `btree_insert` alone asks, at the beginning of an insertion.
+//! given up. `btree_grow` alone asks, at the beginning of an insertion.
 
 ghost use Rattle.std.specs.Prelude.{◌≡◌, ℕ, ◌+◌, ◌<◌, ◌≤◌, List, [], ◌∷◌, ◌++◌, IsTrue, IfOk, IfErr, None, MatchBool};
 ghost use Rattle.mtr.specs.Calls.{GivesUp};

@@ -1,5 +1,5 @@
-//! The catalog: which tables there are, with the root pages of their indexes. It stands on pages 5 to 20, one table each.
-//! No other crate writes to these pages.
+//! The catalog: which tables there are, with the root pages of their indexes. It stands on pages 5 to 20, one table each, and an
+//! entry of it as bytes is made and read here too (`entry`). No other crate writes to these pages.
 #![tactic(auto)]
 
 mod creating;

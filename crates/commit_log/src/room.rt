@@ -1,5 +1,5 @@
 //! How long the record of a change may be, and which tables the log can make.
-//! Drafts take `MOST_RECORD` bytes for a change before it is made; `opened_world` asks before it keeps tables.
+//! Drafts take `MOST_RECORD` bytes for a change before it is made; `engine` asks before it keeps tables.
 
 ghost use Rattle.std.specs.Prelude.{◌↔◌, IsTrue};
 ghost use Rattle.commit_log.specs.Room.{IsLoggable};

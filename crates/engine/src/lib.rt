@@ -1,5 +1,6 @@
 //! The engine: sessions over one history, which a world in memory keeps, opened on the database that its files stand
-//! for. `mount` is the one way to open it on a disk; `sessions_over` opens sessions without one, which only tests do.
+//! for: `lay` tests that database and lays it down, table by table and row by row. `mount` is the one way to open an engine on a
+//! disk; `sessions_over` opens sessions without one, which only tests do.
 #![tactic(auto)]
 
 mod counting;

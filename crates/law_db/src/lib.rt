@@ -1,5 +1,6 @@
-//! Laws of databases, changes and outcomes. Each function has an empty body: its contract is the law.
-//! Nothing calls them; they show that the definitions say what a database user expects.
+//! Laws of databases, changes and outcomes, and of changes that are beside others (`beside`).
+//! Each function has an empty body: its contract is the law. Nothing calls them; they show that the definitions say what a database
+//! user expects.
 #![tactic(auto)]
 
 mod beside;

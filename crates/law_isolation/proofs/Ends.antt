@@ -1,4 +1,5 @@
 -- What the end of an item leaves of its session's standing work, and what it brings: seen for every reply.
+-- `Stays` alone cites it. What no item ends by stands in `StandingOn`.
 use Rattle.std.proofs.Common.{◌≡◌, ◌≢◌, ◌∙◌, ap, sym, subst, refl, ℕ, ◌≤◌, Bool, true, false, List, [], ◌∷◌, ◌++◌, length, length-append, take, reverse, Option}
 use Rattle.std.proofs.Common.{Some, None, inl, inr, arith}
 use Rattle.std.specs.Prelude.{is_some}

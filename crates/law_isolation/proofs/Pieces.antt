@@ -1,4 +1,5 @@
 -- What is kept for pieces of work: for fewer of them, with more changes, by other savepoints.
+-- `StandingOn`, `Ends` and `Stays` ask it. No entry of a history is met here.
 use Rattle.std.proofs.Common.{◌≡◌, ◌∙◌, ap, sym, subst, refl, ℕ, ◌≤◌, Bool, true, false, not, List, [], ◌∷◌, Option, Some, None, inl, inr, arith}
 use Rattle.std.specs.Prelude.{bytes_eq, if◌then◌else◌}
 use Rattle.inno_types.specs.declared.reply.Reply.{Reply}

@@ -1,4 +1,4 @@
--- A statement on rows makes no table. (The first four are db_laws's own, to be made public there.)
+-- A statement on rows makes no table.
 use Rattle.std.proofs.Common.{◌≡◌, refl, ℕ, ◌<◌, List, [], ◌∷◌, ◌++◌, length, true, false, Option, Some, None, Ok, Err}
 use Rattle.std.specs.Prelude.{slice_get, if◌then◌else◌}
 use Rattle.std.proofs.lemmas.Option.{slice_get_within}

@@ -1,4 +1,5 @@
 -- What is kept for standing work goes on through each entry but the ends of its items.
+-- `Ends` has those; together they are `Stays`, for every entry.
 use Rattle.std.proofs.Common.{◌≡◌, ◌∙◌, ap, sym, refl, subst, ℕ, zero, suc, ◌+◌, ◌-◌, ◌≤◌, true, false, List, [], ◌∷◌, length, drop, Option, Some, None, inl}
 use Rattle.std.proofs.Common.{inr, ◌⊎◌, arith}
 use Rattle.std.specs.Prelude.{◌==◌, is_some}

@@ -1,4 +1,5 @@
 -- What stands behind an entry stood before it, or is the piece of the item that ends; so what is kept for each stays kept.
+-- `Stores` makes of it a law of steps. Which work stands is told by `HasWork` and the standing changes.
 use Rattle.std.proofs.Common.{◌≡◌, ◌∙◌, ap, sym, refl, subst, ℕ, ◌≤◌, ◌<◌, true, false, List, [], ◌∷◌, ◌++◌, length, Option, Some, inl, inr, ◌⊎◌, arith}
 use Rattle.std.specs.Prelude.{◌==◌}
 use Rattle.inno_types.specs.declared.reply.Item.{Item}

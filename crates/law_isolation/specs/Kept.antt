@@ -1,4 +1,5 @@
 -- What is kept for the pieces of an open transaction's work that still stand.
+-- What is kept is a parameter: the laws say only for which pieces it stands. `law_locked_work` puts locks there.
 use Rattle.std.specs.Prelude.{◌≡◌, ◌⊎◌, ℕ, ◌≤◌, ◌<◌, Bool, true, false, List, [], ◌∷◌, ◌++◌, length, Option, Some, None}
 use Rattle.inno_types.specs.declared.lock.Level.{Level}
 use Rattle.inno_types.specs.declared.reply.Reply.{Reply}

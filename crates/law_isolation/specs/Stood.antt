@@ -1,4 +1,5 @@
 -- Pieces that stand behind an entry: they stood before it, or one is that of the item that ends.
+-- The law of `standing` says that there are no others.
 use Rattle.std.specs.Prelude.{◌≡◌, ◌⊎◌, ℕ, true, List, [], ◌∷◌, Some}
 use Rattle.inno_types.specs.declared.stmt.Stmt.{Stmt}
 use Rattle.inno_model.specs.declared.event.Event.{Event}

@@ -1,4 +1,5 @@
 -- Stores that keep something for each standing piece that locks what it searches.
+-- `law_locked_work` has one, by locks; the laws here hold of any.
 use Rattle.std.specs.Prelude.{◌≡◌, ◌≢◌, ℕ, ◌≤◌, List, [], ◌∷◌, ◌++◌, Bool, length, Option, Some}
 use Rattle.inno_types.specs.declared.lock.Level.{Level}
 use Rattle.inno_types.specs.declared.reply.Reply.{Reply}

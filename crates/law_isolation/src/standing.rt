@@ -1,4 +1,5 @@
 //! Laws of what stands of open transactions' work, entry by entry. Each function has an empty body: its contract is the law.
+//! Stores that keep something for such work are to rest on them (proofs/Stores.antt).
 
 ghost use Rattle.std.specs.Prelude.{◌≡◌, ◌⊎◌, ℕ, false, List, ◌∷◌, Option};
 ghost use Rattle.inno_types.specs.declared.reply.Reply.{Reply};

@@ -1,4 +1,5 @@
 -- Changes of rows of tables that are there leave a database with more tables wider.
+-- `Claims` asks it of what an outcome rests on. No row changes its table.
 use Rattle.std.proofs.Common.{◌≡◌, ◌∙◌, ap, sym, subst, refl, ℕ, ◌<◌, ◌≤◌, true, false, cond, List, [], ◌∷◌, ◌++◌, length, Option, None, arith}
 use Rattle.std.specs.FinMap.{get}
 use Rattle.std.specs.Ordering.{is_eq, eq_by_cmp}

@@ -1,4 +1,5 @@
 -- What an outcome rests on, and that it stands on it, is left by a table more.
+-- The laws of `more_tables` end here; a basis says of each claim which tables it is about.
 use Rattle.std.proofs.Common.{◌≡◌, ◌∙◌, ap, sym, subst, refl, ℕ, ◌<◌, ◌≤◌, Bool, true, false, cond, List, [], ◌∷◌, ◌++◌, length, None, inl, inr, arith}
 use Rattle.std.specs.Prelude.{◌||◌, nat_lt, if◌then◌else◌, slice_get}
 use Rattle.std.specs.FinMap.{get}

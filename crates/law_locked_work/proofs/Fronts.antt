@@ -1,4 +1,5 @@
 -- A transaction's own versions stand in front, and the first behind them is the row of the last commit.
+-- `Unmet` tells by it which rows a commit changes. Versions are those of the world's chains.
 use Rattle.std.proofs.Common.{◌≡◌, ◌∙◌, ap, sym, subst, refl, ℕ, ◌<◌, Bool, true, false, List, [], ◌∷◌, ◌++◌, Option, inl, inr, arith}
 use Rattle.std.specs.Prelude.{◌==◌, ◌||◌, if◌then◌else◌}
 use Rattle.std.specs.List.{AllByRecursion, list_any}

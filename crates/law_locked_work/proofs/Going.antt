@@ -1,4 +1,5 @@
 -- The first and the last of an INSERT's tuples, others' commits between them, and what has to be kept for each.
+-- The laws of `insert_told` end here. How one tuple goes on is told in `Telling`.
 use Rattle.std.proofs.Common.{◌≡◌, ◌∙◌, ap, sym, subst, refl, ℕ, ◌+◌, true, false, List, [], ◌∷◌, ◌++◌, length, reverse, Option, Some, None, inl, inr, arith}
 use Rattle.std.proofs.lemmas.List.{append-nil}
 use Rattle.std.specs.Prelude.{slice_get, ◌||◌}

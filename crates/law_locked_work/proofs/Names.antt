@@ -1,4 +1,5 @@
 -- Tables keep their numbers where more come behind them.
+-- So a name that is found names the same table; `Outcomes` and `Claims` ask it.
 use Rattle.std.proofs.Common.{◌≡◌, ◌∙◌, ap, sym, subst, refl, ℕ, zero, suc, ◌+◌, ◌<◌, Bool, true, false, not, cond, List, [], ◌∷◌, ◌++◌, length, length-append}
 use Rattle.std.proofs.Common.{Option, Some, None, arith}
 use Rattle.std.specs.Prelude.{nat_lt, position, bytes_eq, slice_get}

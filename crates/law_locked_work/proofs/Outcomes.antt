@@ -1,4 +1,5 @@
 -- A statement has the same outcome over a database with more tables.
+-- What a statement names stands in both under one number (proofs/Names.antt); `Changes` and `Claims` go on from here.
 use Rattle.std.proofs.Common.{◌≡◌, ◌∙◌, ap, sym, refl, ℕ, ◌<◌, true, List, [], ◌∷◌, length, Some, None}
 use Rattle.std.specs.Prelude.{slice_get, filter}
 use Rattle.inno_types.specs.declared.value.Value.{Value}

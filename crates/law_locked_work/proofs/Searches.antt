@@ -1,4 +1,5 @@
 -- What a session commits is beside each search that another one keeps by a plan.
+-- It is `Unmet` said of whole pieces of work, as `Working` asks it.
 use Rattle.std.proofs.Common.{◌≡◌, ◌≢◌, ℕ, true, List, Option, Some, ◌⊎◌}
 use Rattle.std.specs.Prelude.{slice_get}
 use Rattle.std.specs.FinMap.{get}

@@ -1,4 +1,5 @@
 -- In the step that tells a tuple's row, or finds one with its key, what an INSERT comes to goes on, or is settled.
+-- No entry of another comes between the look at the key and the history's entry: both are in one step.
 use Rattle.std.proofs.Common.{◌≡◌, ◌∙◌, ap, sym, subst, refl, ℕ, Bool, true, false, List, [], ◌∷◌, ◌++◌, reverse, Option, Some, None, is_some, Ok, Err, inl}
 use Rattle.std.proofs.Common.{inr, arith}
 use Rattle.std.proofs.lemmas.Bool.Decides.{nat_tests}

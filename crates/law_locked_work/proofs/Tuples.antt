@@ -1,4 +1,5 @@
 -- What the first tuple of an INSERT comes to over a database, by what is at its key; and the whole by it.
+-- `Telling` alone cites it. The outcome is that of the plain statement, cut behind its first tuple.
 use Rattle.std.proofs.Common.{◌≡◌, ◌∙◌, ap, sym, subst, refl, ℕ, ◌+◌, Bool, true, false, List, [], ◌∷◌, ◌++◌, length, Option, Some, None, is_some, Result, Ok}
 use Rattle.std.proofs.Common.{Err, arith}
 use Rattle.std.proofs.lemmas.List.{append_assoc, length-append}

@@ -1,4 +1,5 @@
 -- What a session commits is met by no search that another one keeps.
+-- The laws of `owned_changes` end here. Which places are locked is told in `law_locks`.
 use Rattle.std.proofs.Common.{◌≡◌, ◌≢◌, ◌∙◌, ap, sym, subst, refl, ℕ, zero, zero-lt-suc, Bool, true, false, List, [], ◌∷◌, map, Option, Some, None, inl, inr}
 use Rattle.std.proofs.Common.{◌⊎◌}
 use Rattle.std.specs.Prelude.{◌||◌, if◌then◌else◌, option_map, Contains}

@@ -1,4 +1,5 @@
 -- An INSERT that is worked off tuple by tuple, each of them settled in the step that tells its row, or finds one there.
+-- Whoever works off an INSERT under record locks is to keep it between tuples; the statement machine has no such step yet.
 use Rattle.std.specs.Prelude.{◌≡◌, ℕ, List, ◌++◌, reverse, Option, Some, None, slice_get}
 use Rattle.inno_types.specs.declared.value.Schema.{Schema}
 use Rattle.inno_types.specs.declared.stmt.Literal.{Literal}

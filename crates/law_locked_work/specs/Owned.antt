@@ -1,4 +1,5 @@
 -- What a transaction has changed, as the versions of its rows tell it, and the searches that another one keeps.
+-- The laws of commits rest on it: of each row that has changed its transaction owns record and entries.
 use Rattle.std.specs.Prelude.{◌≡◌, ℕ, ◌==◌, Bool, true, if◌then◌else◌, List, [], ◌∷◌, map, Option, Some, option_map}
 use Rattle.inno_types.specs.declared.lock.Lock.{Lock}
 use Rattle.inno_types.specs.declared.value.Value.{Value}

@@ -1,4 +1,5 @@
 //! Laws of an INSERT whose tuples are settled in the step that tells their rows. Each function has an empty body: its contract is the law.
+//! No two tuples need one moment: others may commit between them.
 
 ghost use Rattle.std.specs.Prelude.{◌≡◌, ℕ, List, [], ◌∷◌, ◌++◌, length, Option, Some, None, is_some, true, Ok, Err, slice_get};
 ghost use Rattle.std.specs.FinMap.{get};

@@ -1,5 +1,6 @@
 //! Laws of a table more: it leaves what statements come to, what that rests on, and the rows that sessions see. Each function has an empty body: its contract
 //! is the law.
+//! Sessions that are at work while another commits a table are to go on by them.
 
 ghost use Rattle.std.specs.Prelude.{◌≡◌, ◌≢◌, ℕ, true, List, [], ◌∷◌, None, ◌≤◌};
 ghost use Rattle.inno_types.specs.declared.value.Schema.{Schema};

@@ -1,4 +1,5 @@
 //! Laws of what a transaction has changed, as the versions of its rows tell it. Each function has an empty body: its contract is the law.
+//! What a commit changes is met by no search that is kept: a store of record locks is to ask it of its own steps.
 
 ghost use Rattle.std.specs.Prelude.{◌≡◌, ◌≢◌, ℕ, true, false, Bool, List, Option};
 ghost use Rattle.std.specs.List.{list_any};

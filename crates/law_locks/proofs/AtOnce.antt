@@ -1,4 +1,5 @@
 -- An insertion whose intention is granted in the same step keeps what everybody guards.
+-- The laws of insertions cite it, and so do those of places (`law_other_places`). No request waits in between.
 use Rattle.std.proofs.Common.{◌≡◌, ◌≢◌, ◌∙◌, ℕ, true, false, List, [], ◌∷◌, ◌++◌, inl, inr, refl, sym, ap, subst}
 use Rattle.std.proofs.lemmas.Bool.{eq-eqb}
 use Rattle.std.proofs.lemmas.List.Folds.{list_any-append}

@@ -1,4 +1,5 @@
 -- The spots of an index as a pair comes, is replaced, or goes.
+-- A pair and its record come and go together; the laws of guards are brought from lists of keys to indexes by it.
 use Rattle.std.proofs.Common.{◌≡◌, ◌≢◌, ◌∙◌, ℕ, Bool, true, false, List, [], ◌∷◌, inl, inr, refl, sym, ap, subst}
 use Rattle.std.specs.Prelude.{◌||◌, nat_eq, cond, Option, None, Some, is_some, option_map, MatchOption}
 use Rattle.std.specs.Cmp.Lexicographic.{pointwise, bytes_decides}

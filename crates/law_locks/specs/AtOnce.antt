@@ -1,4 +1,5 @@
 -- An insertion with its locks, as one step of a lock table.
+-- An index of rows goes with it (specs/Index.antt); `taking` makes the call for whoever inserts.
 use Rattle.std.specs.Prelude.{◌≡◌, ℕ, List, ◌++◌}
 use Rattle.inno_types.specs.declared.lock.LockKind.TheVariants.{Rec, Intent}
 use Rattle.inno_types.specs.declared.lock.Mode.TheVariants.{X}

@@ -1,4 +1,5 @@
 -- The spots of an index with these pairs: what the calls of a lock table are given as pairs come and go.
+-- Laws of searches speak of an index so. An index is here the list of its pairs, in the order of their keys.
 use Rattle.std.specs.Prelude.{◌≡◌, ℕ, List, map, None, Some, option_map, is_some, true}
 use Rattle.inno_types.specs.declared.lock.Spot.{Spot}
 use Rattle.inno_types.specs.declared.lock.Lock.{Lock}

@@ -1,4 +1,5 @@
 //! What is guarded in an index stays so as a pair is put, replaced or removed, with the calls of the lock table that go with it.
+//! Each function has an empty body: its contract is the law. No engine takes such locks yet.
 
 ghost use Rattle.std.specs.Prelude.{◌≡◌, ◌≢◌, ℕ, true, Option, Some, is_some, List, ◌∷◌, length};
 ghost use Rattle.std.specs.List.{AllByRecursion};

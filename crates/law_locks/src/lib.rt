@@ -1,5 +1,7 @@
-//! Laws of what a transaction's locks keep: the keys that it guards stay guarded through every call of a lock table, by
-//! whomever, its own rollback included. Each function has an empty body: its contract is the law. Nothing calls them.
+//! Laws of record locks. The keys that a transaction guards stay guarded through every call of a lock table, by whomever, its own
+//! rollback included, in lists of keys and in indexes of pairs; an insertion is made with its locks in one step; and it is told which
+//! calls can close a cycle of waits, and how rounds end all cycles.
+//! Each function has an empty body, and its contract is the law, but for `take_new`, which makes two calls. No engine takes such locks yet.
 #![tactic(auto)]
 
 mod alone;

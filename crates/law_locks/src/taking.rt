@@ -1,4 +1,5 @@
 //! The calls of a lock table that go with an insertion: no want of memory and no wait comes behind the intention.
+//! Whoever inserts under record locks is to make them here, room first; only the laws beside it speak of it yet.
 
 ghost use Rattle.std.specs.Prelude.{◌≡◌, ℕ, ◌+◌, ◌++◌, false, true, length, IsTrue, List, IfOk, IfSome};
 ghost use Rattle.lock_rules.specs.Rules.{FitsItsRule};

@@ -1,4 +1,5 @@
--- A first try of the reading of a held world: what its pages show of rows, with their bytes left aside.
+-- What a held world shows of rows: of each the first version along its pointers whose writer has no open slot.
+-- How pages show versions and slots is left aside here; `law_read_pages` tells it of their bytes.
 use Rattle.std.specs.Prelude.{◌≡◌, ℕ, ◌<◌, Bool, true, false, if◌then◌else◌, Option, List}
 use Rattle.std.specs.FinMap.{get}
 use Rattle.inno_types.specs.declared.value.Value.{Value}

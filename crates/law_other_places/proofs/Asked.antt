@@ -1,4 +1,5 @@
 -- What a change of a record asks of the rows is known where nobody's keys lag at its place.
+-- `Making` and `TakingBack` ask it of each step of a record. Keys that lag are told of in specs/Kept.antt.
 use Rattle.std.proofs.Common.{◌≡◌, refl, sym, ap, ℕ, false, List, None}
 use Rattle.std.proofs.lemmas.Bool.{cond-false}
 use Rattle.row_versions.specs.{declared.place.Place.Place, Chains.Chains, Chains.versions_at}

@@ -1,4 +1,5 @@
 -- The local step at a marked entry of a key: once it is locked, the search goes on behind it without a look at the record.
+-- `KeySteps` makes a step of the whole store of it. What the entry tells is read in `Marked`.
 use Rattle.std.proofs.Common.{◌≡◌, ◌∙◌, sym, ap, subst, ℕ, suc, ◌≤◌, true, List, [], ◌∷◌, length, Some}
 use Rattle.std.proofs.lemmas.Bool.{true≢false}
 use Rattle.inno_types.specs.{declared.lock.Lock.Lock, declared.value.Value.Value}

@@ -1,4 +1,5 @@
 -- The steps of a change that is taken back, as all other sessions see them, and what all sessions know behind each.
+-- `TakingBack` makes of them steps of the store; the last one, with the undo record cut, stands in `DoneSteps`.
 use Rattle.std.proofs.Common.{◌≡◌, ◌∙◌, inl, inr, ⊎_elim, refl, sym, ap, subst, ℕ, ◌||◌, Bool, true, false, List, [], ◌∷◌, Some}
 use Rattle.std.proofs.Common.{slice_get, arith}
 use Rattle.std.specs.List.{list_any}

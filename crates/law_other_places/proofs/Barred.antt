@@ -1,4 +1,5 @@
 -- No row that another has changed lies in what a session keeps of a range, neither as it was before nor as it is behind the changes.
+-- `Committing` and `Unmet` say by it what a commit leaves to the searches of others; what locks guard is told in `law_locks`.
 use Rattle.std.proofs.Common.{arith, ◌≡◌, ◌≢◌, ◌∙◌, ⊎_elim, inl, inr, refl, sym, ap, subst, ℕ, suc, ◌+◌, Bool, true, false, List, [], ◌∷◌, ◌++◌, length, Option}
 use Rattle.std.proofs.Common.{None, Some, slice_get, is_some}
 use Rattle.std.proofs.lemmas.Bool.{cases_Bool, true≢false, and_parts}

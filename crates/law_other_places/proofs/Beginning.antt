@@ -1,4 +1,5 @@
 -- A search that locks begins; it passes a pair that lies before its range; and of a range of one key.
+-- `SearchSteps` cites them. What is known behind each is `IsLocking` (specs/Locking.antt).
 use Rattle.std.proofs.Common.{arith, ◌≡◌, ◌∙◌, refl, sym, ap, subst, ℕ, zero, suc, ◌≤◌, Bool, true, false, cond, ◌&&◌, not, List, [], ◌∷◌, length, take, Option}
 use Rattle.std.proofs.Common.{None, Some}
 use Rattle.std.proofs.lemmas.Bool.{true≢false, and_parts}

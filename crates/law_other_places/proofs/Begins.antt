@@ -1,4 +1,5 @@
 -- A store that nobody has joined, and a change of a row that begins while others are at work.
+-- A store under record locks is to start from them: from the one where nothing is done yet, and from the other where a change has its place alone.
 use Rattle.std.proofs.Common.{◌≡◌, ◌∙◌, refl, sym, ap, ℕ, ◌<◌, List, [], length, None, Some, arith}
 use Rattle.std.proofs.lemmas.{Bool.true≢false, Option.slice_get_within}
 use Rattle.std.specs.List.{list_any}

@@ -1,4 +1,5 @@
 -- What the calls of the lock table, and pairs that come and go, leave to a search of another transaction.
+-- `SearchSteps` asks it of each call: it gives `LeavesGuards` (specs/Keeping.antt). What else the calls do is told in `law_locks`.
 use Rattle.std.proofs.Common.{◌≡◌, ◌≢◌, ◌∙◌, inl, inr, sym, ap, subst, ℕ, Bool, true, List, [], Option, None, Some}
 use Rattle.std.proofs.lemmas.Bool.{cases_eq}
 use Rattle.std.specs.List.{list_any, AllByRecursion}

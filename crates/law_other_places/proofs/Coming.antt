@@ -1,4 +1,5 @@
 -- The steps of a search that locks: to the next key, past the range, and over a row.
+-- `Beginning`, `Visiting` and `SearchSteps` cite them. They speak of keys, rows and locks alone, and of no step of the world.
 use Rattle.std.proofs.Common.{◌≡◌, ◌∙◌, ◌⊎◌, inl, inr, refl, sym, ap, subst, ℕ, Bool, true, false, ◌&&◌, not, List, length, Option, None, Some, is_some}
 use Rattle.std.proofs.lemmas.Bool.{cases_Bool, true≢false, and_parts, and_from}
 use Rattle.std.specs.Ordering.{is_le, is_lt}

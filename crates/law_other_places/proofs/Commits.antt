@@ -1,4 +1,5 @@
 -- What a session sees at a place as another one commits.
+-- `Committing`, `Barred` and `Unmet` go on from it. Nothing of searches and locks is asked here.
 use Rattle.std.proofs.Common.{arith, ◌≡◌, ◌≢◌, ◌∙◌, refl, sym, ap, ℕ, ◌+◌, ◌≤◌, Bool, false, cond, List, [], ◌∷◌, ◌++◌, Option}
 use Rattle.std.proofs.lemmas.Bool.Decides.{nat_tests}
 use Rattle.std.specs.List.{list_any}

@@ -1,4 +1,5 @@
 -- Another's commit: what a session has searched and keeps is as it was, and no row that the commit changed lies there.
+-- `Ending`, `Places` and `Unmet` cite it. Which rows have changed is told in `Barred`.
 use Rattle.std.proofs.Common.{arith, ◌≡◌, ◌≢◌, ◌∙◌, ◌⊎◌, inl, inr, refl, sym, ap, subst, ℕ, zero, suc, ◌+◌, ◌≤◌, Bool, true, List, ◌∷◌, length, None, Some}
 use Rattle.std.proofs.Common.{slice_get}
 use Rattle.std.proofs.lemmas.Bool.{cases_Bool}

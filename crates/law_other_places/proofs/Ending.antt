@@ -1,4 +1,5 @@
 -- A search that locks is over: it has found the rows of its plan's range that the session sees now, and keeps the plan.
+-- Whoever answers a statement that locks is to cite it. That the plan stays kept is shown in `Plans`.
 use Rattle.std.proofs.Common.{◌≡◌, ◌≢◌, ◌∙◌, ◌⊎◌, inl, inr, refl, sym, ap, subst, ℕ, ◌≤◌, Bool, true, false, ◌&&◌, List, length, map, filter, Option, Some}
 use Rattle.std.proofs.Common.{slice_get}
 use Rattle.std.specs.Ordering.{is_lt}

@@ -1,4 +1,5 @@
 -- What steps leave of other rows.
+-- The steps of changes and of taking back ask it of records, kept versions and entries; nothing of sessions is known here.
 use Rattle.std.proofs.Common.{◌≡◌, ◌≢◌, ◌∙◌, ◌⊎◌, inl, inr, ⊎_elim, sym, ap, subst, ℕ, ◌≤◌, ◌<◌, false, List, Option, Some, slice_get, length, arith}
 use Rattle.std.proofs.lemmas.Option.{slice_get_within}
 use Rattle.inno_types.specs.declared.value.{Column.Column, Key.Key}

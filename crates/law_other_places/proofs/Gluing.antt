@@ -1,4 +1,5 @@
 -- What keys say of one place, put together with what they say of all others behind a step there.
+-- Rows, keys and taking back cite it. What a step says at its own place is told in `row_changes` and `undo_apply`.
 use Rattle.std.proofs.Common.{◌≡◌, ◌∙◌, refl, sym, ap, subst, ℕ, cond, List, Some, slice_get, inl, inr}
 use Rattle.std.proofs.lemmas.Bool.{cases_Bool, cond-true, cond-false}
 use Rattle.inno_types.specs.{declared.value.Value.Value, declared.value.Column.Column, declared.value.Key.Key, declared.value.Schema.Schema}

@@ -1,4 +1,5 @@
 -- A change that is being taken back stays what it is while another session makes a step at another place.
+-- `Rows` has it of whatever lies at the desk, and `BackSteps` and `TakingBack` of the step that reads the undo record.
 use Rattle.std.proofs.Common.{◌≡◌, ◌∙◌, sym, ap, subst, ℕ, ◌≤◌, Bool, true, false, List, slice_get, inl, inr, length}
 use Rattle.std.proofs.lemmas.Bool.{cases_Bool, cond-true, cond-false}
 use Rattle.inno_types.specs.declared.value.Schema.{Schema}

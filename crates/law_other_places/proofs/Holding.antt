@@ -1,4 +1,5 @@
 -- What holds of the store after a step of one session, whatever step it is, where others are at work at other places.
+-- `Making`, `TakingBack` and `TakenBack` end with it: what their steps do not change of `IsHeldByAll` is put together here.
 use Rattle.std.proofs.Common.{◌≡◌, ◌≢◌, ◌∙◌, inl, inr, refl, sym, ap, subst, ℕ, ◌≤◌, ◌<◌, true, false, List, length, Option, None, Some, arith, slice_get}
 use Rattle.std.specs.Prelude.{is_some}
 use Rattle.inno_types.specs.{declared.lock.Lock.Lock, declared.value.Schema.Schema}

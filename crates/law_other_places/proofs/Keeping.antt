@@ -1,4 +1,5 @@
 -- A step of another session leaves to a search that locks all that it knows.
+-- `SearchSteps` and `Committing` cite it. What a step leaves is asked as `StayOrFail` and `LeavesGuards` (specs/Keeping.antt).
 use Rattle.std.proofs.Common.{arith, ◌≡◌, ◌≢◌, ◌∙◌, inl, inr, refl, sym, ap, subst, ℕ, Bool, true, cond, List, [], ◌∷◌, Option, None, Some}
 use Rattle.std.proofs.lemmas.Bool.{true≢false}
 use Rattle.std.specs.List.{AllByRecursion}

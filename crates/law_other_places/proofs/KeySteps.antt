@@ -1,4 +1,5 @@
 -- The step to a marked entry of a key: with its lock the search passes it at once.
+-- It is the step that needs no record: the others of a search stand in `SearchSteps`.
 use Rattle.std.proofs.Common.{arith, ◌≡◌, ◌∙◌, sym, ap, subst, ℕ, suc, ◌≤◌, true, List, [], ◌∷◌, length, Option, Some, slice_get, is_some}
 use Rattle.inno_types.specs.{declared.lock.Lock.Lock, declared.value.Schema.Schema, declared.value.Key.Key, Ranges.is_within}
 use Rattle.inno_db.specs.Indexes.{index_of}

@@ -1,4 +1,5 @@
 -- A change whose keys take it over stays what it is while another session makes a step at another place.
+-- `Records` and `Rows` have it for the whole change. What is under way in the other session is not changed by it.
 use Rattle.std.proofs.Common.{◌≡◌, ◌∙◌, sym, ap, subst, ℕ, Bool, true, false, List, Option, None, Some, slice_get}
 use Rattle.std.specs.Prelude.{IfSome, IsSome, is_some}
 use Rattle.inno_types.specs.{declared.value.Value.Value, declared.value.Schema.Schema}

@@ -1,4 +1,5 @@
 -- Which calls of a lock table leave to sessions what they have alone.
+-- A store under record locks is to ask it of the calls that it makes; of an insertion, both calls go together.
 use Rattle.std.proofs.Common.{◌≡◌, ◌≢◌, ◌∙◌, sym, ap, subst, ℕ, true, List, [], Option, Some}
 use Rattle.std.specs.Prelude.{◌&&◌, not}
 use Rattle.inno_types.specs.{declared.lock.Lock.Lock, declared.lock.Spot.Spot}

@@ -1,4 +1,5 @@
 -- A step of a change keeps what is held of all sessions, where the place of the change is its session's own.
+-- The steps of records and keys are put together with what is owned. Whoever changes rows under record locks is to cite it.
 use Rattle.std.proofs.Common.{◌≡◌, ◌≢◌, ◌∙◌, ⊎_elim, refl, sym, ap, subst, ℕ, ◌+◌, ◌≤◌, ◌<◌, ◌^◌, Bool, true, false, cond, List, ◌∷◌, length}
 use Rattle.std.proofs.Common.{Option, None, Some, slice_get, arith, eq-eqb}
 use Rattle.std.proofs.lemmas.Bool.{cases_Bool, ne_eqb, true≢false}

@@ -1,4 +1,5 @@
 -- A session that has locked a marked entry sees no row with its value there, though another may be changing the row.
+-- `AtMarked` passes such an entry by it, and `Unmet` and `Barred` read the row behind others' changes here.
 use Rattle.std.proofs.Common.{arith, ◌≡◌, ◌≢◌, ◌∙◌, ⊎_elim, inl, inr, refl, sym, ap, subst, ℕ, Bool, true, false, List, [], ◌∷◌, ◌++◌, Option, None, Some}
 use Rattle.std.proofs.lemmas.Bool.{cases_Bool, true≢false, or_right}
 use Rattle.std.proofs.lemmas.Bool.Decides.{eqb_tells, nat_tests}

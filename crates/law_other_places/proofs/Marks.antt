@@ -1,4 +1,5 @@
 -- What the mark of an entry tells: whether the newest row has its value. An entry that stands marked without a version tells the same.
+-- `Marked` and `Shapes` read marks by it, since of marked entries keys need not say anything.
 use Rattle.std.proofs.Common.{◌≡◌, ◌∙◌, inl, inr, refl, sym, ap, ℕ, zero, suc, Bool, true, false, cond, List, [], ◌∷◌, Option, None, Some}
 use Rattle.std.specs.Prelude.{◌||◌, not}
 use Rattle.std.specs.List.{list_any}

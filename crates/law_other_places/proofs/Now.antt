@@ -1,4 +1,5 @@
 -- What a session sees now is what the view would show that it would take now.
+-- `Showing` and `Barred` take a view's rows for the session's own by it; no view is taken.
 use Rattle.std.proofs.Common.{◌≡◌, ◌≢◌, ◌∙◌, inr, refl, sym, ap, ℕ, ◌<◌, false, List, ◌∷◌, is_some, arith}
 use Rattle.std.proofs.lemmas.Bool.Decides.{nat_tests}
 use Rattle.inno_types.specs.{declared.value.Value.Value}

@@ -1,4 +1,5 @@
 -- A session's own steps keep it the owner of entries: its record is put, and then each key takes the change over.
+-- `Owners` has the same of all other sessions. Which entries are new is counted in `Told`.
 use Rattle.std.proofs.Common.{◌≡◌, ◌∙◌, refl, sym, ap, ℕ, Bool, true, false, cond, List, [], ◌∷◌, ◌++◌}
 use Rattle.std.proofs.lemmas.Bool.{true≢false}
 use Rattle.std.specs.Prelude.{◌||◌}

@@ -1,4 +1,5 @@
 -- A step of one session at one place leaves to the others the entries that they have alone.
+-- The session's own step is told in `OwnSteps`; both are about `AreEntriesOwned` (specs/Entries.antt).
 use Rattle.std.proofs.Common.{◌≡◌, ◌≢◌, ◌∙◌, sym, ap, ℕ, true, false, List, [], ◌++◌, Option, slice_get}
 use Rattle.std.proofs.lemmas.Bool.{true≢false}
 use Rattle.std.specs.List.{list_any}

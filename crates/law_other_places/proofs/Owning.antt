@@ -1,4 +1,5 @@
 -- Two sessions at work stand at different places, since no two conflicting locks are granted.
+-- Every law here that keeps two sessions apart rests on it. Locks are only looked at.
 use Rattle.std.proofs.Common.{◌≡◌, ◌≢◌, ◌∙◌, inl, inr, ⊎_elim, refl, sym, ap, subst, ℕ, true, false, cond, List, [], ◌∷◌, Option, None, Some}
 use Rattle.std.proofs.Common.{slice_get}
 use Rattle.std.proofs.lemmas.Bool.{cases_Bool, true≢false}

@@ -1,4 +1,5 @@
 -- Each entry that is there is of some place, whose key stands at its end.
+-- `SearchSteps` asks it of the entry that a search has met.
 use Rattle.std.proofs.Common.{arith, ◌≡◌, ◌∙◌, inl, inr, sym, ap, subst, ℕ, ◌+◌, ◌-◌, ◌≤◌, true, List, ◌++◌, length, Some, slice_get, is_some, length-append}
 use Rattle.std.proofs.lemmas.List.{drop_at}
 use Rattle.inno_types.specs.{declared.lock.Lock.Lock, declared.value.Schema.Schema, declared.value.Value.Value}

@@ -1,4 +1,5 @@
 -- A plan that a session keeps is kept by the steps of others, and by its own changes.
+-- Until its transaction ends the statement's work rests on that. No lock is taken here.
 use Rattle.std.proofs.Common.{◌≡◌, ◌∙◌, ◌⊎◌, inl, inr, sym, ap, subst, ℕ, Bool, true, List, Some, slice_get}
 use Rattle.std.proofs.lemmas.Bool.{true≢false}
 use Rattle.inno_types.specs.{declared.lock.Lock.Lock, declared.value.Schema.Schema, declared.value.Value.Value, declared.stmt.Range.Range}

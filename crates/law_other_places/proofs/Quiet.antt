@@ -1,4 +1,5 @@
 -- Steps that change no row, and calls of the lock table alone, keep what is held of all sessions.
+-- Items, commits, views and waits are such steps, and so is what a store does that still has one writer.
 use Rattle.std.proofs.Common.{◌≡◌, ◌≢◌, ◌∙◌, refl, sym, ap, ℕ, true, List, [], Option, None, Some}
 use Rattle.std.proofs.lemmas.Bool.{true≢false}
 use Rattle.std.specs.List.{list_any}

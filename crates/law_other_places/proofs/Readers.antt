@@ -1,4 +1,5 @@
 -- Who reads by a view finds what its view shows, however many others are changing rows, each at its place.
+-- `Showing` and `Marked` go on from it. No lock is asked for: such a reader takes none.
 use Rattle.std.proofs.Common.{◌≡◌, ◌≢◌, ◌∙◌, ◌⊎◌, inl, inr, refl, sym, ap, subst, ℕ, zero, suc, ◌<◌, ◌≤◌, true, false, List, length, Option, None, Some}
 use Rattle.std.proofs.Common.{slice_get, arith}
 use Rattle.std.proofs.lemmas.Bool.{cases_Bool, cases_eq, true≢false}

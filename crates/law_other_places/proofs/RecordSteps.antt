@@ -1,4 +1,5 @@
 -- The steps of a record that is changed, as all other sessions see them, and what all sessions know behind each.
+-- `Making` makes of them steps of the store; the steps of keys stand in `Steps`.
 use Rattle.row_changes.specs.RecordReached as records
 use Rattle.std.proofs.Common.{◌≡◌, ◌≢◌, ◌∙◌, inl, refl, sym, ap, subst, ℕ, false, cond, List, ◌∷◌, Option, None, Some, slice_get}
 use Rattle.std.proofs.lemmas.Bool.{cond-false, true≢false, eq-eqb, ne_eqb}

@@ -1,4 +1,5 @@
 -- A record that is being changed stays what it is while another session makes a step at another place.
+-- `Rows` has it of whatever lies at the desk. Of what the step does only what it leaves is asked.
 use Rattle.std.proofs.Common.{◌≡◌, ◌∙◌, ℕ, false, Some, slice_get}
 use Rattle.entries.specs.Pairs.{value_of}
 use Rattle.row_versions.specs.Chains.{Chains}

@@ -1,4 +1,5 @@
 -- What a session knows of the row that it is at work on stays while another makes a step at another place.
+-- `Sessions` says it of all sessions at once; records, keys and taking back each have a file below.
 use Rattle.std.proofs.Common.{◌≡◌, ◌∙◌, refl, sym, ap, subst, ℕ, Bool, true, false, cond, List, ◌∷◌, Option, None, Some, slice_get}
 use Rattle.inno_types.specs.{declared.value.Schema.Schema}
 use Rattle.inno_model.specs.Past.{own}

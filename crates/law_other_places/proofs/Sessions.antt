@@ -1,4 +1,5 @@
 -- What all sessions know of their rows stays through a step of one of them at its place.
+-- The steps of changes each end with it. Where nobody's keys lag is told here, too.
 use Rattle.std.proofs.Common.{◌≡◌, ◌≢◌, ◌∙◌, ◌⊎◌, inl, inr, ⊎_elim, refl, sym, ap, subst, ℕ, true, false, List, Option, None, Some}
 use Rattle.std.proofs.lemmas.Bool.{cases_Bool, cases_eq, cond-false, true≢false}
 use Rattle.std.specs.List.{list_any}

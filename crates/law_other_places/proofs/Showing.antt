@@ -1,4 +1,5 @@
 -- Each row that a session sees now has its key in each index of its table, however many others are changing rows.
+-- Searches find rows by it: in the clustered index and in each secondary one.
 use Rattle.std.proofs.Common.{◌≡◌, ◌≢◌, ◌∙◌, inl, inr, refl, sym, ap, subst, ℕ, ◌≤◌, ◌<◌, true, List, [], ◌∷◌, length, arith, Option, None, Some, slice_get}
 use Rattle.std.proofs.Common.{is_some}
 use Rattle.std.proofs.lemmas.Bool.{true≢false, cases_lt}

@@ -1,4 +1,5 @@
 -- The steps of a change, as all other sessions see them, and what all sessions know behind each.
+-- The steps of keys stand here; `RecordSteps`, `BackSteps` and `DoneSteps` go on with the others.
 use Rattle.std.proofs.Common.{◌≡◌, ◌≢◌, ◌∙◌, ◌⊎◌, inl, inr, refl, sym, ap, subst, ℕ, true, false, cond, List, Option, None, Some, slice_get}
 use Rattle.std.proofs.lemmas.Bool.{cond-false, true≢false}
 use Rattle.inno_types.specs.{declared.value.Schema.Schema, declared.value.Value.Value}

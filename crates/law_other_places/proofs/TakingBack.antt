@@ -1,4 +1,5 @@
 -- A change that is taken back: each step keeps what is held of all sessions.
+-- `TakenBack` has the step that ends it. Whoever takes changes back under record locks is to cite it.
 use Rattle.std.proofs.Common.{◌≡◌, ◌∙◌, ◌⊎◌, inl, inr, refl, sym, ap, subst, ℕ, ◌≤◌, Bool, true, false, List, ◌∷◌, length}
 use Rattle.std.proofs.Common.{Option, None, Some, slice_get}
 use Rattle.std.proofs.lemmas.Bool.{true≢false}

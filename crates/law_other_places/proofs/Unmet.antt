@@ -1,4 +1,5 @@
--- Another's commit lies outside each plan that a session keeps: as `IsUnmet` of law_beside has it.
+-- Another's commit lies outside each plan that a session keeps: as `IsUnmet` of `law_db` has it.
+-- `law_isolation` asks it of each standing piece of work; `law_locked_work` has it of whole stores.
 use Rattle.std.proofs.Common.{◌≡◌, ◌≢◌, ◌∙◌, refl, sym, ap, subst, ℕ, Bool, true, false, cond, List, [], ◌∷◌, ◌++◌, Option, None, Some}
 use Rattle.std.specs.Prelude.{◌&&◌, ◌||◌}
 use Rattle.std.specs.List.{list_any}

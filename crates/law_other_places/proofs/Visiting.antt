@@ -1,4 +1,5 @@
 -- A search that locks goes on behind an entry: past it, or with its row found.
+-- `AtMarked` and the steps of the record end with it; what was passed is told in `IsLocking`.
 use Rattle.std.proofs.Common.{Vec, Global, ◌≡◌, ◌≢◌, ◌∙◌, ◌⊎◌, inl, inr, refl, sym, ap, subst, ℕ, ◌≤◌, Bool, true, false, ◌&&◌, not, List, [], ◌∷◌, ◌++◌}
 use Rattle.std.proofs.Common.{length, Option, Some}
 use Rattle.std.proofs.lemmas.Bool.{and_parts, and_from}

@@ -1,4 +1,5 @@
 -- What a step of one session leaves of the row at another place.
+-- Each law of a step asks no more of it than this: how the step is made does not matter here.
 use Rattle.std.specs.Prelude.{◌≡◌, ℕ, List, Option, None, Some, slice_get}
 use Rattle.inno_types.specs.declared.value.Schema.{Schema}
 use Rattle.inno_model.specs.Past.{own}

@@ -1,4 +1,5 @@
 -- Which entries of secondary keys a transaction has alone: those that its changes have given a row, or have marked.
+-- Searches in secondary indexes read by it what a mark means; `AreEntriesOwned` holds of all sessions between steps.
 use Rattle.std.specs.Prelude.{◌≡◌, ℕ, ◌++◌, ◌&&◌, ◌||◌, Bool, true, false, List, Some, slice_get}
 use Rattle.std.specs.List.{list_any, list_all}
 use Rattle.inno_types.specs.{declared.lock.Lock.Lock, declared.value.Schema.Schema, declared.value.Value.Value, declared.value.Column.Column}

@@ -1,4 +1,5 @@
 -- What the steps of other sessions leave to a search that locks.
+-- A search asks no more of others' steps. proofs/Committing.antt and proofs/Calls.antt show it of each.
 use Rattle.std.specs.Prelude.{◌≡◌, ◌⊎◌, ℕ, Bool, true, false, List, Option, None, Some}
 use Rattle.inno_types.specs.{declared.lock.Lock.Lock, declared.value.Value.Value}
 use Rattle.inno_db.specs.Indexes.{index_of}

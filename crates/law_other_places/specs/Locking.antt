@@ -1,4 +1,5 @@
 -- What a search that locks knows between its steps: of each key of its range that it has come past.
+-- The laws of a search go from one to the next. The rows are found, and each is locked where the session sees it.
 use Rattle.std.specs.Prelude.{◌≡◌, ℕ, Bool, true, false, ◌&&◌, not, List, length, Option, None, Some}
 use Rattle.std.specs.Ordering.{is_le, is_lt}
 use Rattle.inno_types.specs.{declared.lock.Lock.Lock, declared.value.Schema.Schema, declared.value.Value.Value, declared.stmt.Range.Range, Ranges.is_within}

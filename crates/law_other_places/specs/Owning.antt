@@ -1,4 +1,5 @@
 -- Whose a place is, by the locks of records: it takes the place of "only who may write is at work on a row".
+-- Every law here that keeps two sessions apart asks it; the lock table itself is described in `lock_table`.
 use Rattle.std.specs.Prelude.{◌≡◌, ℕ, true, List, Some}
 use Rattle.std.specs.List.{list_any}
 use Rattle.inno_types.specs.declared.lock.Lock.{Lock}

@@ -1,4 +1,5 @@
 -- What a session keeps of a search that is over.
+-- `Ending` gives it and proofs/Plans.antt keeps it. `law_locked_work` has the same of stores of searches and locks alone.
 use Rattle.std.specs.Prelude.{◌≡◌, ◌≤◌, ℕ, false, List, length, Some, slice_get}
 use Rattle.inno_types.specs.{declared.lock.Lock.Lock, declared.value.Schema.Schema}
 use Rattle.store_api.specs.declared.answers.Undo.{Undo}

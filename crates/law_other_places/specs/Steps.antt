@@ -1,4 +1,5 @@
 -- A step of one session at one place, as all other sessions see it.
+-- The laws of changes and of taking back give it; searches and others' rows go on by it.
 use Rattle.std.specs.Prelude.{◌≡◌, ◌≢◌, ℕ, false, List, Option, Some}
 use Rattle.row_versions.specs.{declared.place.Place.Place}
 use Rattle.row_versions.specs.Chains.{Chains, versions_at}

@@ -1,4 +1,5 @@
 -- Pages alone stand for one database.
+-- The laws of `undo` end here; what stands beside pages of rows is read off undo pages and slots.
 use Rattle.std.proofs.Common.{◌≡◌, ℕ, ◌+◌, Bool, false, Option, Some, None, List, [], ◌∷◌, length, take, drop, refl, sym, ap, subst, ◌∙◌}
 use Rattle.std.proofs.Common.{arith}
 use Rattle.inno_types.specs.declared.value.Value.{Value}

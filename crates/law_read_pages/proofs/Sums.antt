@@ -1,4 +1,5 @@
 -- What pages alone read as has nothing to do with their sums.
+-- A commit and a flush write sums; so pages in memory and on a disk read as one. `Going` and the laws of `undo` ask it.
 use Rattle.std.proofs.Common.{◌≡◌, ℕ, ◌<◌, Bool, false, true, cond, List, ◌++◌, drop, sym, inl, inr, ap, subst, ◌∙◌, arith, drop-drop}
 use Rattle.std.specs.Prelude.{nat_lt, replicate}
 use Rattle.std.proofs.lemmas.Bool.{cases_lt}

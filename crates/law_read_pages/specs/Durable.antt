@@ -1,4 +1,5 @@
 -- What an engine over pages keeps of its files since a moment.
+-- The law of `steps` gives it for one step. An engine that keeps its rows in pages is to have it of each.
 use Rattle.std.specs.Prelude.{◌≡◌, ◌≢◌, ℕ, ◌<◌, ◌≤◌, false, Option, Some, None, List}
 use Rattle.store_api.specs.Areas.{State, Image, IsImage, IsHonest, seen_image}
 use Rattle.store_api.specs.Past.{Past, Ticks}

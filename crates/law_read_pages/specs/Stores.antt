@@ -1,4 +1,5 @@
 -- What contracts see of pages in memory with their log and disk, and what one step makes of them.
+-- `Durable` speaks of such files. No engine that runs keeps its rows in pages yet.
 use Rattle.std.specs.Prelude.{◌≡◌, ℕ, ◌+◌, ◌<◌, ◌≤◌, Bool, true, false, List, ◌++◌, length, None}
 use Rattle.store_api.specs.Past.{Past, Now, Meanwhile}
 use Rattle.log_format.specs.declared.group.Group.{Group}

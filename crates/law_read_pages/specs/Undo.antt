@@ -1,4 +1,5 @@
 -- What pages alone are read as: their older versions stand in undo pages, and their open transactions in slots.
+-- Recovery is to ask no more than this of pages: nothing that stood in memory alone.
 use Rattle.std.specs.Prelude.{◌≡◌, ℕ, zero, suc, ◌+◌, ◌*◌, ◌<◌, Bool, false, ◌==◌, ◌&&◌, ◌||◌, not, if◌then◌else◌, Option, Some, List, length, take, drop}
 use Rattle.std.specs.Prelude.{slice_index, nat_lt}
 use Rattle.inno_db.specs.Database.{Database}

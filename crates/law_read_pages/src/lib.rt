@@ -1,6 +1,7 @@
-//! Laws: what whoever opens a database reads of the records, older versions and open transactions of an engine that was going
-//! on (specs/Rows.antt), and of its pages (specs/Pages.antt), is what was committed. Recovery of rows in pages is to rest on
-//! them. Each function has an empty body: its contract is the law.
+//! Laws: what whoever opens a database reads of the records, older versions and open transactions of an engine that was going on
+//! (specs/Rows.antt), of its pages with what it kept in memory (specs/Pages.antt), and of pages alone, with undo pages and slots
+//! (specs/Undo.antt), is what was committed; and a step of an engine over pages leaves that so, whenever a crash comes
+//! (specs/Durable.antt). Recovery of rows in pages is to rest on them. Each function has an empty body: its contract is the law.
 #![tactic(auto)]
 
 mod pages;

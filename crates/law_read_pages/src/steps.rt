@@ -1,4 +1,5 @@
 //! A step.
+//! Whatever moment of an engine over pages a crash meets, what is read afterwards is what was committed until then.
 
 ghost use Rattle.std.specs.Prelude.{List};
 ghost use Rattle.store_api.specs.Past.{Past};

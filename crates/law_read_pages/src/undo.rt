@@ -1,4 +1,5 @@
 //! What pages alone read as.
+//! No crate cites them yet: no engine that runs keeps its older versions in pages.
 
 ghost use Rattle.std.specs.Prelude.{◌≡◌, ℕ, Bool, false, ◌<◌, ◌+◌, List, map, Option, Some, None, [], ◌∷◌};
 ghost use Rattle.std.specs.FinMap.{get};

@@ -1,5 +1,5 @@
 //! A sound tree whose root gets a level below it.
-//! `btree_raise` cites the lemma behind it (proofs/Raising.antt).
+//! `btree_grow` cites the lemma behind it (proofs/Raising.antt).
 
 ghost use Rattle.std.specs.Prelude.{◌≡◌, ℕ, List, [], ◌∷◌};
 ghost use Rattle.law_flat_tree.specs.PageSplits.{StandsNowhere};

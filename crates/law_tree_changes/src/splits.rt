@@ -1,5 +1,5 @@
 //! A sound tree of which a page is split, and what is known of the keys of any inner page.
-//! `btree_grow`, `btree_insert`, `btree_raise` and `btree_split` cite the lemmas behind them (proofs/Splitting.antt).
+//! `btree_grow` and `btree_split` cite the lemmas behind them (proofs/Splitting.antt).
 
 ghost use Rattle.std.specs.Prelude.{◌≡◌, ℕ, List, ◌∷◌, ◌++◌, length, take, map};
 ghost use Rattle.page_format.specs.Shape.{AreRising};

@@ -1,4 +1,5 @@
-//! A checkpoint: page 0 says a new run, so that the log begins anew. It is made once nothing is left to be flushed.
+//! A checkpoint: page 0 says a new run, so that the log begins anew. It is made once nothing is left to be flushed, and the laws
+//! of `new_runs` tell what a crash leaves meanwhile.
 //! Whoever has the pool, the log and the disk calls `checkpoint`; after it no group may be appended to the old log.
 #![tactic(auto)]
 

@@ -1,5 +1,5 @@
 //! Changes of rows as small machines over any world: one call of the world a step.
-//! `world_lists` drives them for statements, and an opening enters the keys of its rows by one (`opened_world`).
+//! `world_lists` drives them for statements, and an opening enters the keys of its rows by one (`engine`).
 //! Rollback has machines of its own, in `undo_apply`.
 #![tactic(auto)]
 

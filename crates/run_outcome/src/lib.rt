@@ -1,5 +1,5 @@
-//! What surrounds a run: its words, its script read whole, its history printed, and the fault and cause that it ends with.
-//! No engine is met here.
+//! What surrounds a run: its words, its script read whole, its history printed, or told as a line by a replay of its entries
+//! (`report`), and the fault and cause that it ends with. No engine is met here.
 #![tactic(auto)]
 
 mod cause;

@@ -1,5 +1,5 @@
 //! The line that tells what a generated script has done.
-//! `run_outcome` prints it when such a script was played; a history is only read here.
+//! `reports` prints it when such a script was played; a history is only read here.
 
 ghost use Rattle.std.specs.Prelude.{◌≡◌, ◌<◌, ◌≤◌, ◌*◌, ◌^◌, IfOk};
 ghost use Rattle.std.specs.String.{string_bytes};

@@ -1,5 +1,5 @@
 //! Why a reader stops: memory ran out, or nothing is spelled at the front of the bytes.
-//! The readers of `log_format` and `catalog_entry` stop with this type too.
+//! The readers of `log_format` and `catalog` stop with this type too.
 
 ghost use Rattle.std.specs.Prelude.{◌≡◌};
 ghost use Rattle.schema_codec.specs.declared.stop.Stop.TheVariants.{Memory};

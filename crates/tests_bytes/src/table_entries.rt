@@ -1,5 +1,5 @@
 //! An entry with two columns, one key and two roots is read and spelled again. Entries that are none are refused.
-//! Only `catalog_entry` is tried: no page has the entry.
+//! Only the entries of `catalog` are tried: no page has the entry.
 
 use catalog::{EntryBad, get_entry, put_entry};
 use std::alloc::Global;

@@ -4,8 +4,7 @@
 ghost use Rattle.std.specs.Prelude.{◌≡◌, [], IsTrue, IfOk};
 ghost use Rattle.catalog.specs.Tables.{is_new_name, IsCatalog};
 
-use catalog::{could_be_made, create, load};
-use catalog::{Held, Schemas};
+use catalog::{Held, Schemas, could_be_made, create, load};
 use inno_types::{Bytes, Column, Key, Kind, Listed, Schema};
 use mtr::{ListedPages, Mtr};
 use std::alloc::{AllocError, Global};

@@ -1,5 +1,5 @@
-//! The bytes of the log and its reader, and what crashes leave of groups and of pages.
-//! There is nothing here but tests.
+//! The bytes of the log and its reader, what crashes leave of groups and of pages, and what disks in memory, files and failing
+//! files do. There is nothing here but tests.
 #![tactic(auto)]
 
 #[cfg(test)]
