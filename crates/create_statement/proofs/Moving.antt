@@ -20,7 +20,8 @@ use Rattle.law_past_agreement.specs.Order.{created}
 use Rattle.shared_lists.specs.Tasks.{Idle}
 use Rattle.shared_lists.specs.State.{State, IsNow, Adds, Closes, Stays, task_of}
 use Rattle.sql_lists.specs.Kept.{AreStanding, OwesAck}
-use Rattle.sql_lists.specs.Tables.{MayMake, MakesNone, begun, created_by, table_made}
+use Rattle.sql_lists.specs.Tables.{MayMake, MakesNone}
+use Rattle.shared_lists.specs.Tables.{begun, created_by, table_made}
 use Rattle.sql_lists.specs.Going.{NearsAcked}
 use Rattle.sql_lists.specs.Steps.{Steps, GoesOnAcked, AsksToWrite, changes_rows, HasRowsAlone, plain_edge, open_txn, is_apart}
 use Rattle.sql_lists.specs.declared.advance.Advance.TheVariants as advance

@@ -32,7 +32,7 @@ use Rattle.law_past_agreement.specs.Order.{is_creation}
 use Rattle.law_db.specs.Beside.{is_change_at, touches, AreOfRows, passed, IsUnmet}
 use Rattle.law_db.proofs.Apart.{schemas_stay, get_untouched}
 use Rattle.law_histories.specs.Work.{committed_db}
-use Rattle.write_statement.proofs.Found.{same_map}
+use Rattle.sql_lists.proofs.MoreTables.{same_map}
 use Rattle.law_locks.specs.Guards.{has_record}
 use Rattle.law_locks.specs.Barring.{ChangedRow, KeepsRow}
 use Rattle.law_locks.proofs.Outside.{none_before, none_behind}

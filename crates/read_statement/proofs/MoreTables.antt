@@ -19,6 +19,8 @@ use Rattle.law_past_agreement.specs.DatabaseTables.{with_all_tables}
 use Rattle.sql_plan.specs.declared.choice.Plan.{Plan}
 use Rattle.shared_lists.specs.Steps.{AreRowsSeen, rows_in_range}
 use Rattle.sql_lists.specs.Kept.{made, AreInOrder}
+use Rattle.sql_lists.proofs.MoreTables.{over, key_over, put_alike, rows_of_map}
+use Rattle.sql_lists.proofs.Standing.{schemas_after}
 use Rattle.sql_lists.proofs.Staying.{opening_stays}
 use Rattle.sql_history.specs.Readings.{is_plain_select}
 use Rattle.read_statement.specs.Planning.{IsPlanned}
@@ -26,62 +28,17 @@ use Rattle.read_statement.proofs.Tables.{grown, same_seen, table_stays}
 
 -- ---- the same changes over more tables
 
--- the tables of a database after changes
-pub schemas_after : (db : Database) (changes : List Change) → (changed db changes).schemas ≡ db.schemas ++ made changes
-schemas_after db [] = sym (append-nil db.schemas)
-schemas_after db (Create schema ∷ changes) =
-    ap (λ (schemas : List Schema). schemas ++ schema ∷ []) (schemas_after db changes) ∙ append_assoc db.schemas (made changes) (schema ∷ [])
-schemas_after db (Put table row ∷ changes) = schemas_after db changes
-schemas_after db (Remove table key ∷ changes) = schemas_after db changes
-
-pub rows_of_map : (table : ℕ) (a b : Database) → a.rows ≡ b.rows → rows_of table a ≡ rows_of table b
-rows_of_map table a b same = ap (λ (m : RowMap). rows_of table (record { schemas = []; rows = m })) same
-
 module _ (db : Database) where
-  abbrev pub over : List Schema → Database
-  over tables = record db { schemas = tables }
-
-  -- the key of a row in a table that is there before these changes
-  key_over : (tables schemas more : List Schema) (earlier : List Change) (table : ℕ) (row : List Value) → tables ≡ schemas ++ more → table < length schemas
-      → key_in (changed (over tables) earlier).schemas table row ≡ key_in schemas table row
-  key_over tables schemas more earlier table row is lt =
-      ap (λ (l : List Schema). key_in l table row)
-      (schemas_after (over tables) earlier ∙ (ap (λ (l : List Schema). l ++ made earlier) is ∙ append_assoc schemas more (made earlier)))
-      ∙ key_stays schemas (more ++ made earlier) table row lt
-
-  put_alike : (tables : List Schema) (earlier : List Change) (table : ℕ) (row : List Value)
-      → (changed (over tables) earlier).rows ≡ (changed db earlier).rows
-      → key_in (changed (over tables) earlier).schemas table row ≡ key_in (changed db earlier).schemas table row
-      → (changed (over tables) (Put table row ∷ earlier)).rows ≡ (changed db (Put table row ∷ earlier)).rows
-  put_alike tables earlier table row same keys =
-      ap (λ (m : RowMap). insert m (table, key_in (changed (over tables) earlier).schemas table row) row) same
-      ∙ ap (λ (key : Value). insert (changed db earlier).rows (table, key) row) keys
-
   -- changes of tables that are there before all of them
   pub rows_beside : (more : List Schema) (changes : List Change) → AllByRecursion (IsTabled (length db.schemas)) changes
-      → (changed (over (db.schemas ++ more)) changes).rows ≡ (changed db changes).rows
+      → (changed (over db (db.schemas ++ more)) changes).rows ≡ (changed db changes).rows
   rows_beside more [] all = refl
   rows_beside more (Create schema ∷ earlier) all = rows_beside more earlier all.1
   rows_beside more (Put table row ∷ earlier) all =
-      put_alike (db.schemas ++ more) earlier table row (rows_beside more earlier all.1)
-      (key_over (db.schemas ++ more) db.schemas more earlier table row refl all.0
+      put_alike db (db.schemas ++ more) earlier table row (rows_beside more earlier all.1)
+      (key_over db (db.schemas ++ more) db.schemas more earlier table row refl all.0
       ∙ sym (ap (λ (l : List Schema). key_in l table row) (schemas_after db earlier) ∙ key_stays db.schemas (made earlier) table row all.0))
   rows_beside more (Remove table key ∷ earlier) all = ap (λ (m : RowMap). remove m (table, key)) (rows_beside more earlier all.1)
-
-  -- changes each of which is of a table that is there before it, over all tables that there are at last
-  pub rows_before : (tables more : List Schema) (changes : List Change) → tables ≡ (db.schemas ++ made changes) ++ more → AreInOrder db.schemas changes
-      → (changed (over tables) changes).rows ≡ (changed db changes).rows
-  rows_before tables more [] is in-order = refl
-  rows_before tables more (Create schema ∷ earlier) is in-order =
-      let later : tables ≡ (db.schemas ++ made earlier) ++ (schema ∷ more) =
-      is ∙ (ap (λ (l : List Schema). l ++ more) (sym (append_assoc db.schemas (made earlier) (schema ∷ []))) ∙ append_assoc (db.schemas ++ made earlier)
-      (schema ∷ []) more) in
-      rows_before tables (schema ∷ more) earlier later in-order.1
-  rows_before tables more (Put table row ∷ earlier) is in-order =
-      put_alike tables earlier table row (rows_before tables more earlier is in-order.1)
-      (key_over tables (db.schemas ++ made earlier) more earlier table row is in-order.0 ∙ sym
-      (ap (λ (l : List Schema). key_in l table row) (schemas_after db earlier)))
-  rows_before tables more (Remove table key ∷ earlier) is in-order = ap (λ (m : RowMap). remove m (table, key)) (rows_before tables more earlier is in-order.1)
 
 -- ---- tables that come later
 

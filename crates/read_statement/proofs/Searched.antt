@@ -24,7 +24,8 @@ use Rattle.law_found_rows.proofs.FittingDatabases.{seen_coded}
 use Rattle.law_found_rows.proofs.Fits.{fitting_rows_fit}
 use Rattle.read_statement.specs.declared.machine.Found.{Found}
 use Rattle.read_statement.specs.Running.{HasFound, IsSeen}
-use Rattle.read_statement.proofs.MoreTables.{schemas_after, got_before}
+use Rattle.sql_lists.proofs.Standing.{schemas_after}
+use Rattle.read_statement.proofs.MoreTables.{got_before}
 use Rattle.read_statement.proofs.Planned.{by_plan}
 
 -- ---- what fits

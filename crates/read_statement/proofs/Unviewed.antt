@@ -25,7 +25,8 @@ use Rattle.shared_lists.specs.Steps.{AreRowsSeen, rows_in_range}
 use Rattle.sql_lists.specs.Kept.{AreStanding, IsInOrder, made}
 use Rattle.read_statement.specs.Planning.{IsPlanned}
 use Rattle.read_statement.specs.Running.{IsSeen, AreRead}
-use Rattle.read_statement.proofs.MoreTables.{schemas_after, rows_of_map, rows_before}
+use Rattle.sql_lists.proofs.Standing.{schemas_after}
+use Rattle.sql_lists.proofs.MoreTables.{rows_of_map, rows_before}
 use Rattle.read_statement.proofs.Newest.{newest_is}
 use Rattle.read_statement.proofs.Planned.{by_plan, by_all, whole_range}
 use Rattle.read_statement.proofs.Searched.{rows_seen_fit}

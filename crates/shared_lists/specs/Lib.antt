@@ -3,3 +3,4 @@ pub mod Tasks
 pub mod State
 pub mod Answers
 pub mod Steps
+pub mod Tables

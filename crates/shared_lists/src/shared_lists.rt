@@ -4,9 +4,8 @@
 ghost use Rattle.std.specs.Prelude.{◌≡◌, ◌≢◌, ℕ, ◌+◌, ◌-◌, ◌<◌, ◌≤◌, ◌^◌, [], ◌∷◌, ◌++◌, true, false, length, is_some, OnOk, OnErr, IfOk, IfSome, IfNone, Some, None, slice_get, slice_index_or, slice_set};
 ghost use Rattle.inno_types.specs.Order.{IsBelow};
 ghost use Rattle.inno_types.specs.declared.value.Schema.{Schema};
-ghost use Rattle.inno_db.specs.declared.change.Change.TheVariants.{Create};
 ghost use Rattle.inno_model.specs.declared.event.Event.TheVariants.{Begin, Started, View, Changed as ChangedEvent, Undone as UndoneEvent, Ended, Committed, Acked, RolledBack, Signal};
-ghost use Rattle.inno_model.specs.Past.{under_way, level, own, started, begins, view_of, txn, IsOpen};
+ghost use Rattle.inno_model.specs.Past.{under_way, level, own, started, begins, view_of, txn, IsOpen, IsClosed};
 ghost use Rattle.sql_history.specs.Counts.{rows_of_reply};
 ghost use Rattle.sql_history.specs.Settings.{at_first, at_begin, at_end, saved, set_by};
 ghost use Rattle.store_api.specs.declared.stepped.Stepped.TheVariants.{Went};
@@ -16,6 +15,7 @@ ghost use Rattle.shared_lists.specs.Fitting.{FitsWell, FitsThen, RemovesOne};
 ghost use Rattle.shared_lists.specs.Tasks.{Idle, Searching, is_changing, asked, steps_left, MayTakeBack};
 ghost use Rattle.shared_lists.specs.State.{Lists, task_of, places_before, counted, Adds, Closes, Turns, Stays, IsNow};
 ghost use Rattle.law_past_agreement.specs.Slots.{writer_without};
+ghost use Rattle.shared_lists.specs.Tables.{table_made, set_after, MakesNoTable};
 ghost use Rattle.shared_lists.specs.Steps.{Searches, AreNewestRows, Changes, rows_entered, TakesBack};
 
 use crate::answers::{Changed, Reading, Searched, Undone};
@@ -169,17 +169,17 @@ pub trait SharedLists: Drop {
         ensures settings { (lists self.new).settings ≡ (lists self.old).settings }
         ensures rows { (lists self.new).rows ≡ (lists self.old).rows };
 
-    /// Makes a table, by the session that may write. An `Err` changes nothing.
-    fn create(&mut self, session: u32, schema: Schema) -> Result<(), NoMemory>
+    /// Makes a table in a transaction of its own, which is committed: one call, so that nobody meets a table that isn't.
+    /// Where no memory is found nothing is made, and a transaction that was opened for it is rolled back.
+    fn make_table(&mut self, session: u32, level: Level, schema: Schema) -> Result<(), NoMemory>
         requires joined { session < length (lists self.old).state.names }
-        requires may { MayCome (lists self.old).state.past (ChangedEvent session (Create schema)) }
-        requires locked { (lists self.old).state.writer ≡ Some session }
+        requires closed { IsClosed session (lists self.old).state.past }
+        requires free { (lists self.old).state.writer ≡ None }
         requires idle { task_of session (lists self.old).state ≡ Idle }
-        requires first { own session (lists self.old).state.past ≡ [] }
         requires storable { IsStorable schema }
-        ensures ok { OnOk result (Adds (ChangedEvent session (Create schema)) session (lists self.old).state (lists self.new).state) }
-        ensures err { OnErr result (Stays session (lists self.old).state (lists self.new).state) }
-        ensures settings { (lists self.new).settings ≡ (lists self.old).settings }
+        ensures ok { OnOk result (IsNow (table_made session level schema (lists self.old).state.past) session Idle None (lists self.old).state (lists self.new).state) }
+        ensures settings { OnOk result ((lists self.new).settings ≡ set_after (lists self.old).settings session) }
+        ensures err { OnErr result (MakesNoTable session level (lists self.old) (lists self.new)) }
         ensures rows { (lists self.new).rows ≡ (lists self.old).rows };
 
     /// Commits the session's transaction, which may write no longer. No change of it lags.

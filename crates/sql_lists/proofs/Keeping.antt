@@ -26,11 +26,13 @@ use Rattle.shared_lists.specs.Tasks.{Task, Idle, asked}
 use Rattle.shared_lists.specs.State.{State, Lists, IsFirst, IsNow, Adds, Closes, Stays, task_of}
 use Rattle.law_past_agreement.specs.Slots.{writer_without}
 use Rattle.shared_lists.specs.Steps.{Changes, TakesBack, rows_of_change, rows_entered}
-use Rattle.sql_lists.specs.Tables.{MayMake, begun, created_by, table_made, none_made}
+use Rattle.sql_lists.specs.Tables.{MayMake}
+use Rattle.shared_lists.specs.Tables.{begun, created_by, table_made, none_made, set_after, MakesNoTable}
+use Rattle.shared_lists.proofs.Calls.{then_now}
 use Rattle.sql_lists.specs.Kept.{IsKept, MayReply, is_of_signal, OwesAck, SetsQuietly, AreStanding, IsInOrder, made as tables_made}
 use Rattle.sql_lists.proofs.Settings.{AllSet, set_other, sets_one, sets_none, sets_joined, set_at_begin, set_at_commit, set_at_rollback, set_at_end}
 use Rattle.sql_lists.proofs.Settings.{set_at_signal, set_at_done}
-use Rattle.sql_lists.proofs.{Ordered.same_seen, Ordered.ordered_changed, Ordered.ordered_undone, Ordered.ordered_committed, Moving.writer_gone}
+use Rattle.sql_lists.proofs.{Ordered.same_seen, Ordered.ordered_changed, Ordered.ordered_undone, Ordered.ordered_committed}
 use Rattle.sql_lists.proofs.Standing.{schemas_after, committed_is, stands_plain, stands_row, stands_begun, stands_rolled_back, stands_undone}
 use Rattle.sql_lists.proofs.Standing.{stands_committed, stands_made}
 use Rattle.inno_types.specs.{declared.lock.Level.Level, declared.lock.Level.TheVariants.ReadUncommitted, declared.lock.Level.TheVariants.ReadCommitted}
@@ -39,7 +41,7 @@ use Rattle.inno_types.specs.{declared.value.Schema.Schema, declared.stmt.Stmt.St
 use Rattle.inno_types.specs.{declared.stmt.LevelScope.TheVariants.NextTransaction, declared.reply.Item.Item, declared.reply.Reply.Reply}
 use Rattle.inno_db.specs.{declared.change.Change.Change, declared.change.Change.TheVariants.Create, declared.change.Change.TheVariants.Put}
 use Rattle.inno_db.specs.{declared.change.Change.TheVariants.Remove, declared.limits.TheConstants.MOST_TABLES}
-use Rattle.sql_lists.proofs.{Moving.then_now, Staying.own_of}
+use Rattle.sql_lists.proofs.Staying.{own_of}
 
 cons_is_some : (e : Event) (h : List Event) → e ∷ h ≡ [] → ⊥
 cons_is_some e h is = cc
@@ -262,11 +264,6 @@ module _ {names : List (List ℕ)} {h : List Event} {settings : List Setting} {r
 
 -- ---- a table
 
--- what the session has set after a transaction that began and ended
-abbrev pub set_after : List Setting → ℕ → List Setting
-set_after settings s =
-    let begun = set settings s (at_begin (get_or settings s at_first)) in set begun s (at_end (get_or begun s at_first))
-
 module _ {names : List (List ℕ)} {h : List Event} {settings : List Setting} {rows : ℕ} (kept : IsKept names h settings rows) (s : ℕ) (l : Level)
     (schema : Schema) (joined : s < length names) (may : MayMake s l schema h) where
   abbrev early : List Setting
@@ -424,47 +421,14 @@ pub saves_as : (name : List ℕ) (made : ℕ) (l : Option Level) (x : Setting) �
     → record x { saves = saved name made true x.saves } ≡ set_by (stmts.Savepoint name) made (is_some l) x
 saves_as name made l x is_open = rw is_open refl
 
--- ---- a table is made by the calls of one step
+-- ---- a table is made, or none
 
-if_none : (told : Option ℕ) (P : Type 0) → told ≡ None → IfNone told P → P
-if_none None P is holds = holds
-if_none (Some other) P is holds = (let x : Some other ≡ None = is in cc)
-
--- its transaction has begun, and may write
-pub now_locked : (s : ℕ) (l : Level) (told : Option ℕ) (old one two : State) → old.writer ≡ None → task_of s old ≡ Idle
-    → Adds (events.Begin s (begins old.past + 1) l) s old one → told ≡ writer_without one.writer s
-    → IfNone told (IsNow one.past s (task_of s one) (Some s) one two) → IsNow (begun s l old.past) s Idle (Some s) old two
-now_locked s l told old one two free idle adds is locks =
-    let locked = if_none told _ (is ∙ ap (λ w. writer_without w s) (adds.writer_is ∙ free)) locks in
-    subst (λ (task : Task). IsNow (begun s l old.past) s task (Some s) old two) idle (then_now adds (λ h. h) (λ w. Some s) locked)
-
--- what is set behind
-sets_after : (s : ℕ) (old mid new : Lists) → mid.settings ≡ set old.settings s (at_begin (get_or old.settings s at_first))
-    → new.settings ≡ set mid.settings s (at_end (get_or mid.settings s at_first)) → new.settings ≡ set_after old.settings s
-sets_after s old mid new sets ends = ends ∙ ap (λ (x : List Setting). set x s (at_end (get_or x s at_first))) sets
-
-module _ (s : ℕ) (l : Level) (schema : Schema) (old two three new : Lists) (kept : AreKept old) (joined : s < length old.state.names)
-    (may : MayMake s l schema old.state.past) (locked : IsNow (begun s l old.state.past) s Idle (Some s) old.state two.state)
-    (sets : three.settings ≡ set old.settings s (at_begin (get_or old.settings s at_first))) (counts : three.rows ≡ old.rows)
-    (ends : new.settings ≡ set three.settings s (at_end (get_or three.settings s at_first))) (still : new.rows ≡ three.rows) where
-  pub now_made : Adds (events.Changed s (Create schema)) s two.state three.state → Closes (events.Committed s) s three.state new.state
-      → IsNow (table_made s l schema old.state.past) s Idle None old.state new.state
-  now_made adds closes =
-      let created_now = then_now locked (λ h. events.Changed s (Create schema) ∷ h) (λ w. w) adds in
-      subst (λ w. IsNow (table_made s l schema old.state.past) s Idle w old.state new.state) (writer_gone s)
-      (then_now created_now (λ h. events.Committed s ∷ h) (λ w. writer_without w s) closes)
-
-  pub by_made : length (created old.state.past) < MOST_TABLES → Adds (events.Changed s (Create schema)) s two.state three.state
-      → Closes (events.Committed s) s three.state new.state → AreKept new
-  by_made room adds closes =
-      by_now old new (now_made adds closes) (sets_after s old three new sets ends) (still ∙ counts) (kept_made kept s l schema joined may room)
-
-  pub now_none_made : Stays s two.state three.state → Closes (events.RolledBack s) s three.state new.state
-      → IsNow (none_made s l old.state.past) s Idle None old.state new.state
-  now_none_made stays closes =
-      subst (λ w. IsNow (none_made s l old.state.past) s Idle w old.state new.state) (writer_gone s)
-      (then_now (then_now locked (λ h. h) (λ w. w) stays) (λ h. events.RolledBack s ∷ h) (λ w. writer_without w s) closes)
-
-  pub by_none_made : Stays s two.state three.state → Closes (events.RolledBack s) s three.state new.state → AreKept new
-  by_none_made stays closes =
-      by_now old new (now_none_made stays closes) (sets_after s old three new sets ends) (still ∙ counts) (kept_none_made kept s l schema joined may)
+pub by_make_table : {X Y : Type 0} (s : ℕ) (l : Level) (schema : Schema) (result : Result X Y) (old new : Lists) → AreKept old → s < length old.state.names
+    → MayMake s l schema old.state.past → length (created old.state.past) < MOST_TABLES
+    → OnOk result (IsNow (table_made s l schema old.state.past) s Idle None old.state new.state) → OnOk result (new.settings ≡ set_after old.settings s)
+    → OnErr result (MakesNoTable s l old new) → new.rows ≡ old.rows → AreKept new
+by_make_table s l schema (Ok x) old new kept joined may room made sets none counts = by_now old new made sets counts (kept_made kept s l schema joined may room)
+by_make_table s l schema (Err x) old new kept joined may room made sets none counts = elim none [
+  | inl stays ↦ by_now old new stays.0 stays.1 counts kept
+  | inr undone ↦ by_now old new undone.0 undone.1 counts (kept_none_made kept s l schema joined may)
+]

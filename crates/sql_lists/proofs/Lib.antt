@@ -4,3 +4,4 @@ mod Settings
 pub mod Standing
 mod Ordered
 mod Keeping
+pub mod MoreTables

@@ -21,7 +21,8 @@ use Rattle.sql_lists.specs.Steps.{Adding, IsEntryOf, MayWriteAlone, AsksToWrite,
 use Rattle.inno_types.specs.Order.{IsBelow}
 use Rattle.inno_types.specs.{declared.lock.Level.Level, declared.stmt.Stmt.Stmt, declared.value.Schema.Schema}
 use Rattle.sql_history.specs.{Legal.Takes, Legal.IsCreation, Counts.last_moment}
-use Rattle.sql_lists.specs.{Tables.table_made, Tables.none_made, Going.left, Going.to_close, Going.to_roll_back, Going.to_search}
+use Rattle.shared_lists.specs.Tables.{table_made, none_made}
+use Rattle.sql_lists.specs.{Going.left, Going.to_close, Going.to_roll_back, Going.to_search}
 
 -- ---- how the past goes on
 
@@ -178,22 +179,6 @@ moves_closes t e old new mine unacked spares closes =
     (one_told t old e (λ changes. absurd (false≢true (sym spares ∙ changes)))) (unacked, tt) (spares_moment e old.past unacked)
     (λ s differ held. closes.writer_is ∙ still_another old.writer t s differ held)
     (λ mine. absurd (none_left old.writer t (sym closes.writer_is ∙ mine)))
-
--- ---- several calls of one step
-
-pub then_now : {s : ℕ} {past : List Event} {task : Task} {writer : Option ℕ} {old mid new : State} → IsNow past s task writer old mid
-    → (f : List Event → List Event) (g : Option ℕ → Option ℕ) → IsNow (f mid.past) s (task_of s mid) (g mid.writer) mid new
-    → IsNow (f past) s task (g writer) old new
-then_now first f g now = record {
-  names_are = now.names_are ∙ first.names_are;
-  past_is = now.past_is ∙ ap f first.past_is;
-  writer_is = now.writer_is ∙ ap g first.writer_is;
-  task_is = now.task_is ∙ first.task_is;
-  others = λ t differ. now.others t differ ∙ first.others t differ;
-}
-
-pub writer_gone : (s : ℕ) → writer_without (Some s) s ≡ None
-writer_gone s = elim (eqb_tells s s) [ inl same ↦ rw same.0 refl | inr differ ↦ absurd (differ.1 refl) ]
 
 nobody_else : (t : ℕ) (writer : Option ℕ) → writer ≡ None → MayWriteAlone t writer
 nobody_else t writer none s differ theirs = (let x : None ≡ Some s = sym none ∙ theirs in cc)

@@ -1,28 +1,12 @@
--- How a table is made: its own transaction begins, changes and commits in one step.
-use Rattle.std.specs.Prelude.{◌⊎◌, ℕ, ◌+◌, List, ◌∷◌, None}
+-- When the entries by which a table is made may come, by the rules of SQL.
+-- `make_table` asks for it, and its callers' contracts cite what comes where no memory is found.
+use Rattle.std.specs.Prelude.{◌⊎◌, ℕ, ◌+◌, List, None}
 use Rattle.inno_types.specs.{declared.lock.Level.Level, declared.value.Schema.Schema}
 use Rattle.inno_db.specs.declared.change.Change.TheVariants.{Create}
-use Rattle.inno_model.specs.{declared.event.Event.Event, declared.event.Event.TheVariants.Begin, declared.event.Event.TheVariants.Changed}
-use Rattle.inno_model.specs.{declared.event.Event.TheVariants.Committed, declared.event.Event.TheVariants.RolledBack, Past.begins}
+use Rattle.inno_model.specs.{declared.event.Event.Event, Past.begins}
 use Rattle.sql_grammar.specs.Grammar.{Spells}
 use Rattle.sql_history.specs.Legal.{MayBegin, MayChange, MayCommit, MayRollBack}
-use Rattle.shared_lists.specs.{Tasks.Idle, State.State, State.IsNow, State.Stays}
-
--- the session's next transaction has begun
-abbrev pub begun : ℕ → Level → List Event → List Event
-begun s l past = Begin s (begins past + 1) l ∷ past
-
--- it has made the table
-abbrev pub created_by : ℕ → Level → Schema → List Event → List Event
-created_by s l schema past = Changed s (Create schema) ∷ begun s l past
-
--- and is committed
-abbrev pub table_made : ℕ → Level → Schema → List Event → List Event
-table_made s l schema past = Committed s ∷ created_by s l schema past
-
--- or it has made nothing, and is rolled back
-abbrev pub none_made : ℕ → Level → List Event → List Event
-none_made s l past = RolledBack s ∷ begun s l past
+use Rattle.shared_lists.specs.{Tasks.Idle, State.State, State.IsNow, State.Stays, Tables.begun, Tables.created_by, Tables.none_made}
 
 -- each of these entries may come
 pub record MayMake (s : ℕ) (l : Level) (schema : Schema) (past : List Event) : Type 0 where

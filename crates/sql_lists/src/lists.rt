@@ -24,7 +24,8 @@ ghost use Rattle.shared_lists.specs.State.{IsFirst, IsNow, Adds, Closes, Turns, 
 ghost use Rattle.law_past_agreement.specs.Slots.{writer_without};
 ghost use Rattle.shared_lists.specs.Steps.{Searches, AreNewestRows, Changes, TakesBack};
 ghost use Rattle.sql_lists.specs.Kept.{MayReply, is_of_signal, OwesAck, SetsQuietly, AreStanding, IsInOrder};
-ghost use Rattle.sql_lists.specs.Tables.{MayMake, MakesNone, table_made};
+ghost use Rattle.shared_lists.specs.Tables.{table_made};
+ghost use Rattle.sql_lists.specs.Tables.{MayMake, MakesNone};
 ghost use Rattle.sql_lists.specs.Steps.{open_txn, plain_edge};
 
 use crate::advance::plain_edge;
@@ -258,18 +259,7 @@ impl<L: SharedLists> SqlLists<L> {
         ensures ok { OnOk result (IsNow (table_made session level schema self.old.past) session Idle None self.old self.new) }
         ensures err { OnErr result (MakesNone session level self.old self.new) }
     {
-        self.lists.begin(session, level)?;
-        let _ = self.lists.lock(session);
-        match self.lists.create(session, schema) {
-            Ok(()) => {
-                self.lists.commit(session);
-                Ok(())
-            }
-            Err(_) => {
-                self.lists.roll_back(session);
-                Err(NoMemory)
-            }
-        }
+        self.lists.make_table(session, level, schema)
     }
 
     /// Begins a search of a table, in the index and the range of a plan. An `Err` changes nothing.

@@ -3,6 +3,7 @@
 //! through the trait `SharedLists`.
 #![tactic(auto)]
 
+mod creating;
 mod keys;
 mod lists;
 mod reading;

@@ -139,13 +139,19 @@ impl<W: EngineWorld> SharedLists for WorldLists<W> {
         }
     }
 
-    fn create(&mut self, session: u32, schema: Schema) -> Result<(), NoMemory> {
-        let txn = self.txn_of(session);
-        let id = self.world.session(session).id;
-        self.world.add_table(session, schema)?;
-        give_first_id(&mut self.world, txn, id);
-        is_short(&self.world);
-        Ok(())
+    fn make_table(&mut self, session: u32, level: Level, schema: Schema) -> Result<(), NoMemory> {
+        self.begin(session, level)?;
+        let _ = self.lock(session);
+        match self.create(session, schema) {
+            Ok(()) => {
+                self.commit(session);
+                Ok(())
+            }
+            Err(NoMemory) => {
+                self.roll_back(session);
+                Err(NoMemory)
+            }
+        }
     }
 
     fn commit(&mut self, session: u32) {
@@ -323,8 +329,7 @@ impl<W: EngineWorld> WorldLists<W> {
 }
 
 ghost use Rattle.std.specs.Prelude.{◌≡◌, ◌≢◌, ◌-◌, ◌<◌, ◌^◌, false, IfOk, Some};
-ghost use Rattle.txn_table.specs.Txns.{is_there, id_at, ids_of};
-ghost use Rattle.world.specs.Sessions.{identified};
+ghost use Rattle.txn_table.specs.Txns.{ids_of};
 ghost use Rattle.law_past_agreement.specs.Slots.{writer_without};
 ghost use Rattle.law_held_steps.specs.Begun.{plan_read};
 
@@ -335,19 +340,6 @@ fn active_ids<W: EngineWorld>(alloc: Global, world: &W) -> Result<Ids, NoMemory>
     let mut active = Ids::new(alloc);
     world.active(&mut active)?;
     Ok(active)
-}
-
-/// Gives the transaction its id, where it has none.
-fn give_first_id<W: EngineWorld>(world: &mut W, txn: u64, id: u64)
-    requires there { is_there txn (W.state world.old).txns.open_txns }
-    requires id { id_at txn (W.state world.old).txns.open_txns ≡ id }
-    requires few { (W.state world.old).txns.next < 2 ^ 64 - 1 }
-    ensures first { id ≡ 0 → W.state world.new ≡ identified txn (W.state world.old) }
-    ensures later { id ≢ 0 → W.state world.new ≡ W.state world.old }
-{
-    if id == 0 {
-        let _id = world.give_id(txn);
-    }
 }
 
 /// The session that may write, where it is another one.

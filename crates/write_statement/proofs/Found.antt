@@ -50,40 +50,12 @@ use Rattle.sql_plan.specs.Plans.{whole_index}
 use Rattle.inno_types.specs.Ranges.{is_within}
 use Rattle.sql_plan.specs.Visits.{index_key, IsRowOf}
 use Rattle.sql_lists.specs.Kept.{AreStanding, AreInOrder, IsInOrder, made}
-use Rattle.sql_lists.proofs.Standing.{schemas_after}
+use Rattle.sql_lists.proofs.MoreTables.{same_map}
 use Rattle.write_statement.specs.declared.machine.Part.{Part}
 use Rattle.sql_plan.specs.Planning.{Covers, HoldsKeys, HoldsMatches}
 use Rattle.sql_plan.proofs.Inserting.{other_keys}
 use Rattle.write_statement.specs.Running.{IsFound, AreEnough, IsChanging}
 use Rattle.write_statement.proofs.Changed.{current_changed}
-
--- ---- the same rows, whether later tables are there or not
-
-module _ (db : Database) (tables : List Schema) where
-  key_same : (more : List Schema) (earlier : List Change) (table : ℕ) (row : List Value) → tables ≡ (db.schemas ++ made earlier) ++ more
-      → table < length (db.schemas ++ made earlier)
-      → key_in (changed (record db { schemas = tables }) earlier).schemas table row ≡ key_in (changed db earlier).schemas table row
-  key_same more earlier table row is lt =
-      let within : table < length tables = omega (arith, lt, ap length is, length-append (db.schemas ++ made earlier) more) in
-      ap (λ (l : List Schema). key_in l table row) (schemas_after (record db { schemas = tables }) earlier)
-      ∙ (key_stays tables (made earlier) table row within
-      ∙ (ap (λ (l : List Schema). key_in l table row) is
-      ∙ (key_stays (db.schemas ++ made earlier) more table row lt
-      ∙ sym (ap (λ (l : List Schema). key_in l table row) (schemas_after db earlier)))))
-
-  rows_same : (more : List Schema) (changes : List Change) → tables ≡ (db.schemas ++ made changes) ++ more → AreInOrder db.schemas changes
-      → (changed (record db { schemas = tables }) changes).rows ≡ (changed db changes).rows
-  rows_same more [] is in-order = refl
-  rows_same more (Create schema ∷ earlier) is in-order =
-      let later : tables ≡ (db.schemas ++ made earlier) ++ (schema ∷ more) =
-      is ∙ (ap (λ (l : List Schema). l ++ more) (sym (append_assoc db.schemas (made earlier) (schema ∷ []))) ∙ append_assoc (db.schemas ++ made earlier)
-      (schema ∷ []) more) in
-      rows_same (schema ∷ more) earlier later in-order.1
-  rows_same more (Put table row ∷ earlier) is in-order =
-      ap (λ (rows : RowMap). insert rows (table, key_in (changed (record db { schemas = tables }) earlier).schemas table row) row)
-      (rows_same more earlier is in-order.1)
-      ∙ ap (λ (key : Value). insert (changed db earlier).rows (table, key) row) (key_same more earlier table row is in-order.0)
-  rows_same more (Remove table key ∷ earlier) is in-order = ap (λ (rows : RowMap). remove rows (table, key)) (rows_same more earlier is in-order.1)
 
 -- ---- the latest rows, with those that the session has changed
 
@@ -91,15 +63,8 @@ module _ (past : List Event) (s : ℕ) (stands : AreStanding past) where
   pub tables_now : created past ≡ (current s past).schemas
   tables_now = stands.tables s
 
-  pub same_map : IsInOrder past → (changed (with_all_tables past) (seen past s (commits past))).rows ≡ (current s past).rows
-  same_map in-order =
-      let is : created past ≡ ((opening past).schemas ++ made (seen past s (commits past))) ++ [] =
-      tables_now ∙ (schemas_after (opening past) (seen past s (commits past)) ∙ sym
-      (append-nil ((opening past).schemas ++ made (seen past s (commits past))))) in
-      rows_same (opening past) (created past) [] (seen past s (commits past)) is (in-order s)
-
   rows_are : IsInOrder past → (table : ℕ) → rows_of table (changed (with_all_tables past) (seen past s (commits past))) ≡ rows_of table (current s past)
-  rows_are in-order table = ap (λ (rows : RowMap). rows_of table (record { schemas = []; rows = rows })) (same_map in-order)
+  rows_are in-order table = ap (λ (rows : RowMap). rows_of table (record { schemas = []; rows = rows })) (same_map past s stands in-order)
 
 -- ---- they can be coded
 

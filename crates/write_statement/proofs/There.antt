@@ -46,7 +46,7 @@ use Rattle.write_statement.specs.declared.machine.Part.{Part}
 use Rattle.write_statement.specs.Running.{IsChanging}
 use Rattle.write_statement.proofs.Changed.{current_is}
 use Rattle.write_statement.proofs.Changes.{parts_are}
-use Rattle.write_statement.proofs.Found.{same_map}
+use Rattle.sql_lists.proofs.MoreTables.{same_map}
 
 abbrev IsThere : Database → Change → Type 0
 IsThere db (Remove table key) = is_some (get db.rows (table, key)) ≡ true

@@ -1,8 +1,8 @@
-use Rattle.world_lists.proofs.steps.WorldListsSharedLists.create.Goals as goal
+use Rattle.world_lists.proofs.creating.WorldLists.create.Goals as goal
 use Rattle.world_lists.proofs.{Calls.its_work, Made.has_txn, Made.has_id, Made.few_ids, Made.table_kept, Made.table_adds, Made.table_unset, Made.table_rows}
 
 pub add_table-requires-clause-may : goal.add_table-requires-clause-may
-add_table-requires-clause-may g c = its_work c.args.session c.self.invariant c.self.view_is c.requires.joined c.requires.may.0
+add_table-requires-clause-may g c = its_work c.args.session c.self.invariant c.self.view_is c.requires.joined c.requires.is_open
 
 pub give_first_id-requires-clause-there : goal.give_first_id-requires-clause-there
 give_first_id-requires-clause-there g c = has_txn c.args.session c.self.invariant c.self.view_is c.in_ok-add_table.ensures.ok c.txn_of-txn.ensures
