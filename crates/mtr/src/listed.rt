@@ -10,6 +10,7 @@ use crate::pages::Mtr;
 use crate::store::Store;
 use std::alloc::Global;
 use store_api::{FreshBad, NoMemory, Visit};
+use stored_pages::layout::PAGE;
 
 /// Pages in memory. They are told as long as page 0 counts no more than there are, since no call of theirs fails.
 #[derive(Drop)]
@@ -19,7 +20,7 @@ pub struct ListedPages {
 
 impl ListedPages {
     /// These pages, with that spare at the beginning of each mini-transaction.
-    pub fn new(alloc: Global, pages: Vec<[u8; 4096]>, spare: u64) -> Result<ListedPages, NoMemory>
+    pub fn new(alloc: Global, pages: Vec<[u8; PAGE]>, spare: u64) -> Result<ListedPages, NoMemory>
         ensures { IfOk result (λ m. IsResting pages.items spare (⟦<ListedPages as Mtr>⟧.state m)) }
     {
         Ok(ListedPages {

@@ -8,6 +8,7 @@ ghost use Rattle.mtr.specs.Calls.{Asks};
 
 use crate::pages::Mtr;
 use store_api::Visit;
+use stored_pages::layout::PAGE_COUNT;
 use stored_pages::read_u32;
 
 /// The number of 4 bytes at a place of a page.
@@ -29,5 +30,5 @@ pub fn capacity<M: Mtr>(m: &mut M) -> Result<u32, Visit>
     ensures counted { IfOk result (λ n. IsTrue (M.state m.new).told → n ≡ capacity_of (M.state m.new)) }
     ensures asks { Asks 0 (M.state m.old) result (M.state m.new) }
 {
-    u32_on(m, 0, 44)
+    u32_on(m, 0, PAGE_COUNT)
 }

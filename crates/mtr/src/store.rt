@@ -8,9 +8,8 @@ ghost use Rattle.mtr.specs.Calls.{Looks, Makes, Puts, Commits, GivesUp};
 
 use std::alloc::{AllocError, Global};
 use store_api::NoMemory;
+use stored_pages::layout::{PAGE, PAGE_COUNT};
 use stored_pages::read_u32;
-
-const PAGE: usize = 4096;
 
 /// The most pages that a mini-transaction deals with.
 const MOST: usize = 24;
@@ -19,9 +18,9 @@ const MOST: usize = 24;
 /// more pages than there are.
 #[derive(Drop)]
 pub struct Store {
-    pub standing: Vec<[u8; 4096]>,
-    pub seen: Vec<[u8; 4096]>,
-    pub blank: [u8; 4096],
+    pub standing: Vec<[u8; PAGE]>,
+    pub seen: Vec<[u8; PAGE]>,
+    pub blank: [u8; PAGE],
     pub visited: Vec<u32>,
     pub told: bool,
     pub spare: u64,
@@ -34,7 +33,7 @@ pub struct Store {
 }
 
 /// A page of a list, blank past its end.
-fn page_in<'a>(pages: &'a [[u8; 4096]], blank: &'a [u8; 4096], page: u32) -> &'a [u8; 4096]
+fn page_in<'a>(pages: &'a [[u8; PAGE]], blank: &'a [u8; PAGE], page: u32) -> &'a [u8; PAGE]
     ensures { result.now ≡ slice_index_or pages.now page blank.now }
 {
     if (page as usize) < pages.len() {
@@ -44,14 +43,14 @@ fn page_in<'a>(pages: &'a [[u8; 4096]], blank: &'a [u8; 4096], page: u32) -> &'a
     }
 }
 
-fn count_of(pages: &[[u8; 4096]], blank: &[u8; 4096]) -> u32
+fn count_of(pages: &[[u8; PAGE]], blank: &[u8; PAGE]) -> u32
     ensures { result ≡ u32_at 44 (slice_index_or pages.now 0 blank.now) }
 {
-    read_u32(page_in(pages, blank, 0), 44)
+    read_u32(page_in(pages, blank, 0), PAGE_COUNT)
 }
 
 /// A page with bytes written over its own.
-fn with_bytes_at(page: &[u8; 4096], at: u16, bytes: &[u8]) -> [u8; 4096]
+fn with_bytes_at(page: &[u8; PAGE], at: u16, bytes: &[u8]) -> [u8; PAGE]
     requires { at + length bytes.now ≤ 4096 }
     ensures { result ≡ with_bytes at bytes.now page.now }
 {
@@ -65,7 +64,7 @@ impl Store {
     ghost use Rattle.mtr.specs.Listed.{state_of, Replaces};
     ghost use Rattle.mtr.specs.Resting.{IsResting};
 
-    pub fn new(alloc: Global, pages: Vec<[u8; 4096]>, spare: u64) -> Result<Store, AllocError>
+    pub fn new(alloc: Global, pages: Vec<[u8; PAGE]>, spare: u64) -> Result<Store, AllocError>
         ensures { IfOk result (λ s. IsResting pages.items spare (state_of s)) }
     {
         let blank = [0; PAGE];
@@ -104,7 +103,7 @@ impl Store {
     }
 
     /// The page is seen with these bytes, where there is such a page.
-    fn replace(&mut self, page: u32, bytes: &[u8; 4096])
+    fn replace(&mut self, page: u32, bytes: &[u8; PAGE])
         requires { IsWithin page (state_of self.old) }
         ensures { Replaces page bytes.now (state_of self.old) (state_of self.new) }
     {

@@ -8,8 +8,8 @@ ghost use Rattle.page_format.specs.Fences.{DoFencesRise, BeginsInside, EndsInsid
 ghost use Rattle.page_format.specs.Shape.{HasTreeFields};
 
 use crate::behind::behind;
+use crate::layout::{COUNT, HIGH, HIGH_LEN, LOW, LOW_LEN, NO_FENCE, WIDTH};
 use crate::records::place_of;
-use crate::shape::NO_FENCE;
 use std::cmp::Ordering;
 use stored_pages::read_u16;
 
@@ -37,7 +37,7 @@ fn record_at(bytes: &[u8], i: u16) -> &[u8]
     requires place { i < count_of bytes.now }
     ensures { result.now ≡ slice_index_or (records_of bytes.now) i [] }
 {
-    let width = usize::from(read_u16(bytes, 32));
+    let width = usize::from(read_u16(bytes, WIDTH));
     behind(bytes, place_of(bytes, i)).split_at(width).0
 }
 
@@ -47,14 +47,14 @@ pub fn do_fences_rise(bytes: &[u8]) -> bool
     requires fields { HasTreeFields bytes.now }
     ensures { MatchBool result (DoFencesRise (low_of bytes.now) (high_of bytes.now)) (DoFencesRise (low_of bytes.now) (high_of bytes.now) → ⊥) }
 {
-    if bytes[34] == NO_FENCE {
+    if bytes[LOW_LEN] == NO_FENCE {
         return true;
     }
-    if bytes[35] == NO_FENCE {
+    if bytes[HIGH_LEN] == NO_FENCE {
         return true;
     }
-    let low = fence_at(bytes, 36, bytes[34]);
-    let high = fence_at(bytes, 116, bytes[35]);
+    let low = fence_at(bytes, LOW, bytes[LOW_LEN]);
+    let high = fence_at(bytes, HIGH, bytes[HIGH_LEN]);
     low.cmp(high).is_lt()
 }
 
@@ -64,13 +64,13 @@ pub fn begins_inside(bytes: &[u8]) -> bool
     requires fields { HasTreeFields bytes.now }
     ensures { MatchBool result (BeginsInside (low_of bytes.now) (records_of bytes.now)) (BeginsInside (low_of bytes.now) (records_of bytes.now) → ⊥) }
 {
-    if bytes[34] == NO_FENCE {
+    if bytes[LOW_LEN] == NO_FENCE {
         return true;
     }
-    if read_u16(bytes, 22) == 0 {
+    if read_u16(bytes, COUNT) == 0 {
         return true;
     }
-    let low = fence_at(bytes, 36, bytes[34]);
+    let low = fence_at(bytes, LOW, bytes[LOW_LEN]);
     !against(low, record_at(bytes, 0)).is_lt()
 }
 
@@ -80,13 +80,13 @@ pub fn ends_inside(bytes: &[u8]) -> bool
     requires fields { HasTreeFields bytes.now }
     ensures { MatchBool result (EndsInside (high_of bytes.now) (records_of bytes.now)) (EndsInside (high_of bytes.now) (records_of bytes.now) → ⊥) }
 {
-    let count = read_u16(bytes, 22);
-    if bytes[35] == NO_FENCE {
+    let count = read_u16(bytes, COUNT);
+    if bytes[HIGH_LEN] == NO_FENCE {
         return true;
     }
     if count == 0 {
         return true;
     }
-    let high = fence_at(bytes, 116, bytes[35]);
+    let high = fence_at(bytes, HIGH, bytes[HIGH_LEN]);
     against(high, record_at(bytes, count - 1)).is_lt()
 }

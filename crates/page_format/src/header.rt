@@ -7,7 +7,9 @@ ghost use Rattle.stored_pages.specs.Words.{number_of};
 ghost use Rattle.page_format.specs.Shape.{HasTreeFields};
 
 use crate::edits::{clear, write_over};
+use crate::layout::{FENCES_END, HIGH, HIGH_LEN, LOW, LOW_LEN, RIGHT};
 use big_endian::u32_bytes;
+use stored_pages::layout::NUMBER;
 
 pub fn set_number(bytes: &mut [u8], number: u32)
     requires size { length bytes.old ≡ 4096 }
@@ -18,7 +20,7 @@ pub fn set_number(bytes: &mut [u8], number: u32)
     ensures front { take 8 bytes.new ≡ take 8 bytes.old }
     ensures back { drop 12 bytes.new ≡ drop 12 bytes.old }
 {
-    write_over(bytes, 8, &u32_bytes(number));
+    write_over(bytes, NUMBER, &u32_bytes(number));
 }
 
 pub fn set_right(bytes: &mut [u8], number: u32)
@@ -30,7 +32,7 @@ pub fn set_right(bytes: &mut [u8], number: u32)
     ensures front { take 28 bytes.new ≡ take 28 bytes.old }
     ensures back { drop 32 bytes.new ≡ drop 32 bytes.old }
 {
-    write_over(bytes, 28, &u32_bytes(number));
+    write_over(bytes, RIGHT, &u32_bytes(number));
 }
 
 pub fn set_low(bytes: &mut [u8], key: &[u8])
@@ -44,9 +46,9 @@ pub fn set_low(bytes: &mut [u8], key: &[u8])
     ensures between { slice_index bytes.new 35 ≡ slice_index bytes.old 35 }
     ensures back { drop 116 bytes.new ≡ drop 116 bytes.old }
 {
-    write_over(bytes, 34, &[key.len() as u8]);
-    write_over(bytes, 36, key);
-    clear(bytes, 36 + key.len(), 116);
+    write_over(bytes, LOW_LEN, &[key.len() as u8]);
+    write_over(bytes, LOW, key);
+    clear(bytes, LOW + key.len(), HIGH);
 }
 
 pub fn set_high(bytes: &mut [u8], key: &[u8])
@@ -60,7 +62,7 @@ pub fn set_high(bytes: &mut [u8], key: &[u8])
     ensures between { take 80 (drop 36 bytes.new) ≡ take 80 (drop 36 bytes.old) }
     ensures back { drop 196 bytes.new ≡ drop 196 bytes.old }
 {
-    write_over(bytes, 35, &[key.len() as u8]);
-    write_over(bytes, 116, key);
-    clear(bytes, 116 + key.len(), 196);
+    write_over(bytes, HIGH_LEN, &[key.len() as u8]);
+    write_over(bytes, HIGH, key);
+    clear(bytes, HIGH + key.len(), FENCES_END);
 }

@@ -6,6 +6,7 @@ mod behind;
 mod edits;
 mod fences;
 mod header;
+pub mod layout;
 mod page;
 mod read;
 mod records;

@@ -12,19 +12,22 @@ ghost use Rattle.page_format.specs.Changes.{KeepsFields, with_byte, mark_byte, I
 
 use crate::behind::behind;
 use crate::edits::write_over;
+use crate::layout::{COUNT, KIND, RECORDS, WIDTH};
 use crate::read::PageBad;
 use crate::records::{Found, find_record, insert_record, mark_record, remove_record};
-use crate::shape::{RECORDS, SIZE, has_fields, has_order, is_tree_kind};
+use crate::shape::{has_fields, has_order, is_tree_kind};
 use crate::split::{keep_lower, keep_upper, key_of};
 use big_endian::u64_bytes;
 use std::marker::Model;
+use store_api::PageRule;
+use stored_pages::layout::{NUMBER, PAGE, SUM};
 use stored_pages::{read_u16, read_u32, read_u64};
 use sum64::fnv;
 
 /// A page. Contracts see its bytes.
 #[derive(Drop)]
 pub struct Page {
-    bytes: [u8; 4096],
+    bytes: [u8; PAGE],
 }
 
 impl Model for Page {
@@ -43,22 +46,26 @@ impl Page {
         ensures page { IfOk result (λ page. (page ≡ bytes.now) × IsPage number page) }
         ensures refused { IfErr result (IsRefused number bytes.now) }
     {
-        let stored = read_u64(bytes, 0);
-        let computed = fnv(behind(bytes, 8));
+        let stored = read_u64(bytes, SUM);
+        let computed = fnv(behind(bytes, NUMBER));
         if stored != computed {
             return Err(PageBad::Sum { stored, computed });
         }
-        let found = read_u32(bytes, 8);
+        let found = read_u32(bytes, NUMBER);
         if found != number {
             return Err(PageBad::Number { found });
         }
         if !has_fields(bytes) {
-            return Err(PageBad::Shape { rule: 1 });
+            return Err(PageBad::Shape {
+                rule: PageRule::Fields as u8,
+            });
         }
         if !has_order(bytes) {
-            return Err(PageBad::Shape { rule: 2 });
+            return Err(PageBad::Shape {
+                rule: PageRule::Order as u8,
+            });
         }
-        let mut page = [0; SIZE];
+        let mut page = [0; PAGE];
         page.copy_from_slice(bytes);
         Ok(Page { bytes: page })
     }
@@ -76,8 +83,8 @@ impl Page {
         ensures kept { drop 8 self.new ≡ drop 8 self.old }
         ensures readable { HasFields self.old → HasOrder self.old → IsPage (number_of self.old) self.new }
     {
-        let sum = fnv(behind(&self.bytes, 8));
-        write_over(&mut self.bytes, 0, &u64_bytes(sum));
+        let sum = fnv(behind(&self.bytes, NUMBER));
+        write_over(&mut self.bytes, SUM, &u64_bytes(sum));
     }
 
     /// How many bytes are left behind the records of a tree page.
@@ -85,8 +92,9 @@ impl Page {
         requires { HasTreeFields self.now }
         ensures { 208 + count_of self.now * record_len_of self.now + result ≡ 4096 }
     {
-        let used = usize::from(read_u16(&self.bytes, 22)) * usize::from(read_u16(&self.bytes, 32));
-        (SIZE - RECORDS - used) as u16
+        let used = usize::from(read_u16(&self.bytes, COUNT))
+            * usize::from(read_u16(&self.bytes, WIDTH));
+        (PAGE - RECORDS - used) as u16
     }
 
     /// Whether the page has records, as a leaf or an inner page has.
@@ -94,25 +102,25 @@ impl Page {
         requires { HasFields self.now }
         ensures { MatchBool result (HasTreeFields self.now) (HasPlainFields self.now) }
     {
-        is_tree_kind(self.bytes[20])
+        is_tree_kind(self.bytes[KIND])
     }
 
     pub fn number(&self) -> u32
         ensures { result ≡ number_of self.now }
     {
-        read_u32(&self.bytes, 8)
+        read_u32(&self.bytes, NUMBER)
     }
 
     pub fn count(&self) -> u16
         ensures { result ≡ count_of self.now }
     {
-        read_u16(&self.bytes, 22)
+        read_u16(&self.bytes, COUNT)
     }
 
     pub fn record_len(&self) -> u16
         ensures { result ≡ record_len_of self.now }
     {
-        read_u16(&self.bytes, 32)
+        read_u16(&self.bytes, WIDTH)
     }
 
     /// Where a key stands among the records, by their first bytes.

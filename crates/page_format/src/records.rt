@@ -11,7 +11,7 @@ ghost use Rattle.page_format.specs.Shape.{HasTreeFields, AreRising};
 
 use crate::behind::behind;
 use crate::edits::{clear, insert_piece, remove_piece, write_over};
-use crate::shape::RECORDS;
+use crate::layout::{COUNT, RECORDS, WIDTH};
 use big_endian::u16_bytes;
 use std::cmp::Ordering;
 use stored_pages::read_u16;
@@ -23,16 +23,12 @@ pub enum Found {
     Before(u16),
 }
 
-const COUNT: usize = 22;
-
-const RECORD_LEN: usize = 32;
-
 /// Where the record of that number begins.
 pub fn place_of(bytes: &[u8], i: u16) -> usize
     requires { 208 ≤ length bytes.now }
     ensures { result ≡ 208 + i * record_len_of bytes.now }
 {
-    RECORDS + usize::from(i) * usize::from(read_u16(bytes, RECORD_LEN))
+    RECORDS + usize::from(i) * usize::from(read_u16(bytes, WIDTH))
 }
 
 fn set_count(bytes: &mut [u8], count: u16)
@@ -72,7 +68,7 @@ pub fn remove_record(bytes: &mut [u8], i: u16)
     let count = read_u16(bytes, COUNT);
     let at = place_of(bytes, i);
     let end = place_of(bytes, count);
-    let width = usize::from(read_u16(bytes, RECORD_LEN));
+    let width = usize::from(read_u16(bytes, WIDTH));
     remove_piece(bytes, at, end, width);
     set_count(bytes, count - 1);
 }

@@ -7,19 +7,13 @@ ghost use Rattle.page_format.specs.Shape.{AreZeros, IsFence, HasTreeFields, HasP
 
 use crate::behind::behind;
 use crate::fences::{begins_inside, do_fences_rise, ends_inside};
+use crate::layout::{
+    COUNT, FENCE, FENCES_END, HIGH, HIGH_LEN, INNER, KIND, LEAF, LEVEL, LOW, LOW_LEN, MOST_LEVELS,
+    NO_FENCE, RECORDS, WIDTH,
+};
 use std::cmp::Ordering;
+use stored_pages::layout::PAGE;
 use stored_pages::read_u16;
-
-pub const SIZE: usize = 4096;
-
-/// Where the records of a tree page begin.
-pub const RECORDS: usize = 208;
-
-/// The length of a fence that isn't there.
-pub const NO_FENCE: u8 = 255;
-
-/// The highest level of a tree.
-const TOP: u8 = 7;
 
 fn are_zeros(bytes: &[u8]) -> bool
     ensures { MatchBool result (AreZeros bytes.now) (AreZeros bytes.now → ⊥) }
@@ -32,40 +26,40 @@ fn is_fence(len: u8, bytes: &[u8]) -> bool
     ensures { MatchBool result (IsFence len bytes.now) (IsFence len bytes.now → ⊥) }
 {
     let width = if len == NO_FENCE { 0 } else { usize::from(len) };
-    width <= 80 && are_zeros(behind(bytes, width))
+    width <= FENCE && are_zeros(behind(bytes, width))
 }
 
 fn tree_kind(level: u8) -> u8
     ensures { result ≡ (if level == 0 then 3 else 4) }
 {
-    if level == 0 { 3 } else { 4 }
+    if level == 0 { LEAF } else { INNER }
 }
 
 fn has_tree_fields(bytes: &[u8]) -> bool
     requires { length bytes.now ≡ 4096 }
     ensures { MatchBool result (HasTreeFields bytes.now) (HasTreeFields bytes.now → ⊥) }
 {
-    let width = usize::from(read_u16(bytes, 32));
-    let end = RECORDS + usize::from(read_u16(bytes, 22)) * width;
-    if bytes[20] != tree_kind(bytes[21]) {
+    let width = usize::from(read_u16(bytes, WIDTH));
+    let end = RECORDS + usize::from(read_u16(bytes, COUNT)) * width;
+    if bytes[KIND] != tree_kind(bytes[LEVEL]) {
         return false;
     }
-    if bytes[21] > TOP {
+    if bytes[LEVEL] >= MOST_LEVELS {
         return false;
     }
     if width == 0 {
         return false;
     }
-    if end > SIZE {
+    if end > PAGE {
         return false;
     }
-    if !is_fence(bytes[34], &bytes[36..116]) {
+    if !is_fence(bytes[LOW_LEN], &bytes[LOW..HIGH]) {
         return false;
     }
-    if !is_fence(bytes[35], &bytes[116..196]) {
+    if !is_fence(bytes[HIGH_LEN], &bytes[HIGH..FENCES_END]) {
         return false;
     }
-    if !are_zeros(&bytes[196..RECORDS]) {
+    if !are_zeros(&bytes[FENCES_END..RECORDS]) {
         return false;
     }
     are_zeros(behind(bytes, end))
@@ -75,14 +69,14 @@ fn has_plain_fields(bytes: &[u8]) -> bool
     requires { length bytes.now ≡ 4096 }
     ensures { MatchBool result (HasPlainFields bytes.now) (HasPlainFields bytes.now → ⊥) }
 {
-    matches!(bytes[20], 1 | 2 | 5 | 6 | 7) && are_zeros(&bytes[21..32])
+    matches!(bytes[KIND], 1 | 2 | 5 | 6 | 7) && are_zeros(&bytes[LEVEL..WIDTH])
 }
 
 pub fn has_fields(bytes: &[u8]) -> bool
     requires { length bytes.now ≡ 4096 }
     ensures { MatchBool result (HasFields bytes.now) (HasFields bytes.now → ⊥) }
 {
-    if is_tree_kind(bytes[20]) {
+    if is_tree_kind(bytes[KIND]) {
         has_tree_fields(bytes)
     } else {
         has_plain_fields(bytes)
@@ -93,7 +87,7 @@ pub fn has_fields(bytes: &[u8]) -> bool
 pub fn is_tree_kind(kind: u8) -> bool
     ensures { result ≡ is_tree kind }
 {
-    kind == 3 || kind == 4
+    kind == LEAF || kind == INNER
 }
 
 /// Whether records of one width rise.
@@ -119,8 +113,8 @@ fn has_tree_order(bytes: &[u8]) -> bool
     requires fields { HasTreeFields bytes.now }
     ensures { MatchBool result (HasTreeOrder bytes.now) (HasTreeOrder bytes.now → ⊥) }
 {
-    let width = usize::from(read_u16(bytes, 32));
-    if !are_rising(read_u16(bytes, 22), width, behind(bytes, RECORDS)) {
+    let width = usize::from(read_u16(bytes, WIDTH));
+    if !are_rising(read_u16(bytes, COUNT), width, behind(bytes, RECORDS)) {
         return false;
     }
     if !do_fences_rise(bytes) {
@@ -137,7 +131,7 @@ pub fn has_order(bytes: &[u8]) -> bool
     requires fields { HasFields bytes.now }
     ensures { MatchBool result (HasOrder bytes.now) (HasOrder bytes.now → ⊥) }
 {
-    if is_tree_kind(bytes[20]) {
+    if is_tree_kind(bytes[KIND]) {
         has_tree_order(bytes)
     } else {
         true

@@ -6,11 +6,7 @@ ghost use Rattle.std.specs.Int.{bit_at};
 ghost use Rattle.space_map.specs.Map.{bit_in};
 ghost use Rattle.space_map.specs.Places.{free_places};
 
-/// How many pages one page of the map has bits of.
-pub const COVERED: u32 = 32512;
-
-/// Where the bits begin.
-pub const BITS: usize = 32;
+use stored_pages::layout::BITS;
 
 /// A byte with one bit set or cleared.
 pub fn with_bit(byte: u8, bit: u8, on: bool) -> u8

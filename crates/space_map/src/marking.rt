@@ -6,10 +6,10 @@ ghost use Rattle.mtr.specs.Seen.{claim, IsWithin};
 ghost use Rattle.mtr.specs.Calls.{Consults};
 ghost use Rattle.space_map.specs.Taking.{map_pages, Marks, IsGiveReason};
 
-use crate::bits::{BITS, COVERED, with_bit};
-use crate::parts::FIRST;
+use crate::bits::with_bit;
 use mtr::Mtr;
 use store_api::SpaceBad;
+use stored_pages::layout::{BITS, COVERED, FIRST_MAP_PAGE};
 
 /// Sets or clears a page's bit.
 pub fn set_mark<M: Mtr>(m: &mut M, page: u32, used: bool) -> Result<(), SpaceBad>
@@ -20,7 +20,7 @@ pub fn set_mark<M: Mtr>(m: &mut M, page: u32, used: bool) -> Result<(), SpaceBad
     ensures kept { OnErr result (Consults map_pages (M.state m.old) (M.state m.new)) }
     ensures reason { IfErr result (IsGiveReason (M.state m.old) (M.state m.new)) }
 {
-    let map = FIRST + page / COVERED;
+    let map = FIRST_MAP_PAGE + page / COVERED;
     let at = BITS + (page % COVERED / 8) as usize;
     let bytes = m.bytes(map)?;
     let byte = with_bit(bytes[at], (page % 8) as u8, used);

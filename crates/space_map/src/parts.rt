@@ -7,18 +7,10 @@ ghost use Rattle.mtr.specs.Calls.{Consults, IsReason};
 ghost use Rattle.space_map.specs.Map.{mark_of, IsFirstFree, free_among};
 ghost use Rattle.space_map.specs.Taking.{map_pages, Miscounts};
 
-use crate::bits::{COVERED, count_free, first_free};
+use crate::bits::{count_free, first_free};
 use mtr::{Mtr, capacity};
-use store_api::{MOST_PAGES, Visit};
-
-/// The first page of the map.
-pub const FIRST: u32 = 2;
-
-/// How many parts there are.
-pub const PARTS: u32 = 3;
-
-/// The fewest pages of a file.
-const FEWEST: u32 = 21;
+use store_api::{MOST_PAGES, PageRule, Visit};
+use stored_pages::layout::{COVERED, FIRST_MAP_PAGE, FIXED_PAGES, MAP_PAGES};
 
 /// How many pages there are, if page 0 says a number that a file can have.
 pub fn page_count<M: Mtr>(m: &mut M) -> Result<u32, Visit>
@@ -29,8 +21,11 @@ pub fn page_count<M: Mtr>(m: &mut M) -> Result<u32, Visit>
     ensures reason { IfErr result (IsReason map_pages Miscounts (M.state m.old) (M.state m.new)) }
 {
     let count = capacity(m)?;
-    if count < FEWEST || count > MOST_PAGES {
-        return Err(Visit::Bad { page: 0, rule: 1 });
+    if count < FIXED_PAGES || count > MOST_PAGES {
+        return Err(Visit::Bad {
+            page: 0,
+            rule: PageRule::Fields as u8,
+        });
     }
     Ok(count)
 }
@@ -53,7 +48,7 @@ fn free_in_part<M: Mtr>(m: &mut M, part: u32, count: u32) -> Result<Option<u32>,
     ensures reason { IfErr result (IsReason map_pages Miscounts (M.state m.old) (M.state m.new)) }
 {
     let end = part_len(part, count);
-    let map = m.bytes(FIRST + part)?;
+    let map = m.bytes(FIRST_MAP_PAGE + part)?;
     match first_free(map, end) {
         Some(place) => Ok(Some(COVERED * part + place)),
         None => Ok(None),
@@ -70,7 +65,7 @@ fn count_in_part<M: Mtr>(m: &mut M, part: u32, count: u32) -> Result<u32, Visit>
     ensures reason { IfErr result (IsReason map_pages Miscounts (M.state m.old) (M.state m.new)) }
 {
     let end = part_len(part, count);
-    let map = m.bytes(FIRST + part)?;
+    let map = m.bytes(FIRST_MAP_PAGE + part)?;
     Ok(count_free(map, end))
 }
 
@@ -83,7 +78,7 @@ pub fn find_free<M: Mtr>(m: &mut M, count: u32) -> Result<Option<u32>, Visit>
     ensures consults { Consults map_pages (M.state m.old) (M.state m.new) }
     ensures reason { IfErr result (IsReason map_pages Miscounts (M.state m.old) (M.state m.new)) }
 {
-    for part in 0..PARTS {
+    for part in 0..MAP_PAGES {
         let found = free_in_part(m, part, count)?;
         match found {
             Some(page) => return Ok(Some(page)),
@@ -102,7 +97,7 @@ pub fn count_all<M: Mtr>(m: &mut M, count: u32) -> Result<u32, Visit>
     ensures reason { IfErr result (IsReason map_pages Miscounts (M.state m.old) (M.state m.new)) }
 {
     let mut free = 0;
-    for part in 0..PARTS {
+    for part in 0..MAP_PAGES {
         free += count_in_part(m, part, count)?;
     }
     Ok(free)

@@ -10,7 +10,7 @@ ghost use Rattle.space_map.specs.Taking.{map_pages, HasPageCount, Miscounts, Mar
 use crate::marking::set_mark;
 use crate::parts::{count_all, find_free, page_count};
 use mtr::Mtr;
-use store_api::{SpaceBad, Visit};
+use store_api::{PageRule, SpaceBad, Visit};
 
 /// Takes the first free page. What stands on it is left to the caller.
 pub fn take<M: Mtr>(m: &mut M) -> Result<u32, SpaceBad>
@@ -41,7 +41,10 @@ pub fn give<M: Mtr>(m: &mut M, page: u32) -> Result<(), SpaceBad>
 {
     let count = page_count(m)?;
     if page >= count {
-        return Err(SpaceBad::Visit(Visit::Bad { page: 0, rule: 1 }));
+        return Err(SpaceBad::Visit(Visit::Bad {
+            page: 0,
+            rule: PageRule::Fields as u8,
+        }));
     }
     set_mark(m, page, false)?;
     Ok(())

@@ -7,13 +7,8 @@ ghost use Rattle.stored_pages.specs.Words.{lsn_of};
 ghost use Rattle.stored_pages.specs.Reading.{IsGoodPage, IsCopyIn, IsNewestCopy};
 
 use crate::heads::{lsn_in, number_in, passes_sum};
+use crate::layout::{PAGE, SLOTS};
 use store_api::MOST_PAGES;
-
-/// How many bytes a page has.
-pub const PAGE: usize = 4096;
-
-/// How many copies the area Double holds.
-pub const SLOTS: usize = 64;
 
 /// The number of a page that is whole.
 pub fn good_number(page: &[u8]) -> Option<u32>

@@ -4,10 +4,9 @@
 
 mod copies;
 mod heads;
+pub mod layout;
 mod words;
 
-pub use copies::{
-    PAGE, SLOTS, copy_at, good_number, newest_copy, newest_slot, number_of_copy, restorable,
-};
+pub use copies::{copy_at, good_number, newest_copy, newest_slot, number_of_copy, restorable};
 pub use heads::{lsn_in, number_in};
 pub use words::{read_u16, read_u32, read_u64};
