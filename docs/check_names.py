@@ -4,7 +4,8 @@
 Run by hand, from anywhere: `python3 docs/check_names.py`. It reads the words between backquotes, and paths of sources also
 where they stand without. A path has to be a file or a folder, below the root, below crates/, or below a crate that is named
 before it under the same heading. A name has to be a word of some source; of `a::b` each part has to be one, in crate `a` if that is a crate.
-The tables of docs/MAP.md have to name each crate, and nothing else. It ends with status 1 where it has something to tell.
+The tables of docs/MAP.md have to name each crate, and nothing else, and README.md has to say how many crates the program has
+of how many. It ends with status 1 where it has something to tell.
 """
 
 import re
@@ -80,6 +81,19 @@ def map_faults(text):
     return sorted(named ^ set(CRATES))
 
 
+def counts():
+    """How many crates the program stands on, itself among them, and how many there are: `(71 of 112)`, say."""
+    lines = [line for line in (ROOT / "crates.txt").read_text().split("\n") if ":" in line and not line.startswith("#")]
+    below = {line.split(":")[0].split()[0]: line.split(":")[1].split() for line in lines}
+    reached, left = set(), ["innod"]
+    while left:
+        name = left.pop()
+        if name in below and name not in reached:
+            reached.add(name)
+            left += below[name]
+    return f"({len(reached)} of {len(below)})"
+
+
 def main():
     files = [ROOT / "README.md"] + sorted((ROOT / "docs").glob("*.md"))
     told = 0
@@ -90,7 +104,10 @@ def main():
     for name in map_faults((ROOT / "docs/MAP.md").read_text(encoding="utf-8")):
         print(f"docs/MAP.md: the tables and crates/ differ in {name}")
         told += 1
-    print(f"{told} names that stand nowhere", file=sys.stderr)
+    if counts() not in (ROOT / "README.md").read_text(encoding="utf-8"):
+        print(f"README.md: the crates of the program are {counts()}")
+        told += 1
+    print(f"{told} things to mend", file=sys.stderr)
     return 1 if told else 0
 
 
