@@ -6,9 +6,9 @@
 #![tactic(auto)]
 
 mod loose_readings;
-mod phantoms;
+mod phantom_free;
 mod serial;
-mod standing;
+mod standing_work;
 
 ghost use Rattle.std.specs.Prelude.{ℕ, List};
 ghost use Rattle.inno_db.specs.declared.change.Change.{Change};
@@ -26,7 +26,7 @@ ghost use Rattle.law_isolation.specs.Calm.{IsCalm, AreCalm};
 ghost use Rattle.law_isolation.specs.Work.{HasWork};
 
 pub use loose_readings::held_rows_are_a_loose_reading;
-pub use phantoms::{
+pub use phantom_free::{
     a_setup_comes_first, a_setup_must_have_ended, locked_searches_meet_no_phantoms,
     open_transactions_stay_apart, phantom_free_histories_answer_as_alone,
     phantom_free_histories_are_calm, serial_histories_are_free_of_phantoms,
@@ -36,7 +36,7 @@ pub use serial::{
     a_serial_history_answers_as_alone, a_session_alone_answers_as_alone, serial_histories_are_calm,
     sessions_may_take_turns,
 };
-pub use standing::what_stands_stood_before;
+pub use standing_work::what_stands_stood_before;
 
 /// Work that another's changes are beside goes with its own changes over the rows with these, too.
 pub fn work_goes_on_beside_a_commit()

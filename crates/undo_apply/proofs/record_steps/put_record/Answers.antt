@@ -9,12 +9,12 @@ replace-answer-requires-clause-index g c =
     rw c.records_of-2.ensures
     (record { table = table; which = 0; number = omega arith; schema = is.schema; there = is.tells.there; key = omega arith; few = omega arith })
 
-pub returns-then-undo-eq-NEWROW-clause-puts : goal.returns-then-undo-eq-NEWROW-clause-puts
-returns-then-undo-eq-NEWROW-clause-puts g c = λ chains beside place is.
-    remove_record c.args.actor is c.requires.stage (g.W.World.state c.remove-answer.new.self) c.if-undo-eq-NEWROW.true c.remove-answer.result
+pub returns-then-undo-clause-puts : goal.returns-then-undo-clause-puts
+returns-then-undo-clause-puts g c = λ chains beside place is.
+    remove_record c.args.actor is c.requires.stage (g.W.World.state c.remove-answer.new.self) c.if-undo.true c.remove-answer.result
     (rw c.records_of.ensures at c.remove-answer.ensures) c.end.new.room c.end.result c.end.ensures
 
 pub returns-clause-puts : goal.returns-clause-puts
 returns-clause-puts g c = λ chains beside place is.
-    replace_record c.args.actor is c.requires.stage (g.W.World.state c.replace-answer.new.self) c.if-undo-eq-NEWROW.false c.replace-answer.result
+    replace_record c.args.actor is c.requires.stage (g.W.World.state c.replace-answer.new.self) c.if-undo.false c.replace-answer.result
     (rw c.records_of-2.ensures at c.replace-answer.ensures) c.end-2.new.room c.end-2.result c.end-2.ensures

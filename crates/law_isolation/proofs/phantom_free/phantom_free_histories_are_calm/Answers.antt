@@ -1,7 +1,7 @@
 use Rattle.sql_grammar.specs.Grammar.{Spells}
 use Rattle.law_histories.proofs.Spelled.{spells_one}
 use Rattle.law_isolation.proofs.Phantoms.{phantoms_calm}
-use Rattle.law_isolation.proofs.phantoms.phantom_free_histories_are_calm.Goals as goal
+use Rattle.law_isolation.proofs.phantom_free.phantom_free_histories_are_calm.Goals as goal
 
 pub returns : goal.returns
 returns c past legal serializable set free s apart =

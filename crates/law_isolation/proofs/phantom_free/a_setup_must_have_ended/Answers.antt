@@ -1,5 +1,5 @@
 use Rattle.law_isolation.proofs.Unended.{legal_unended, serializable_unended, first_unended, free_unended, unended_not_alone}
-use Rattle.law_isolation.proofs.phantoms.a_setup_must_have_ended.Goals as goal
+use Rattle.law_isolation.proofs.phantom_free.a_setup_must_have_ended.Goals as goal
 
 pub returns-clause-legal : goal.returns-clause-legal
 returns-clause-legal c = legal_unended

@@ -1,5 +1,5 @@
 use Rattle.law_isolation.proofs.Example.{legal_example, serializable_example, set_up_example, free_example, not_serial_example}
-use Rattle.law_isolation.proofs.phantoms.sessions_may_interleave.Goals as goal
+use Rattle.law_isolation.proofs.phantom_free.sessions_may_interleave.Goals as goal
 
 pub returns-clause-legal : goal.returns-clause-legal
 returns-clause-legal c = legal_example
