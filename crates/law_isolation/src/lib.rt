@@ -1,7 +1,7 @@
 //! Laws of isolation. Histories are calm where each statement sees the latest committed rows and its session's own, and no commit of
 //! another meets what an open transaction has searched or changed: they answer as their transactions do alone. So are those in which
-//! the sessions take turns (`serial`), and those at SERIALIZABLE that are free of phantoms (`phantoms`). What stands of a transaction's
-//! work is told entry by entry (`standing`), and what a search finds that reads each row at a moment of its own (`loose_readings`).
+//! the sessions take turns (`serial`), and those at SERIALIZABLE that are free of phantoms (`phantom_free`). What stands of a transaction's
+//! work is told entry by entry (`standing_work`), and what a search finds that reads each row at a moment of its own (`loose_readings`).
 //! Each function has an empty body: its contract is the law. Nothing calls them.
 #![tactic(auto)]
 
