@@ -10,13 +10,8 @@ ghost use Rattle.btree.specs.Sound.{IsSoundTree, HoldsKey};
 use crate::page::{Down, way_down};
 use crate::tree::Tree;
 use mtr::Mtr;
-use store_api::Visit;
-
-/// How many levels a tree has at most.
-const MOST_LEVELS: u8 = 8;
-
-/// The rule that a page breaks whose level isn't one below that of its parent.
-const WRONG_LEVEL: u8 = 3;
+use page_format::layout::MOST_LEVELS;
+use store_api::{PageRule, Visit};
 
 /// Where a page leads for a key.
 pub fn step_down<M: Mtr>(m: &mut M, tree: Tree, page: u32, key: &[u8]) -> Result<Down, Visit>
@@ -48,6 +43,6 @@ pub fn leaf_of<M: Mtr>(m: &mut M, tree: Tree, key: &[u8]) -> Result<u32, Visit>
     }
     Err(Visit::Bad {
         page: tree.root,
-        rule: WRONG_LEVEL,
+        rule: PageRule::Child as u8,
     })
 }

@@ -8,12 +8,11 @@ ghost use Rattle.entries.specs.Calls.{HasKey};
 ghost use Rattle.law_flat_tree.specs.Pages.{leaf_pairs};
 ghost use Rattle.btree.specs.Walks.{IsReadableLeaf, HasRow, Meets, Begins};
 
-use crate::page::{COUNT, FIELD, LEVEL, first_place, is_laid_out, key_at, record_at};
+use crate::page::{first_place, is_laid_out, key_at, record_at};
 use crate::tree::{Bound, Tree};
-use store_api::Visit;
+use page_format::layout::{COUNT, LEVEL, RIGHT};
+use store_api::{PageRule, Visit};
 use stored_pages::{read_u16, read_u32};
-
-const RIGHT: usize = 28;
 
 /// What a leaf has for a search: the place of a record, or the leaf to the right.
 pub enum Met {
@@ -46,7 +45,10 @@ pub fn meet(bytes: &[u8], tree: Tree, page: u32, bound: Bound, key: &[u8]) -> Re
     ensures refused { IfErr result (λ why. (why ≡ Bad page 1) × (IsReadableLeaf tree bytes.now → ⊥)) }
 {
     if !is_readable_leaf(bytes, tree) {
-        return Err(Visit::Bad { page, rule: FIELD });
+        return Err(Visit::Bad {
+            page,
+            rule: PageRule::Fields as u8,
+        });
     }
     let place = first_place(bytes, tree, bound, key);
     if place < read_u16(bytes, COUNT) {
@@ -63,7 +65,10 @@ pub fn begin(bytes: &[u8], tree: Tree, page: u32) -> Result<Met, Visit>
     ensures refused { IfErr result (λ why. (why ≡ Bad page 1) × (IsReadableLeaf tree bytes.now → ⊥)) }
 {
     if !is_readable_leaf(bytes, tree) {
-        return Err(Visit::Bad { page, rule: FIELD });
+        return Err(Visit::Bad {
+            page,
+            rule: PageRule::Fields as u8,
+        });
     }
     if read_u16(bytes, COUNT) == 0 {
         Ok(Met::Beyond(read_u32(bytes, RIGHT)))
@@ -102,10 +107,16 @@ pub fn copy_row(
 {
     let page = spot.page;
     if !is_readable_leaf(bytes, tree) {
-        return Err(Visit::Bad { page, rule: FIELD });
+        return Err(Visit::Bad {
+            page,
+            rule: PageRule::Fields as u8,
+        });
     }
     if spot.place >= read_u16(bytes, COUNT) {
-        return Err(Visit::Bad { page, rule: FIELD });
+        return Err(Visit::Bad {
+            page,
+            rule: PageRule::Fields as u8,
+        });
     }
     let (front, back) = record_at(bytes, spot.place).split_at(usize::from(tree.key_len));
     copy_into(front, key);
@@ -124,10 +135,16 @@ pub fn copy_key(bytes: &[u8], tree: Tree, spot: Spot, key: &mut Vec<u8>) -> Resu
 {
     let page = spot.page;
     if !is_readable_leaf(bytes, tree) {
-        return Err(Visit::Bad { page, rule: FIELD });
+        return Err(Visit::Bad {
+            page,
+            rule: PageRule::Fields as u8,
+        });
     }
     if spot.place >= read_u16(bytes, COUNT) {
-        return Err(Visit::Bad { page, rule: FIELD });
+        return Err(Visit::Bad {
+            page,
+            rule: PageRule::Fields as u8,
+        });
     }
     copy_into(key_at(bytes, tree, spot.place), key);
     Ok(())

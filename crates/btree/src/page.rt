@@ -13,25 +13,10 @@ ghost use Rattle.btree.specs.Places.{passes, record_passes, StartsAt};
 
 use crate::tree::{Bound, Tree};
 use big_endian::u32_at;
-use store_api::Visit;
+use page_format::layout::{CHILD, COUNT, LEVEL, RECORDS, WIDTH};
+use store_api::{PageRule, Visit};
+use stored_pages::layout::PAGE;
 use stored_pages::read_u16;
-
-const SIZE: usize = 4096;
-
-/// The rule that a page breaks by one of its fields.
-pub const FIELD: u8 = 1;
-
-/// Where the records begin.
-const RECORDS: usize = 208;
-
-/// How many bytes the number of a child has.
-const CHILD: usize = 4;
-
-pub const LEVEL: usize = 21;
-
-pub const COUNT: usize = 22;
-
-const WIDTH: usize = 32;
 
 /// Whether the page's records are as long as those of the tree on the page's level, and lie within the page.
 pub fn is_laid_out(bytes: &[u8], tree: Tree) -> bool
@@ -48,7 +33,7 @@ pub fn is_laid_out(bytes: &[u8], tree: Tree) -> bool
     if width != usize::from(tree.key_len) + behind_key {
         return false;
     }
-    end <= SIZE
+    end <= PAGE
 }
 
 /// The record of that number.
@@ -131,13 +116,19 @@ pub fn way_down(bytes: &[u8], tree: Tree, page: u32, key: &[u8]) -> Result<Down,
     ensures refused { IfErr result (λ why. (why ≡ Bad page 1) × (IsReadable tree bytes.now → ⊥)) }
 {
     if !is_laid_out(bytes, tree) {
-        return Err(Visit::Bad { page, rule: FIELD });
+        return Err(Visit::Bad {
+            page,
+            rule: PageRule::Fields as u8,
+        });
     }
     if bytes[LEVEL] == 0 {
         return Ok(Down::Leaf);
     }
     if read_u16(bytes, COUNT) == 0 {
-        return Err(Visit::Bad { page, rule: FIELD });
+        return Err(Visit::Bad {
+            page,
+            rule: PageRule::Fields as u8,
+        });
     }
     let place = first_place(bytes, tree, Bound::Above, key).saturating_sub(1);
     Ok(Down::Child(child_at(bytes, tree, place)))

@@ -14,13 +14,10 @@ use crate::descent::leaf_of;
 use crate::leaf::{Met, Spot, begin, copy_key, copy_row, meet};
 use crate::tree::{Bound, Tree};
 use mtr::Mtr;
-use store_api::Visit;
+use store_api::{PageRule, Visit};
 
 /// One more than the leaves that a tree may have.
 const WALK: u32 = 65_537;
-
-/// The rule that a page breaks whose neighbour isn't the next page of its level.
-const WRONG_NEIGHBOUR: u8 = 4;
 
 /// The first record of a leaf whose key passes.
 fn meet_on<M: Mtr>(m: &mut M, tree: Tree, page: u32, bound: Bound, key: &[u8]) -> Result<Met, Visit>
@@ -70,7 +67,7 @@ fn first_right<M: Mtr>(m: &mut M, tree: Tree, from: u32) -> Result<Option<Spot>,
     }
     Err(Visit::Bad {
         page: from,
-        rule: WRONG_NEIGHBOUR,
+        rule: PageRule::Neighbour as u8,
     })
 }
 

@@ -9,9 +9,9 @@ ghost use Rattle.store_api.specs.Past.{Now, Goes};
 ghost use Rattle.page_format.specs.Shape.{IsPage};
 ghost use Rattle.buffer_pool.specs.Fixing.{page_in, Looks, IsReadBad};
 
-use crate::frame::PAGE;
 use page_format::{Page, PageBad};
 use store_api::{Area, Disk, Failed};
+use stored_pages::layout::PAGE;
 
 /// Why a page isn't fixed.
 #[derive(Clone, Copy, Debug, PartialEq, Eq)]

@@ -2,7 +2,6 @@
 //! The pool alone makes frames and changes them.
 
 ghost use Rattle.std.specs.Prelude.{◌≡◌, ◌-◌, ◌^◌, ◌<◌, length, IfOk};
-ghost use Rattle.stored_pages.specs.Words.{lsn_of};
 ghost use Rattle.buffer_pool.specs.Frames.{is_idle, is_changed, is_written, holds_page, fixed, unfixed, changed, placed};
 ghost use Rattle.buffer_pool.specs.declared.frame.Content.TheVariants.{Empty};
 
@@ -10,10 +9,8 @@ use std::alloc::Global;
 use std::boxed::Box;
 use std::marker::Model;
 use store_api::NoMemory;
-use stored_pages::read_u64;
-
-/// The bytes of a page.
-pub const PAGE: usize = 4096;
+use stored_pages::layout::PAGE;
+use stored_pages::lsn_in;
 
 /// What a frame holds.
 #[derive(Clone, Copy)]
@@ -150,12 +147,4 @@ impl Frame {
         }
         self
     }
-}
-
-/// The LSN that stands on a page.
-fn lsn_in(bytes: &[u8]) -> u64
-    requires { length bytes.now ≡ 4096 }
-    ensures { result ≡ lsn_of bytes.now }
-{
-    read_u64(bytes, 12)
 }

@@ -8,7 +8,7 @@ ghost use Rattle.buffer_pool.specs.declared.frame.Content.TheVariants.{New, Clea
 ghost use Rattle.buffer_pool.specs.declared.fixing.FixBad.TheVariants.{Again as FixAgain};
 
 use crate::fixing::{FixBad, read_page};
-use crate::frame::{Content, Frame, PAGE};
+use crate::frame::{Content, Frame};
 use crate::order::{last_idle, order_of, use_page};
 use crate::slots::{
     Slot, change_slot, empty_slots, fix_slot, frame_at, move_frame, place_slot, put_slot,
@@ -18,6 +18,7 @@ use lru::LruCache;
 use std::alloc::Global;
 use std::marker::Model;
 use store_api::{Disk, NoMemory};
+use stored_pages::layout::PAGE;
 
 /// The pages of a file in memory. Contracts see each page's slot, and the pages in the order of their last use.
 #[derive(Drop)]

@@ -11,7 +11,6 @@ ghost use Rattle.schema_codec.specs.Schema.{schema_bytes};
 ghost use Rattle.catalog.specs.Makeable.{is_makeable};
 ghost use Rattle.catalog.specs.Creating.{HasRoom, IsFilled, Nears, PutsEntry, Creates, Attempts, asked_pages, IsPutReason, IsCreateReason};
 
-use crate::pages::FIRST;
 use crate::put_table;
 use crate::roots::make_roots;
 use crate::tables::IN_USE;
@@ -19,6 +18,7 @@ use inno_types::Schema;
 use mtr::Mtr;
 use std::alloc::Global;
 use store_api::{NoMemory, SpaceBad, Visit};
+use stored_pages::layout::FIRST_CATALOG_PAGE;
 
 /// Goes on by a step where the page before the place that it leads to is in use.
 fn pass<M: Mtr>(m: &mut M, place: u8, step: u8) -> Result<u8, Visit>
@@ -31,7 +31,7 @@ fn pass<M: Mtr>(m: &mut M, place: u8, step: u8) -> Result<u8, Visit>
     ensures deals { claim map_pages (M.state m.new).visited ≤ claim map_pages (M.state m.old).visited + 1 }
     ensures reason { IfErr result (IsReason asked_pages Miscounts (M.state m.old) (M.state m.new)) }
 {
-    let bytes = m.bytes(FIRST + u32::from(place + step - 1))?;
+    let bytes = m.bytes(FIRST_CATALOG_PAGE + u32::from(place + step - 1))?;
     if bytes[IN_USE] == 1 {
         Ok(place + step)
     } else {
@@ -84,7 +84,7 @@ fn put_entry_on<M: Mtr>(
     ensures reason { IfErr result (IsPutReason (M.state m.old) (M.state m.new)) }
 {
     let entry = used_page(alloc, schema, roots)?;
-    let page = FIRST + u32::from(table);
+    let page = FIRST_CATALOG_PAGE + u32::from(table);
     m.bytes(page)?;
     m.put(page, IN_USE as u16, &entry)?;
     Ok(())

@@ -9,15 +9,13 @@ ghost use Rattle.catalog.specs.Tables.{is_new_name, IsCatalog};
 ghost use Rattle.catalog.specs.Loading.{catalog_pages, Accepts, Refuses, Adds, IsAddReason, IsLoadReason};
 
 use crate::makeable::could_be_made;
-use crate::pages::{END, FIRST, table_on};
+use crate::pages::table_on;
 use crate::{Held, Schemas};
 use inno_types::{Bytes, Listed};
 use mtr::{Mtr, capacity};
 use std::alloc::Global;
-use store_api::{FindBad, NoMemory};
-
-/// The rule on tables, of those that a page may break.
-const TABLE: u8 = 6;
+use store_api::{FindBad, NoMemory, PageRule};
+use stored_pages::layout::{FIRST_CATALOG_PAGE, FIXED_PAGES};
 
 /// Whether none of the tables has the name.
 pub fn is_new(tables: &[Held], name: &Bytes) -> bool
@@ -33,7 +31,7 @@ fn fits_behind(tables: &[Held], page: u32, held: &Held) -> bool
     requires { length tables.now ≤ 16 }
     ensures { MatchBool result (Accepts tables.now page held.now) (Refuses tables.now page held.now) }
 {
-    page <= FIRST + tables.len() as u32
+    page <= FIRST_CATALOG_PAGE + tables.len() as u32
         && could_be_made(&held.schema)
         && is_new(tables, &held.schema.name)
 }
@@ -54,7 +52,10 @@ fn add_shown(tables: &mut Vec<Held>, page: u32, shown: Option<Held>) -> Result<(
     match shown {
         Some(held) => {
             if !fits_behind(tables, page, &held) {
-                return Err(FindBad::Malformed { page, rule: TABLE });
+                return Err(FindBad::Malformed {
+                    page,
+                    rule: PageRule::Table as u8,
+                });
             }
             push_table(tables, held)?;
             Ok(())
@@ -73,7 +74,7 @@ pub fn load<M: Mtr>(alloc: Global, m: &mut M) -> Result<Schemas, FindBad>
 {
     let count = capacity(m)?;
     let mut tables = Vec::new(alloc);
-    for page in FIRST..END {
+    for page in FIRST_CATALOG_PAGE..FIXED_PAGES {
         let shown = table_on(alloc, m, page, count)?;
         add_shown(&mut tables, page, shown)?;
     }

@@ -10,16 +10,7 @@ use crate::tables::table_in;
 use crate::{EntryBad, Held};
 use mtr::Mtr;
 use std::alloc::Global;
-use store_api::FindBad;
-
-/// The first page of the catalog.
-pub const FIRST: u32 = 5;
-
-/// The page behind its last.
-pub const END: u32 = 21;
-
-/// The rule on fields, of those that a page may break.
-const FIELDS: u8 = 1;
+use store_api::{FindBad, PageRule};
 
 /// The table that a page of the catalog holds, or None where it isn't in use.
 pub fn table_on<M: Mtr>(
@@ -38,7 +29,10 @@ pub fn table_on<M: Mtr>(
     let bytes = m.bytes(page)?;
     match table_in(alloc, bytes, count) {
         Ok(shown) => Ok(shown),
-        Err(EntryBad::Shape) => Err(FindBad::Malformed { page, rule: FIELDS }),
+        Err(EntryBad::Shape) => Err(FindBad::Malformed {
+            page,
+            rule: PageRule::Fields as u8,
+        }),
         Err(EntryBad::NoMemory) => Err(FindBad::NoMemory),
     }
 }

@@ -13,23 +13,11 @@ use big_endian::{u16_bytes, u32_bytes};
 use inno_db::index_number;
 use inno_types::{Column, Kind, Schema};
 use mtr::Mtr;
+use page_format::layout::{KIND, LEAF, NO_FENCE};
 use space_map::take;
 use std::alloc::Global;
-use store_api::{FreshBad, NoMemory, SpaceBad, Visit};
-
-/// The kind of a leaf.
-const LEAF: u8 = 3;
-
-/// The first page whose number isn't fixed.
-const OTHERS: u32 = 21;
-
-/// The first page of the map, and the rule on the use of pages, of those that a page may break.
-const MAP: u32 = 2;
-
-const USE: u8 = 5;
-
-/// What stands for a fence that isn't there.
-const NO_FENCE: u8 = 255;
+use store_api::{FreshBad, NoMemory, PageRule, SpaceBad, Visit};
+use stored_pages::layout::{FIRST_MAP_PAGE, FIXED_PAGES};
 
 /// The bytes of an empty leaf from byte 20 on, up to its fences.
 fn head_of_leaf(index: u32, record_len: u16) -> [u8; 16]
@@ -66,14 +54,14 @@ fn make_root<M: Mtr>(m: &mut M, index: u32, record_len: u16) -> Result<u32, Spac
     ensures reason { IfErr result (IsCreateReason 1 (M.state m.old) (M.state m.new)) }
 {
     let page = take(m)?;
-    if page < OTHERS {
+    if page < FIXED_PAGES {
         return Err(SpaceBad::Visit(Visit::Bad {
-            page: MAP,
-            rule: USE,
+            page: FIRST_MAP_PAGE,
+            rule: PageRule::Use as u8,
         }));
     }
     make_zeros(m, page)?;
-    m.put(page, 20, &head_of_leaf(index, record_len))?;
+    m.put(page, KIND as u16, &head_of_leaf(index, record_len))?;
     Ok(page)
 }
 

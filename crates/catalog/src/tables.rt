@@ -7,6 +7,7 @@ ghost use Rattle.catalog.specs.Tables.{HoldsTable};
 ghost use Rattle.catalog.specs.Loading.{Shows, IsNoTable};
 
 use crate::{EntryBad, Held, get_entry};
+use page_format::layout::KIND;
 use std::alloc::Global;
 
 /// The kind of a page of the catalog.
@@ -42,7 +43,7 @@ pub fn table_in(alloc: Global, page: &[u8], count: u32) -> Result<Option<Held>, 
     ensures shown { IfOk result (λ shown. Shows count page.now shown) }
     ensures refused { IfErr result (IsNoTable count page.now) }
 {
-    if page[20] != CATALOG {
+    if page[KIND] != CATALOG {
         return Err(EntryBad::Shape);
     }
     match page[IN_USE] {

@@ -10,12 +10,8 @@ use page_format::Page;
 use std::alloc::Global;
 use std::marker::Model;
 use store_api::NoMemory;
+use stored_pages::layout::{PAGE, SLOTS};
 use stored_pages::number_in;
-
-pub const PAGE: usize = 4096;
-
-/// The most pages that a batch has, and that Double has room for.
-pub const SLOTS: usize = 64;
 
 /// Up to 64 sealed pages of distinct numbers.
 #[derive(Drop)]

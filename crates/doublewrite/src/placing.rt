@@ -12,6 +12,7 @@ ghost use Rattle.doublewrite.specs.Places.{Leads, LeavesPages, PutsPage};
 use crate::batch::Batch;
 use std::marker::Model;
 use store_api::{Area, Disk, Failed};
+use stored_pages::layout::PAGE;
 use stored_pages::number_in;
 
 /// A batch whose copies are synced, and how many of its pages are in place.
@@ -59,7 +60,7 @@ fn place_page<D: Disk>(disk: &mut D, batch: &Batch, slot: usize) -> Result<bool,
     ensures crash { (before : State) → Now (IsStagedHonestly before batch.now) (D.past disk.old) → Meanwhile (KeepsPages before batch.now) (D.past disk.old) (D.past disk.new) }
 {
     let page = batch.page(slot);
-    disk.write(Area::Pages, 4096 * u64::from(number_in(page)), page)?;
+    disk.write(Area::Pages, PAGE as u64 * u64::from(number_in(page)), page)?;
     if slot + 1 < batch.len() {
         return Ok(true);
     }

@@ -10,9 +10,9 @@ ghost use Rattle.doublewrite.specs.declared.restoring.RepairBad.TheVariants.{Fai
 ghost use Rattle.stored_pages.specs.Reading.{IsGoodPage, place_of};
 ghost use Rattle.doublewrite.specs.Repairing.{IsQuietAs, ReadsAs, IsRestoringFrom, IsClearingFrom, IsRepaired, FailedRose};
 
-use crate::batch::{PAGE, SLOTS};
 use std::alloc::{AllocError, Global};
 use store_api::{Area, Disk, Failed};
+use stored_pages::layout::{PAGE, SLOTS};
 use stored_pages::{copy_at, good_number, newest_slot, number_of_copy, restorable};
 
 /// Why a repair gave up. It may be made again.
@@ -45,7 +45,7 @@ fn is_in_place<D: Disk>(disk: &mut D, number: u32) -> Result<bool, Failed>
     ensures cause { HasCause (D.past disk.old).faults (D.past disk.new).faults result }
 {
     let mut page = [0; PAGE];
-    let len = disk.read(Area::Pages, 4096 * u64::from(number), &mut page)?;
+    let len = disk.read(Area::Pages, PAGE as u64 * u64::from(number), &mut page)?;
     if len < PAGE {
         return Ok(false);
     }
@@ -67,7 +67,7 @@ fn restore<D: Disk>(disk: &mut D, double: &[u8], number: u32, slot: usize) -> Re
         return Ok(());
     }
     let newest = copy_at(double, newest_slot(double, number, slot));
-    disk.write(Area::Pages, 4096 * u64::from(number), newest)?;
+    disk.write(Area::Pages, PAGE as u64 * u64::from(number), newest)?;
     Ok(())
 }
 
@@ -104,7 +104,7 @@ fn clear_copy<D: Disk>(disk: &mut D, double: &[u8], slot: usize) -> Result<(), F
 {
     match number_of_copy(double, slot) {
         Some(_) => {
-            disk.write(Area::Double, 4096 * slot as u64, &[0; PAGE])?;
+            disk.write(Area::Double, PAGE as u64 * slot as u64, &[0; PAGE])?;
             Ok(())
         }
         None => Ok(()),

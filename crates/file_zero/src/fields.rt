@@ -6,12 +6,8 @@ ghost use Rattle.law_crashes.specs.Header.{IsHeader};
 ghost use Rattle.file_zero.specs.Refused.{IsOther};
 
 use store_api::MountBad;
+use stored_pages::layout::{FIRST_LSN, MAGIC, MAGIC_NUMBER, RUN, VERSION};
 use stored_pages::{read_u32, read_u64};
-
-pub const PAGE: usize = 4096;
-
-/// The bytes `INNODPRF`.
-const MAGIC: u64 = 5_282_245_515_307_668_038;
 
 /// What page 0 says: the run of the log, and the LSN of its first group.
 #[derive(Clone, Copy)]
@@ -26,15 +22,15 @@ pub fn header_of(page: &[u8]) -> Result<Header, MountBad>
     ensures ok { IfOk result (λ header. IsHeader header.run header.first page.now) }
     ensures other { IfErr result (IsOther page.now) }
 {
-    if read_u64(page, 32) != MAGIC {
+    if read_u64(page, MAGIC) != MAGIC_NUMBER {
         return Err(MountBad::NotInitialised);
     }
-    let version = read_u32(page, 40);
+    let version = read_u32(page, VERSION);
     if version != 0 {
         return Err(MountBad::Version { found: version });
     }
     Ok(Header {
-        run: read_u64(page, 48),
-        first: read_u64(page, 56),
+        run: read_u64(page, RUN),
+        first: read_u64(page, FIRST_LSN),
     })
 }

@@ -8,14 +8,15 @@ ghost use Rattle.store_api.specs.Looks.{Looks, LeavesState};
 ghost use Rattle.file_zero.specs.Reading.{IsRead, SaysHeader};
 ghost use Rattle.file_zero.specs.Refused.{IsRefused, IsMissing};
 
-use crate::fields::{Header, PAGE, header_of};
+use crate::fields::{Header, header_of};
 use std::alloc::Global;
 use store_api::{Area, Disk, MountBad};
+use stored_pages::layout::{NUMBER, PAGE, SLOTS, SUM};
 use stored_pages::{good_number, newest_copy, read_u64};
 use sum64::fnv;
 
 /// The copies of the doublewrite take so many bytes.
-const COPIES: usize = 64 * PAGE;
+const COPIES: usize = SLOTS * PAGE;
 
 /// Whether the first bytes of the pages are a good page 0.
 fn is_in_place(place: &[u8], len: usize) -> bool
@@ -45,8 +46,8 @@ fn missing(place: &[u8], len: usize) -> MountBad
     MountBad::Damaged {
         area: Area::Pages,
         place: 0,
-        stored: read_u64(place, 0),
-        computed: fnv(&place[8..]),
+        stored: read_u64(place, SUM),
+        computed: fnv(&place[NUMBER..]),
     }
 }
 

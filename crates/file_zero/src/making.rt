@@ -9,9 +9,9 @@ ghost use Rattle.law_crashes.specs.Files.{IsAtRest};
 ghost use Rattle.store_api.specs.Looks.{Looks, LeavesState};
 ghost use Rattle.file_zero.specs.Making.{AreEmpty, AreNew, AreBeingMade, HasBytes, IsNotMade, IsPageAlone};
 
-use crate::fields::PAGE;
 use big_endian::u64_bytes;
 use store_api::{Area, Disk, MountBad};
+use stored_pages::layout::{NUMBER, PAGE, SUM};
 use sum64::fnv;
 
 /// The fields of page 0 behind its sum: its number, which is 0; no group has changed it; it is a header; then `INNODPRF`,
@@ -36,9 +36,9 @@ fn first_page() -> [u8; PAGE]
     ensures header { IsHeader 1 1 result }
 {
     let mut page = [0; PAGE];
-    write_over(&mut page, 8, &FIELDS);
-    let sum = fnv(&page[8..]);
-    write_over(&mut page, 0, &u64_bytes(sum));
+    write_over(&mut page, NUMBER, &FIELDS);
+    let sum = fnv(&page[NUMBER..]);
+    write_over(&mut page, SUM, &u64_bytes(sum));
     page
 }
 

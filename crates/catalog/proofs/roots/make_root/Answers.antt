@@ -12,8 +12,8 @@ returns-in_err-page-clause-reason g c =
     let p = err_from_is_err_and c.from_residual.result c.from_residual.ensures.1 in
     rw (p.1, p.2) (take_reason (g.M.Mtr.state c.args.m.now) (g.M.Mtr.state c.take.new.m) c.in_err-page.field-0.0 c.in_err-page.ensures.reason)
 
-pub returns-then-page-lt-OTHERS-clause-kept : goal.returns-then-page-lt-OTHERS-clause-kept
-returns-then-page-lt-OTHERS-clause-kept g c = attempts_first c.in_ok-page.page (g.M.Mtr.state c.args.m.now) (g.M.Mtr.state c.take.new.m) c.in_ok-page.ensures.taken c.in_ok-page.ensures.counted
+pub returns-then-page-lt-FIXED_PAGES-clause-kept : goal.returns-then-page-lt-FIXED_PAGES-clause-kept
+returns-then-page-lt-FIXED_PAGES-clause-kept g c = attempts_first c.in_ok-page.page (g.M.Mtr.state c.args.m.now) (g.M.Mtr.state c.take.new.m) c.in_ok-page.ensures.taken c.in_ok-page.ensures.counted
 
 pub make_zeros-requires-clause-few : goal.make_zeros-requires-clause-few
 make_zeros-requires-clause-few g c =
@@ -27,18 +27,18 @@ returns-in_err-make_zeros-clause-kept g c =
 
 pub put-requires-clause-within : goal.put-requires-clause-within
 put-requires-clause-within g c =
-    within_second c.in_ok-page.page (g.M.Mtr.state c.args.m.now) (g.M.Mtr.state c.take.new.m) c.in_ok-page.ensures.taken c.in_ok-page.ensures.counted c.if-page-lt-OTHERS.false (g.M.Mtr.state c.make_zeros.new.m) c.in_ok-make_zeros.ensures.made
+    within_second c.in_ok-page.page (g.M.Mtr.state c.args.m.now) (g.M.Mtr.state c.take.new.m) c.in_ok-page.ensures.taken c.in_ok-page.ensures.counted c.if-page-lt-FIXED_PAGES.false (g.M.Mtr.state c.make_zeros.new.m) c.in_ok-make_zeros.ensures.made
 
 pub returns-in_err-put-clause-kept : goal.returns-in_err-put-clause-kept
 returns-in_err-put-clause-kept g c =
     on_err _ _
     (subst (Attempts 1 (g.M.Mtr.state c.args.m.now)) (sym c.in_err-put.ensures.refused)
-    (attempts_second c.in_ok-page.page (g.M.Mtr.state c.args.m.now) (g.M.Mtr.state c.take.new.m) c.in_ok-page.ensures.taken c.in_ok-page.ensures.counted c.if-page-lt-OTHERS.false (g.M.Mtr.state c.make_zeros.new.m) c.in_ok-make_zeros.ensures.made))
+    (attempts_second c.in_ok-page.page (g.M.Mtr.state c.args.m.now) (g.M.Mtr.state c.take.new.m) c.in_ok-page.ensures.taken c.in_ok-page.ensures.counted c.if-page-lt-FIXED_PAGES.false (g.M.Mtr.state c.make_zeros.new.m) c.in_ok-make_zeros.ensures.made))
 
 pub returns-clause-made : goal.returns-clause-made
 returns-clause-made g c =
     let second = g.M.Mtr.state c.make_zeros.new.m in
     let new = g.M.Mtr.state c.put.new.self in
     let puts = subst (λ (bytes : List ℕ). Puts c.in_ok-page.page 20 bytes second new) c.head_of_leaf.ensures c.in_ok-put.ensures.put in
-    makes_root c.in_ok-page.page (g.M.Mtr.state c.args.m.now) (g.M.Mtr.state c.take.new.m) c.in_ok-page.ensures.taken c.in_ok-page.ensures.counted c.if-page-lt-OTHERS.false second c.in_ok-make_zeros.ensures.made c.args.index c.args.record_len (omega (arith, c.ranges.index.fits))
+    makes_root c.in_ok-page.page (g.M.Mtr.state c.args.m.now) (g.M.Mtr.state c.take.new.m) c.in_ok-page.ensures.taken c.in_ok-page.ensures.counted c.if-page-lt-FIXED_PAGES.false second c.in_ok-make_zeros.ensures.made c.args.index c.args.record_len (omega (arith, c.ranges.index.fits))
     (omega (arith, c.ranges.record_len.fits)) c.requires.width new puts
