@@ -1,4 +1,5 @@
 //! The calls of a lock table that go with an insertion: no want of memory and no wait comes behind the intention.
+//! `take_new` is no law: the insertion of a record, and of an entry, will call it once rows are locked one by one.
 
 ghost use Rattle.std.specs.Prelude.{◌≡◌, ℕ, ◌+◌, ◌++◌, false, true, length, IsTrue, List, IfOk, IfSome};
 ghost use Rattle.lock_rules.specs.Rules.{FitsItsRule};
