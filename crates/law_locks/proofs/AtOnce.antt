@@ -1,8 +1,9 @@
 -- An insertion whose intention is granted in the same step keeps what everybody guards.
 -- The laws of insertions cite it, and so do those of places (`law_other_places`). No request waits in between.
-use Rattle.std.proofs.Common.{◌≡◌, ◌≢◌, ◌∙◌, ℕ, true, false, List, [], ◌∷◌, ◌++◌, inl, inr, refl, sym, ap, subst}
+use Rattle.std.proofs.Common.{arith, ◌≡◌, ◌≢◌, ◌∙◌, ℕ, ◌+◌, true, false, List, [], ◌∷◌, ◌++◌, inl, inr, refl, sym, ap, subst, length, length-append}
 use Rattle.std.proofs.lemmas.Bool.{eq-eqb}
 use Rattle.std.proofs.lemmas.List.Folds.{list_any-append}
+use Rattle.std.proofs.lemmas.List.Sums.{sum_by-append}
 use Rattle.std.specs.Prelude.{◌==◌, ◌&&◌, ◌||◌, not, cond, Some, is_some}
 use Rattle.std.specs.List.{list_any}
 use Rattle.inno_types.specs.declared.lock.LockKind.TheVariants.{Intent}
@@ -11,13 +12,13 @@ use Rattle.inno_types.specs.declared.lock.Lock.{Lock}
 use Rattle.store_api.specs.declared.answers.Undo.{Undo}
 use Rattle.store_api.specs.declared.answers.Asked.{Asked}
 use Rattle.store_api.specs.declared.answers.Asked.TheVariants.{Granted}
-use Rattle.lock_rules.specs.Kinds.{is_shared, locks_record}
+use Rattle.lock_rules.specs.Kinds.{is_shared, locks_gap, locks_record}
 use Rattle.lock_rules.specs.Spots.{same_spot}
 use Rattle.lock_rules.specs.Conflicts.{conflicts, covers, kind_at, kind_of, kind_covers, kinds_conflict}
 use Rattle.lock_rules.proofs.Booleans.{and_false, or_false, or_false-left, split}
 use Rattle.lock_table.specs.Queue.{is_blocked, is_covered}
 use Rattle.lock_table.specs.Coverage.{IsInsertion, MayInsert}
-use Rattle.lock_table.specs.Records.{copies}
+use Rattle.lock_table.specs.Records.{copies, is_own_gap, own_gaps}
 use Rattle.lock_table.specs.View.{Table, HasPlaces, IsAnswered, IsGranted, granted_with}
 use Rattle.law_locks.specs.Guards.{Guards, Guarded, has_gap, has_record, has_alone}
 use Rattle.law_locks.specs.Stand.{AllStand, Inserts}
@@ -62,6 +63,19 @@ module _ (txn : ℕ) (next : Spot) (intention : Lock) (is : IsIntention txn next
         (list_any-append (λ held. conflicts held intention) old.granted (intention ∷ [])
         ∙ or_false _ _ (or_false-left _ _ free) (or_false _ _ (not_itself intention) refl));
   }
+
+  -- it is no lock of the gap, and takes one place
+  no_gap : own_gaps txn next (intention ∷ []) ≡ 0
+  no_gap = ap (λ b. 0 + cond b 1 0) (ap (λ k. intention.txn == txn && same_spot intention.spot next && locks_gap k) is.kind
+      ∙ and_false (intention.txn == txn && same_spot intention.spot next))
+
+  pub room_left : HasPlaces (own_gaps txn next old.granted + 2) old → HasPlaces (own_gaps txn next asked.granted + 1) asked
+  room_left room =
+      let gaps : own_gaps txn next asked.granted ≡ own_gaps txn next old.granted + 0 =
+      ap (own_gaps txn next) granted_is ∙ sum_by-append (λ lock. cond (is_own_gap txn next lock) 1 0) old.granted (intention ∷ [])
+      ∙ ap (λ n. own_gaps txn next old.granted + n) no_gap in
+      let waits : length asked.waiting ≡ length old.waiting = ap (λ (t : Table). length t.waiting) granted.lists in
+      omega (arith, room, gaps, waits, ap length granted_is, length-append old.granted (intention ∷ []), granted.stays)
 
 -- ---- the inserter has the record
 

@@ -23,12 +23,13 @@ module _ (txn other clustered index : ℕ) (records : List (List ℕ)) (granted 
   pub none_before : row.before ≡ Some entry → ⊥
   none_before is = nobody_beside txn other clustered row.key differ granted apart owns.alone (keeps entry is inside)
 
-  pub none_behind : (made : ℕ) (log : List Undo) → KeepsRange txn index records granted range made log → Contains row.behind (Some entry) → ⊥
-  none_behind made log range_is there =
+  pub none_behind : (may : List ℕ → Type 0) (made : ℕ) (log : List Undo) → KeepsRange may txn index records granted range made log → may entry
+      → Contains row.behind (Some entry) → ⊥
+  none_behind may made log range_is meets there =
       elim (let owned : IsOwnEntry other index records granted row.before (Some entry)
       = All-contains (IsOwnEntry other index records granted row.before) row.behind (Some entry)
       (All-from_recursion (IsOwnEntry other index records granted row.before) row.behind owns.entries) there in owned) [
         | inl same ↦ none_before same
         | inr own ↦ nobody_beside txn other index entry differ granted apart own.1
-            (record_of txn index records granted entry made log (range_is entry inside) own.0)
+            (record_of txn index records granted entry made log (range_is entry meets inside) own.0)
       ]

@@ -1,5 +1,5 @@
 -- What a transaction has changed, and the range that another one keeps.
-use Rattle.std.specs.Prelude.{◌≡◌, ◌⊎◌, ℕ, true, List, Option, None, Some}
+use Rattle.std.specs.Prelude.{◌≡◌, ◌⊎◌, ℕ, true, List, Option, None, Some, length}
 use Rattle.std.specs.List.{AllByRecursion}
 use Rattle.inno_types.specs.declared.lock.Lock.{Lock}
 use Rattle.inno_types.specs.declared.stmt.Range.{Range}
@@ -28,9 +28,15 @@ pub record Owns (txn clustered index : ℕ) (records : List (List ℕ)) (locks :
   pub alone : has_alone txn clustered row.key locks ≡ true
   pub entries : AllByRecursion (IsOwnEntry txn index records locks row.before) row.behind
 
--- The transaction has searched the range of the index when its log had so many records, and keeps it.
-abbrev pub KeepsRange : ℕ → ℕ → List (List ℕ) → List Lock → Range → ℕ → List Undo → Type 0
-KeepsRange txn index records locks range made log = (key : List ℕ) → is_within range (Some key) ≡ true → Guarded txn index records locks key made log
+-- Keys that may stand in the index of this number of a table. The keys of the clustered one, of number 0, have one width: a longer list of bytes that
+-- begins with such a key lies in a range of that one key, too, and a lock of its record doesn't guard it; but no record has such a key.
+abbrev pub MayBeKey : ℕ → ℕ → List ℕ → Type 0
+MayBeKey width which key = which ≡ 0 → length key ≡ width
+
+-- The transaction has searched the range of the index when its log had so many records, and keeps each of these keys that lies in it.
+abbrev pub KeepsRange : (List ℕ → Type 0) → ℕ → ℕ → List (List ℕ) → List Lock → Range → ℕ → List Undo → Type 0
+KeepsRange may txn index records locks range made log =
+    (key : List ℕ) → may key → is_within range (Some key) ≡ true → Guarded txn index records locks key made log
 
 -- where the row was in the range before it was changed, the transaction has locked its record
 abbrev pub KeepsRow : ℕ → ℕ → List Lock → Range → ChangedRow → Type 0

@@ -1,14 +1,22 @@
 //! Laws of an insertion that is made with its locks in one step: the intention is asked for and granted in the step in which
 //! the record comes. Each function has an empty body: its contract is the law.
 
-ghost use Rattle.std.specs.Prelude.{◌≡◌, ◌≢◌, ℕ, true, List, ◌∷◌};
+ghost use Rattle.std.specs.Prelude.{◌≡◌, ◌≢◌, ℕ, ◌+◌, true, List, ◌∷◌};
 ghost use Rattle.inno_types.specs.declared.lock.Spot.{Spot};
 ghost use Rattle.inno_types.specs.declared.lock.Lock.{Lock};
 ghost use Rattle.store_api.specs.declared.answers.Undo.{Undo};
-ghost use Rattle.lock_table.specs.View.{Table};
+ghost use Rattle.lock_table.specs.Records.{own_gaps};
+ghost use Rattle.lock_table.specs.View.{Table, HasPlaces, IsGranted};
 ghost use Rattle.law_locks.specs.Guards.{Guards, Guarded, has_alone};
 ghost use Rattle.law_locks.specs.Stand.{Inserts};
-ghost use Rattle.law_locks.specs.AtOnce.{InsertsAtOnce};
+ghost use Rattle.law_locks.specs.AtOnce.{IsIntention, InsertsAtOnce};
+
+/// Of the room that was taken for it, the intention takes one place, and what the copies and the lock of the record need is left.
+pub fn room_lasts_behind_the_intention()
+    ensures { (txn : ℕ) (next : Spot) (intention : Lock) (old asked : Table)
+        → IsIntention txn next intention → IsGranted old asked intention
+        → HasPlaces (own_gaps txn next old.granted + 2) old → HasPlaces (own_gaps txn next asked.granted + 1) asked }
+{}
 
 /// It is an insertion as the laws on guards have it, over the locks behind the intention.
 pub fn it_is_an_insertion()

@@ -35,7 +35,7 @@ pub use index::{
 };
 pub use insertions::{
     it_is_an_insertion, it_keeps_guards, nobody_else_guarded_the_new_key,
-    the_inserter_has_the_record_alone,
+    room_lasts_behind_the_intention, the_inserter_has_the_record_alone,
 };
 pub use pins::{
     changes_keep_what_is_guarded, insertions_keep_what_is_guarded,

@@ -88,15 +88,15 @@ impl LockTable {
         !self.holds(lock) && is_blocked(&self.granted, &self.waiting, &KeptLock::new(lock))
     }
 
-    /// Takes the memory for the locks of a record that the transaction is about to insert before the next one: for the
-    /// copies that `on_insert` makes, and for one lock more that is granted without a wait.
+    /// Takes the memory for the locks of a record that the transaction is about to insert before the next one: for its
+    /// intention there, for the copies that `on_insert` makes, and for the lock of the record, where none has to wait.
     pub fn lock_room(&mut self, txn: u64, next: &Spot) -> Result<(), NoMemory>
-        ensures room { OnOk result (HasPlaces (own_gaps txn next.now self.old.granted + 1) self.new) }
+        ensures room { OnOk result (HasPlaces (own_gaps txn next.now self.old.granted + 2) self.new) }
         ensures same { self.new ≡ record self.old { capacity = self.new.capacity } }
         ensures stays { self.old.capacity ≤ self.new.capacity }
     {
         let own = own_gaps(&self.granted, txn, next);
-        self.granted.reserve(self.waiting.len() + own + 1)?;
+        self.granted.reserve(self.waiting.len() + own + 2)?;
         Ok(())
     }
 

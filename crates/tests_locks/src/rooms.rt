@@ -63,6 +63,7 @@ fn a_question_is_no_request(rt: HostRuntime) -> Result<(), Fail> {
 /// The lock of a record that is new below the one of the key 9, and what its insertion needs beside.
 #[derive(Drop)]
 struct Insertion {
+    intention: (Lock, Case),
     own: (Lock, Case),
     new: Spot,
     next: Spot,
@@ -72,29 +73,36 @@ fn insertion_of_five(alloc: Global) -> Result<Insertion, AllocError> {
     let (new, _) = due(alloc, 1, Rule::Inserted, Mode::X, Some(5))?;
     let (next, _) = due(alloc, 1, Rule::RangeRecord, Mode::S, Some(9))?;
     Ok(Insertion {
+        intention: due(alloc, 1, Rule::ToInsert, Mode::X, Some(9))?,
         own: due(alloc, 1, Rule::Inserted, Mode::X, Some(5))?,
         new: new.spot,
         next: next.spot,
     })
 }
 
-/// One has the record 9 with the gap below it, and takes room. Want of memory comes before the insertion, or not at all.
+/// One has the record 9 with the gap below it, and takes room. Want of memory comes before the intention, or not at all.
 fn insert_with_room(
     rt: &impl Abort,
     alloc: Global,
     table: &mut LockTable,
-) -> Result<[bool; 2], NoMemory> {
+) -> Result<[bool; 3], NoMemory> {
     ask(
         rt,
         table,
         due(alloc, 1, Rule::RangeRecord, Mode::S, Some(9))?,
     )?;
-    let Insertion { own, new, next } = insertion_of_five(alloc)?;
+    let Insertion {
+        intention,
+        own,
+        new,
+        next,
+    } = insertion_of_five(alloc)?;
     is_short(rt, &new);
     table.lock_room(1, &next)?;
+    let intended = ask(rt, table, intention).is_ok();
     let copied = table.on_insert(1, &new, &next).is_ok();
     let granted = ask(rt, table, own).is_ok();
-    Ok([copied, granted])
+    Ok([intended, copied, granted])
 }
 
 #[test]
@@ -103,7 +111,7 @@ fn a_lock_with_room_takes_no_memory(rt: HostRuntime) -> Result<(), Fail> {
     let inserted = insert_with_room(&rt, rt.alloc(), &mut table);
     let locks = table.granted_locks().len();
     drop(table);
-    assert_eq!(rt; inserted?, [true, true]);
-    assert_eq!(rt; locks, 3);
+    assert_eq!(rt; inserted?, [true, true, true]);
+    assert_eq!(rt; locks, 4);
     Ok(())
 }

@@ -3,7 +3,7 @@ use Rattle.std.proofs.lemmas.Bool.{false≢true}
 use Rattle.lock_rules.proofs.Booleans.{true_false}
 use Rattle.lock_table.specs.View.{Table}
 use Rattle.law_locks.proofs.AtOnce.{taken_for_sure}
-use Rattle.law_locks.proofs.insertions.taking.take_new.Goals as goal
+use Rattle.law_locks.proofs.taking.take_new.Goals as goal
 
 pub unreachable-requires : goal.unreachable-requires
 unreachable-requires c = let is = (c.on_insert.ensures.sure 1 c.requires.room).0 in false≢true (rw c.in-Err.is at is)

@@ -1,5 +1,5 @@
 use Rattle.law_locks.proofs.InsertionSpots.{same_over, guarded_again}
-use Rattle.law_locks.proofs.insertions.index.values_that_are_replaced_keep_guards.Goals as goal
+use Rattle.law_locks.proofs.index.values_that_are_replaced_keep_guards.Goals as goal
 
 pub returns : goal.returns
 returns c other index pairs key value guarded locks made log stands was =

@@ -2,7 +2,7 @@ use Rattle.law_locks.proofs.Guarding.{removed_guards}
 use Rattle.law_locks.proofs.Pinning as pinning
 use Rattle.law_locks.proofs.InsertionSpots.{removes, same_without, guards_again, guarded_again}
 use Rattle.law_locks.specs.Index.{keys_of, spot_at, next_spot}
-use Rattle.law_locks.proofs.insertions.index.pairs_that_are_removed_keep_guards.Goals as goal
+use Rattle.law_locks.proofs.index.pairs_that_are_removed_keep_guards.Goals as goal
 
 pub returns : goal.returns
 returns c = record {

@@ -2,7 +2,7 @@ use Rattle.std.proofs.Common.{refl}
 use Rattle.law_locks.proofs.AtOnce as lemmas
 use Rattle.law_locks.proofs.InsertionSpots.{at_once, same_with, guards_again, guarded_again}
 use Rattle.law_locks.specs.Index.{keys_of, spot_at, next_spot}
-use Rattle.law_locks.proofs.insertions.index.pairs_that_are_put_keep_guards.Goals as goal
+use Rattle.law_locks.proofs.index.pairs_that_are_put_keep_guards.Goals as goal
 
 pub returns : goal.returns
 returns c = record {
