@@ -1,9 +1,5 @@
 //! The calls of a lock table that go with an insertion: no want of memory and no wait comes behind the intention.
-<<<<<<< HEAD
-//! Whoever inserts under record locks is to make them here, room first; only the laws beside it speak of it yet.
-=======
 //! `take_new` is no law: the insertion of a record, and of an entry, will call it once rows are locked one by one.
->>>>>>> 660cf5fe63fe4e0661e103a4a1029de37c9cbb00
 
 ghost use Rattle.std.specs.Prelude.{◌≡◌, ℕ, ◌+◌, ◌++◌, false, true, length, IsTrue, List, IfOk, IfSome};
 ghost use Rattle.lock_rules.specs.Rules.{FitsItsRule};

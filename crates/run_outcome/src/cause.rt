@@ -6,6 +6,7 @@ ghost use Rattle.std.specs.String.{string_bytes};
 ghost use Rattle.run_outcome.specs.Causes as spelled;
 
 use crate::outcome::Fault;
+use script::Limited;
 use std::alloc::{AllocError, Global};
 use store_api::{Area, MountBad};
 
@@ -56,7 +57,11 @@ fn disk_fault_line(alloc: Global, file: &str) -> Result<String, AllocError>
 fn whose<'a>(what: u8, file: &'a str, script: &'a str) -> &'a str
     ensures { result.now ≡ spelled.whose what file.now script.now }
 {
-    if what == 5 { file } else { script }
+    if what == Limited::Rows as u8 {
+        file
+    } else {
+        script
+    }
 }
 
 /// What is limited, what was found, and the most.
@@ -77,12 +82,16 @@ fn limit_line(
 fn limited(what: u8) -> &'static str
     ensures { result.now ≡ spelled.limited what }
 {
-    match what {
-        1 => " sessions",
-        2 => " items",
-        3 => " bytes of a statement",
-        4 => " bytes",
-        _ => " rows",
+    if what == Limited::Sessions as u8 {
+        " sessions"
+    } else if what == Limited::Items as u8 {
+        " items"
+    } else if what == Limited::Statement as u8 {
+        " bytes of a statement"
+    } else if what == Limited::Script as u8 {
+        " bytes"
+    } else {
+        " rows"
     }
 }
 

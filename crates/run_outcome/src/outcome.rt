@@ -17,7 +17,7 @@ use crate::reports::{Report, print_report};
 use crate::words::Way;
 use inno_model::{Event, History};
 use inno_types::Reply;
-use script::{Directives, Script, read_script};
+use script::{Directives, Limited, Script, read_script};
 use std::alloc::Global;
 use store_api::{Failed, MOST_ROWS, MountBad, Sink, Source};
 
@@ -122,7 +122,7 @@ pub fn fault_of(bad: MountBad) -> Fault
         MountBad::Disk => Fault::DiskFault,
         MountBad::NoMemory => Fault::NoMemory,
         MountBad::TooLarge { rows } => Fault::Limit {
-            what: 5,
+            what: Limited::Rows as u8,
             found: rows,
             most: MOST_ROWS,
         },

@@ -21,6 +21,7 @@ use Rattle.script.specs.declared.reading.Span.{Span}
 use Rattle.script.specs.declared.reading.Reading.{Reading}
 use Rattle.script.specs.Reading as spelled
 use Rattle.script.specs.Script.{IsPlayable}
+use Rattle.script.specs.declared.script.Limited.TheVariants as limited
 
 pub record IsSound (allowed : Directives) (script : Script) (s : ℕ) : Type 0 where
   pub numbered : s < length script.names
@@ -67,12 +68,12 @@ closed_sound allowed bytes reading (Some span) sound = one_item allowed reading 
 grown_sound : (allowed : Directives) (reading : Reading) (from end : ℕ) (next : Reading) → IsSoundReading allowed reading → spelled.grown reading from end ≡ Ok next → IsSoundReading allowed next
 grown_sound allowed reading from end next sound is =
     of_ok {B = ScriptBad} (IsSoundReading allowed) (record reading { statement = Some (record { from = from; to = end }); at = end }) next
-    (unless (nat_lt spelled.most_statement_bytes (end - from)) (spelled.over 3 spelled.most_statement_bytes) (Ok (record reading { statement = Some (record { from = from; to = end }); at = end })) next is) sound
+    (unless (nat_lt spelled.most_statement_bytes (end - from)) (spelled.over limited.Statement spelled.most_statement_bytes) (Ok (record reading { statement = Some (record { from = from; to = end }); at = end })) next is) sound
 
 extended_sound : (allowed : Directives) (reading : Reading) (end : ℕ) (statement : Option Span) (next : Reading) → IsSoundReading allowed reading → spelled.extended_at reading end statement ≡ Ok next → IsSoundReading allowed next
 extended_sound allowed reading end (Some span) next sound is = grown_sound allowed reading span.from end next sound is
 extended_sound allowed reading end None next sound is =
-    grown_sound allowed reading reading.at end next sound (unless (nat_le spelled.most_items (length reading.script.items)) (spelled.over 2 spelled.most_items) (spelled.grown reading reading.at end) next is)
+    grown_sound allowed reading reading.at end next sound (unless (nat_le spelled.most_items (length reading.script.items)) (spelled.over limited.Items spelled.most_items) (spelled.grown reading reading.at end) next is)
 
 -- ---- a name more
 
@@ -92,9 +93,9 @@ named_sound : (allowed : Directives) (bytes : List ℕ) (reading : Reading) (nam
 named_sound allowed bytes reading name next sound is =
     let names = reading.script.names in
     let after : Reading = record reading { script = record reading.script { names = spelled.with_name names name }; s = spelled.number_of name names } in
-    let allowed_number = unless (bytes_eq name (codes "setup")) (spelled.bad_line bytes reading.at) (cond (nat_lt spelled.most_sessions (spelled.number_of name names)) (Err (spelled.over 1 spelled.most_sessions)) (Ok after)) next is in
+    let allowed_number = unless (bytes_eq name (codes "setup")) (spelled.bad_line bytes reading.at) (cond (nat_lt spelled.most_sessions (spelled.number_of name names)) (Err (spelled.over limited.Sessions spelled.most_sessions)) (Ok after)) next is in
     of_ok {B = ScriptBad} (IsSoundReading allowed) after next
-    (unless (nat_lt spelled.most_sessions (spelled.number_of name names)) (spelled.over 1 spelled.most_sessions) (Ok after) next allowed_number)
+    (unless (nat_lt spelled.most_sessions (spelled.number_of name names)) (spelled.over limited.Sessions spelled.most_sessions) (Ok after) next allowed_number)
     (record {
       numbered = (more_names names name).1;
       playable = record {
@@ -111,10 +112,10 @@ both_true false b is = is
 
 signalled_sound : (allowed : Directives) (bytes : List ℕ) (reading : Reading) (item : Item) (next : Reading) → IsSoundReading allowed reading → spelled.signalled allowed bytes reading item ≡ Ok next → IsSoundReading allowed next
 signalled_sound allowed bytes reading item next sound is =
-    let tests = where_true (allowed.signals && nat_lt 0 reading.s) (spelled.bad_line bytes reading.at) (cond (nat_le spelled.most_items (length reading.script.items)) (Err (spelled.over 2 spelled.most_items)) (Ok (spelled.with_item reading item))) next is in
+    let tests = where_true (allowed.signals && nat_lt 0 reading.s) (spelled.bad_line bytes reading.at) (cond (nat_le spelled.most_items (length reading.script.items)) (Err (spelled.over limited.Items spelled.most_items)) (Ok (spelled.with_item reading item))) next is in
     let signals = both_true allowed.signals (nat_lt 0 reading.s) tests.0 in
     of_ok {B = ScriptBad} (IsSoundReading allowed) (spelled.with_item reading item) next
-    (unless (nat_le spelled.most_items (length reading.script.items)) (spelled.over 2 spelled.most_items) (Ok (spelled.with_item reading item)) next tests.1)
+    (unless (nat_le spelled.most_items (length reading.script.items)) (spelled.over limited.Items spelled.most_items) (Ok (spelled.with_item reading item)) next tests.1)
     (one_item allowed reading item (λ none. absurd (never signals none)) sound)
   where
     never : {b : Bool} → b ≡ true → b ≡ false → ⊥
@@ -149,7 +150,7 @@ taken_sound allowed bytes reading Unended next sound is = absurd (apart next (sp
 pub step_sound : (allowed : Directives) (bytes : List ℕ) (reading next : Reading) → IsSoundReading allowed reading → spelled.step allowed bytes reading ≡ Ok next → IsSoundReading allowed next
 step_sound allowed bytes reading next sound is =
     taken_sound allowed bytes reading (part_at bytes reading.at (is_some reading.statement)) next sound
-    (unless (nat_lt spelled.most_bytes (length bytes) && nat_le spelled.most_bytes reading.at) (spelled.over 4 spelled.most_bytes) (spelled.taken allowed bytes reading (part_at bytes reading.at (is_some reading.statement))) next is)
+    (unless (nat_lt spelled.most_bytes (length bytes) && nat_le spelled.most_bytes reading.at) (spelled.over limited.Script spelled.most_bytes) (spelled.taken allowed bytes reading (part_at bytes reading.at (is_some reading.statement))) next is)
 
 pub begun_sound : (allowed : Directives) → IsSoundReading allowed spelled.begun
 begun_sound allowed = record {
@@ -163,5 +164,5 @@ begun_sound allowed = record {
 pub finished_playable : (allowed : Directives) (bytes : List ℕ) (reading : Reading) (script : Script) → IsSoundReading allowed reading → spelled.finished bytes reading ≡ Ok script → IsPlayable allowed script
 finished_playable allowed bytes reading script sound is =
     of_ok {B = ScriptBad} (IsPlayable allowed) (spelled.closed bytes reading).script script
-    (unless (nat_lt spelled.most_bytes (length bytes)) (spelled.over 4 spelled.most_bytes) (Ok (spelled.closed bytes reading).script) script is)
+    (unless (nat_lt spelled.most_bytes (length bytes)) (spelled.over limited.Script spelled.most_bytes) (Ok (spelled.closed bytes reading).script) script is)
     (closed_sound allowed bytes reading reading.statement sound).playable

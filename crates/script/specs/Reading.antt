@@ -13,6 +13,8 @@ use Rattle.script.specs.Directives.{directive_at}
 use Rattle.script.specs.declared.script.Script.{Script}
 use Rattle.script.specs.declared.script.Directives.{Directives}
 use Rattle.script.specs.declared.script.ScriptBad.{ScriptBad}
+use Rattle.script.specs.declared.script.Limited.{Limited}
+use Rattle.script.specs.declared.script.Limited.TheVariants as limited
 use Rattle.script.specs.declared.script.ScriptBad.TheVariants.{Line, Limit, NoMemory}
 use Rattle.script.specs.declared.reading.Span.{Span}
 use Rattle.script.specs.declared.reading.Reading.{Reading}
@@ -23,8 +25,16 @@ abbrev pub bad_line : List ℕ → ℕ → ScriptBad
 bad_line bytes at = Line (line_at bytes at)
 
 -- one more than the limit of this number allows
-abbrev pub over : ℕ → ℕ → ScriptBad
-over what most = Limit what (most + 1) most
+-- the number that a fault has for what is limited
+abbrev pub number_of_limit : Limited → ℕ
+number_of_limit limited.Sessions = 1
+number_of_limit limited.Items = 2
+number_of_limit limited.Statement = 3
+number_of_limit limited.Script = 4
+number_of_limit limited.Rows = 5
+
+abbrev pub over : Limited → ℕ → ScriptBad
+over what most = Limit (number_of_limit what) (most + 1) most
 
 abbrev pub most_sessions : ℕ
 most_sessions = 64
@@ -69,12 +79,12 @@ closed bytes reading = closed_at bytes reading reading.statement
 -- the statement goes on to the end of a token
 abbrev pub grown : Reading → ℕ → ℕ → Result Reading ScriptBad
 grown reading from end =
-    if nat_lt most_statement_bytes (end - from) then Err (over 3 most_statement_bytes)
+    if nat_lt most_statement_bytes (end - from) then Err (over limited.Statement most_statement_bytes)
     else Ok (record reading { statement = Some (record { from = from; to = end }); at = end })
 
 abbrev pub extended_at : Reading → ℕ → Option Span → Result Reading ScriptBad
 extended_at reading end (Some span) = grown reading span.from end
-extended_at reading end None = if nat_le most_items (length reading.script.items) then Err (over 2 most_items) else grown reading reading.at end
+extended_at reading end None = if nat_le most_items (length reading.script.items) then Err (over limited.Items most_items) else grown reading reading.at end
 
 -- a token of the statement under way, or the first one of a statement
 abbrev pub extended : Reading → ℕ → Result Reading ScriptBad
@@ -86,14 +96,14 @@ extended reading end = extended_at reading end reading.statement
 abbrev pub named : List ℕ → Reading → List ℕ → Result Reading ScriptBad
 named bytes reading name =
     if bytes_eq name (codes "setup") then Err (bad_line bytes reading.at)
-    else (if nat_lt most_sessions (number_of name reading.script.names) then Err (over 1 most_sessions)
+    else (if nat_lt most_sessions (number_of name reading.script.names) then Err (over limited.Sessions most_sessions)
     else Ok (record reading { script = record reading.script { names = with_name reading.script.names name }; s = number_of name reading.script.names }))
 
 -- an item of a session, and not of the setup part
 abbrev pub signalled : Directives → List ℕ → Reading → Item → Result Reading ScriptBad
 signalled allowed bytes reading item =
     if allowed.signals && nat_lt 0 reading.s then
-    (if nat_le most_items (length reading.script.items) then Err (over 2 most_items) else Ok (with_item reading item))
+    (if nat_le most_items (length reading.script.items) then Err (over limited.Items most_items) else Ok (with_item reading item))
     else Err (bad_line bytes reading.at)
 
 abbrev pub heard : Directives → List ℕ → Reading → Directive → Result Reading ScriptBad
@@ -129,12 +139,12 @@ taken allowed bytes reading Unended = Err (bad_line bytes reading.at)
 -- what the next part says, unless the bytes of a script end before it
 abbrev pub step : Directives → List ℕ → Reading → Result Reading ScriptBad
 step allowed bytes reading =
-    if nat_lt most_bytes (length bytes) && nat_le most_bytes reading.at then Err (over 4 most_bytes)
+    if nat_lt most_bytes (length bytes) && nat_le most_bytes reading.at then Err (over limited.Script most_bytes)
     else taken allowed bytes reading (part_at bytes reading.at (is_some reading.statement))
 
 -- the script, all of whose parts are read
 abbrev pub finished : List ℕ → Reading → Result Script ScriptBad
-finished bytes reading = if nat_lt most_bytes (length bytes) then Err (over 4 most_bytes) else Ok (closed bytes reading).script
+finished bytes reading = if nat_lt most_bytes (length bytes) then Err (over limited.Script most_bytes) else Ok (closed bytes reading).script
 
 -- ---- what contracts say
 

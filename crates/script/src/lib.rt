@@ -17,5 +17,5 @@ pub use line::line_at;
 pub use part::{Part, part_at};
 pub use printing::transcript;
 pub use reading::{one_meaning, read_script};
-pub use script::{Directives, Script, ScriptBad, ScriptItem, Tick, WriteBad};
+pub use script::{Directives, Limited, Script, ScriptBad, ScriptItem, Tick, WriteBad};
 pub use writing::write_script;

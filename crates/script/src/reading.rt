@@ -11,7 +11,7 @@ ghost use Rattle.script.specs.declared.script.Directives.{Directives as Directiv
 ghost use Rattle.script.specs.Reading as spelled;
 ghost use Rattle.script.specs.Script.{Means, Spells, IsPlayable, IsRefused};
 
-use crate::script::{Directives, Script, ScriptBad, ScriptItem, Tick};
+use crate::script::{Directives, Limited, Script, ScriptBad, ScriptItem, Tick};
 use crate::{Directive, Part, directive_at, line_at, part_at};
 use inno_types::{Bytes, Item, Listed};
 use std::alloc::{AllocError, Global};
@@ -83,7 +83,7 @@ impl Reading {
         ensures placed { OnOk result (spelled.IsPlaced (length bytes.now) self.new) }
     {
         if bytes.len() > MOST_BYTES && self.at >= MOST_BYTES {
-            return Err(over(4, MOST_BYTES));
+            return Err(over(Limited::Script, MOST_BYTES));
         }
         match part_at(bytes, self.at, self.statement.is_some()) {
             Part::Directive => self.obey(alloc, bytes, allowed),
@@ -127,13 +127,13 @@ impl Reading {
             Some(span) => span.from,
             None => {
                 if self.script.items.len() >= MOST_ITEMS as usize {
-                    return Err(over(2, MOST_ITEMS as usize));
+                    return Err(over(Limited::Items, MOST_ITEMS as usize));
                 }
                 self.at
             }
         };
         if end.saturating_sub(from) > MOST_STATEMENT_BYTES {
-            return Err(over(3, MOST_STATEMENT_BYTES));
+            return Err(over(Limited::Statement, MOST_STATEMENT_BYTES));
         }
         self.statement = Some(Span { from, to: end });
         self.at = end;
@@ -197,7 +197,7 @@ impl Reading {
         }
         let number = place_of(self.script.names.as_slice(), name.as_slice());
         if number > MOST_SESSIONS_OF_SCRIPT as usize {
-            return Err(over(1, MOST_SESSIONS_OF_SCRIPT as usize));
+            return Err(over(Limited::Sessions, MOST_SESSIONS_OF_SCRIPT as usize));
         }
         self.s = number as u32;
         if number == self.script.names.len() {
@@ -217,7 +217,7 @@ impl Reading {
             return Err(bad_line(bytes, self.at));
         }
         if self.script.items.len() >= MOST_ITEMS as usize {
-            return Err(over(2, MOST_ITEMS as usize));
+            return Err(over(Limited::Items, MOST_ITEMS as usize));
         }
         self.script.items.push(ScriptItem { s: self.s, item })?;
         Ok(())
@@ -230,7 +230,7 @@ impl Reading {
         ensures err { IfErr result (λ bad. spelled.IsTold bad (spelled.finished bytes.now self)) }
     {
         if bytes.len() > MOST_BYTES {
-            return Err(over(4, MOST_BYTES));
+            return Err(over(Limited::Script, MOST_BYTES));
         }
         self.close(alloc, bytes)?;
         Ok(self.script)
@@ -266,14 +266,14 @@ fn bad_line(bytes: &[u8], at: usize) -> ScriptBad
     }
 }
 
-/// One more than the limit of this number allows.
-fn over(what: u8, most: usize) -> ScriptBad
+/// One more than this limit allows.
+fn over(what: Limited, most: usize) -> ScriptBad
     requires { most < u32.MAX }
     ensures { result ≡ spelled.over what most }
 {
     let most = most as u64;
     ScriptBad::Limit {
-        what,
+        what: what as u8,
         found: most + 1,
         most,
     }

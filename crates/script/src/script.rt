@@ -127,8 +127,22 @@ pub struct Directives {
     pub ticks: bool,
 }
 
-/// Why bytes are no script. Lines count from 1. The limits have their numbers: 1 for sessions, 2 for items, 3 for
-/// the bytes of a statement and 4 for those of the script.
+/// What a limit limits. It stands for the number that a fault has for it, which `as u8` gives.
+#[derive(Clone, Copy)]
+pub enum Limited {
+    /// The sessions of a script.
+    Sessions = 1,
+    /// Its items.
+    Items = 2,
+    /// The bytes of a statement.
+    Statement = 3,
+    /// The bytes of a script.
+    Script = 4,
+    /// The rows of a database.
+    Rows = 5,
+}
+
+/// Why bytes are no script. Lines count from 1, and a limit has its number (`Limited`).
 #[derive(Clone, Copy, Debug, PartialEq, Eq)]
 pub enum ScriptBad {
     Line { line: u32 },

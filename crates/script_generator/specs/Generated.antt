@@ -5,6 +5,7 @@ use Rattle.script.specs.declared.script.Script.{Script}
 use Rattle.script.specs.declared.script.ScriptItem.{ScriptItem}
 use Rattle.script.specs.declared.script.ScriptBad.{ScriptBad}
 use Rattle.script.specs.Reading.{over, most_sessions, most_items}
+use Rattle.script.specs.declared.script.Limited.TheVariants as limited
 use Rattle.script_generator.specs.Transfers.{after_transfer, drawn, statement, transaction}
 
 -- ---- accounts
@@ -65,6 +66,6 @@ count_items sessions transfers = 2 + 4 * (sessions * transfers)
 -- The limit that comes first in the script, if one is passed: the items of 64 sessions stand before the 65th.
 abbrev pub passed : ℕ → ℕ → Option ScriptBad
 passed sessions transfers =
-    if nat_lt most_sessions sessions && nat_le (count_items most_sessions transfers) most_items then Some (over 1 most_sessions)
-    else (if nat_lt most_items (count_items sessions transfers) then Some (over 2 most_items)
+    if nat_lt most_sessions sessions && nat_le (count_items most_sessions transfers) most_items then Some (over limited.Sessions most_sessions)
+    else (if nat_lt most_items (count_items sessions transfers) then Some (over limited.Items most_items)
     else None)

@@ -12,7 +12,7 @@ use crate::transfer::{draw, push_transaction};
 use inno_types::{Bytes, Listed};
 use rand_core::SeedableRng;
 use rand_xoshiro::SplitMix64;
-use script::{Script, ScriptBad, ScriptItem};
+use script::{Limited, Script, ScriptBad, ScriptItem};
 use std::alloc::{AllocError, Global};
 use store_api::{MOST_ITEMS, MOST_SESSIONS_OF_SCRIPT};
 
@@ -48,10 +48,10 @@ fn passed(sessions: u32, transfers: u32) -> Option<ScriptBad>
     ensures { result ≡ spelled.passed sessions transfers }
 {
     if sessions > MOST_SESSIONS_OF_SCRIPT && !has_many_items(MOST_SESSIONS_OF_SCRIPT, transfers) {
-        return Some(over(1, MOST_SESSIONS_OF_SCRIPT));
+        return Some(over(Limited::Sessions, MOST_SESSIONS_OF_SCRIPT));
     }
     if has_many_items(sessions, transfers) {
-        Some(over(2, MOST_ITEMS))
+        Some(over(Limited::Items, MOST_ITEMS))
     } else {
         None
     }
@@ -65,13 +65,13 @@ fn has_many_items(sessions: u32, transfers: u32) -> bool
     count > u64::from(MOST_ITEMS - SETUP_ITEMS) / ITEMS_OF_TRANSFER
 }
 
-/// One more than the limit of this number allows.
-fn over(what: u8, most: u32) -> ScriptBad
+/// One more than this limit allows.
+fn over(what: Limited, most: u32) -> ScriptBad
     ensures { result ≡ limits.over what most }
 {
     let most = u64::from(most);
     ScriptBad::Limit {
-        what,
+        what: what as u8,
         found: most + 1,
         most,
     }
