@@ -1,4 +1,4 @@
-use Rattle.world_lists.proofs.creating.WorldLists.create.Goals as goal
+use Rattle.world_lists.proofs.lists.WorldLists.create.Goals as goal
 use Rattle.world_lists.proofs.{Calls.its_work, Made.has_txn, Made.has_id, Made.few_ids, Made.table_kept, Made.table_adds, Made.table_unset, Made.table_rows}
 
 pub add_table-requires-clause-may : goal.add_table-requires-clause-may
