@@ -8,7 +8,7 @@ ghost use Rattle.inno_model.specs.Text.{items as started_by};
 ghost use Rattle.script.specs.declared.script.ScriptItem.{ScriptItem as ScriptItemValue};
 ghost use Rattle.sql_history.specs.Serial.{IsSetUp};
 ghost use Rattle.script_play.specs.Sessions.{IsJoined, IsIdle, IsNextToLeave, StartsNothing, AreNamed, HaveNames, FollowsScript};
-ghost use Rattle.script_play.specs.Sessions.{HasPlayed, AllRest, IsOver, Plays, Settles, IsNew, PassesWaits, items_of, seconds_in};
+ghost use Rattle.script_play.specs.Sessions.{Shown, HasPlayed, AllRest, IsOver, Plays, Settles, IsNew, PassesWaits, items_of, seconds_in};
 
 use crate::sessions::Sessions;
 use inno_types::Bytes;
@@ -108,7 +108,7 @@ fn play_items<E: Sessions>(
     }
     let _ = play_until(engine, items, known, items.len(), places)?;
     leave_all(engine, items, places)?;
-    places[0] = skip_others(items, places[0], 0);
+    skip_all(items, places);
     if all_at(items.len(), places) && all_left(engine, 0, places.len() as u32) {
         Ok(())
     } else {
@@ -402,6 +402,27 @@ fn lacked_memory(progress: &Progress) -> bool {
 /// Whether a step changed anything: a session that waits stays where it is.
 fn went_on(progress: &Progress) -> bool {
     !matches!(progress, Progress::Waiting { .. } | Progress::NotYet)
+}
+
+/// Moves each session's place on, past the items of others: a session that has no item left is at the end.
+fn skip_all(items: &[ScriptItem], places: &mut [usize])
+    requires starts { (old : Shown) × (now : Shown) × Plays items.now places.old old now }
+    requires few { length places.old ≤ 4294967295 }
+    ensures plays { (old now : Shown) → Plays items.now places.old old now → Plays items.now places.new old now }
+{
+    for s in 0..places.len() {
+        skip_at(items, places, s as u32);
+    }
+}
+
+fn skip_at(items: &[ScriptItem], places: &mut [usize], s: u32)
+    requires starts { (old : Shown) × (now : Shown) × Plays items.now places.old old now }
+    requires within { s < length places.old }
+    ensures plays { (old now : Shown) → Plays items.now places.old old now → Plays items.now places.new old now }
+    ensures count { length places.new ≡ length places.old }
+{
+    let at = s as usize;
+    places[at] = skip_others(items, places[at], s);
 }
 
 /// The place of the session's first item from a place on, or the end.
