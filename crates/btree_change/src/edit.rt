@@ -4,17 +4,12 @@
 ghost use Rattle.std.specs.Prelude.{◌≡◌, ℕ, ◌+◌, ◌*◌, ◌-◌, ◌<◌, ◌≤◌, ◌++◌, length, take, drop};
 ghost use Rattle.page_format.specs.Words.{count_of, record_len_of};
 
+use page_format::layout::{COUNT, RECORDS, WIDTH};
+use stored_pages::layout::PAGE;
 use stored_pages::read_u16;
 
-/// Where the records begin.
-const RECORDS: usize = 208;
-
 /// How many bytes of records a page has at most.
-const MOST: usize = 3888;
-
-pub const COUNT: usize = 22;
-
-pub const WIDTH: usize = 32;
+const MOST: usize = PAGE - RECORDS;
 
 /// The bytes that are written over the leaf's from a place on, and its new count of records.
 #[derive(Drop)]
@@ -22,7 +17,7 @@ pub struct Edit {
     pub at: u16,
     pub len: u16,
     pub count: u16,
-    pub piece: [u8; 3888],
+    pub piece: [u8; MOST],
     ghost behind_fields: { 208 ≤ at },
     ghost inside: { at + len ≤ 4096 },
 }

@@ -7,12 +7,13 @@ ghost use Rattle.btree_change.specs.Edits.{edited};
 ghost use Rattle.btree_change.specs.Trees.{LacksRoom, DoesInsert, DoesReplace, DoesRemove};
 ghost use Rattle.btree_change.specs.Calls.{Touches, Rewrites, IsLeafFor, IsLeafReason};
 
-use crate::edit::{COUNT, Edit, begin_of};
+use crate::edit::{Edit, begin_of};
 use crate::place::{find_in, has_room};
 use big_endian::u16_bytes;
 use btree::Tree;
 use mtr::Mtr;
 use page_format::Found;
+use page_format::layout::COUNT;
 use store_api::{NoMemory, SpaceBad};
 
 /// What becomes of a pair that is to be added.

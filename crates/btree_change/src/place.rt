@@ -9,20 +9,13 @@ ghost use Rattle.page_format.specs.Words.{count_of, record_len_of, records_of};
 ghost use Rattle.btree.specs.Walks.{IsReadableLeaf};
 ghost use Rattle.btree_change.specs.Edits.{HasRoom, IsPlace};
 
-use crate::edit::{COUNT, WIDTH};
 use btree::{Bound, Tree, first_place, is_readable_leaf, key_at};
 use page_format::Found;
+use page_format::layout::{COUNT, RECORDS, WIDTH};
 use std::cmp::Ordering;
-use store_api::Visit;
+use store_api::{PageRule, Visit};
+use stored_pages::layout::PAGE;
 use stored_pages::read_u16;
-
-const SIZE: usize = 4096;
-
-/// Where the records begin.
-const RECORDS: usize = 208;
-
-/// The rule that a page breaks by one of its fields.
-const FIELD: u8 = 1;
 
 /// Where the leaf has the key: at a record, or before one.
 pub fn find_in(bytes: &[u8], tree: Tree, page: u32, key: &[u8]) -> Result<Found, Visit>
@@ -34,7 +27,10 @@ pub fn find_in(bytes: &[u8], tree: Tree, page: u32, key: &[u8]) -> Result<Found,
     ensures refused { IfErr result (λ why. (why ≡ Bad page 1) × (IsReadableLeaf tree bytes.now → ⊥)) }
 {
     if !is_readable_leaf(bytes, tree) {
-        return Err(Visit::Bad { page, rule: FIELD });
+        return Err(Visit::Bad {
+            page,
+            rule: PageRule::Fields as u8,
+        });
     }
     let place = first_place(bytes, tree, Bound::AtOrAbove, key);
     if place == read_u16(bytes, COUNT) {
@@ -52,5 +48,5 @@ pub fn has_room(bytes: &[u8]) -> bool
     ensures { MatchBool result (HasRoom bytes.now) (HasRoom bytes.now → ⊥) }
 {
     let count = usize::from(read_u16(bytes, COUNT));
-    RECORDS + (count + 1) * usize::from(read_u16(bytes, WIDTH)) <= SIZE
+    RECORDS + (count + 1) * usize::from(read_u16(bytes, WIDTH)) <= PAGE
 }

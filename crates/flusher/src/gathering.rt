@@ -12,13 +12,9 @@ ghost use Rattle.flusher.specs.Gathering.{IsSealed, Gathers};
 use big_endian::{u32_bytes, u64_bytes};
 use buffer_pool::Pool;
 use doublewrite::Batch;
+use stored_pages::layout::{LSN, NUMBER, PAGE, SLOTS};
 use stored_pages::read_u64;
 use sum64::fnv;
-
-const PAGE: usize = 4096;
-
-/// The most pages that a batch has.
-const MOST: usize = 64;
 
 /// The bytes with the page's number.
 fn with_number(page: u32, bytes: &[u8]) -> [u8; PAGE]
@@ -27,7 +23,7 @@ fn with_number(page: u32, bytes: &[u8]) -> [u8; PAGE]
 {
     let mut numbered = [0; PAGE];
     numbered.copy_from_slice(bytes);
-    numbered[8..12].copy_from_slice(&u32_bytes(page));
+    numbered[NUMBER..LSN].copy_from_slice(&u32_bytes(page));
     numbered
 }
 
@@ -38,9 +34,9 @@ fn with_sum(bytes: &[u8; PAGE]) -> [u8; PAGE]
     ensures size { length result ≡ 4096 }
     ensures front { AreBytes 8 result }
 {
-    let sum = fnv(bytes.split_at(8).1);
+    let sum = fnv(bytes.split_at(NUMBER).1);
     let mut summed = *bytes;
-    summed[..8].copy_from_slice(&u64_bytes(sum));
+    summed[..NUMBER].copy_from_slice(&u64_bytes(sum));
     summed
 }
 
@@ -69,7 +65,7 @@ pub fn gather(pool: &Pool, batch: &mut Batch)
     ensures { (upto : ℕ) × Gathers upto pool.now batch.new × (batch.new.count ≡ 0 → length pool.now.slots ≤ upto) }
 {
     let mut page = 0;
-    while page < pool.pages() && batch.len() < MOST {
+    while page < pool.pages() && batch.len() < SLOTS {
         gather_page(pool, page, batch);
         page += 1;
     }
@@ -81,7 +77,7 @@ pub fn newest_lsn(batch: &Batch) -> u64
 {
     let mut newest = 0;
     for slot in 0..batch.len() {
-        newest = newest.max(read_u64(batch.page(slot), 12));
+        newest = newest.max(read_u64(batch.page(slot), LSN));
     }
     newest
 }

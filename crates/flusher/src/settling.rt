@@ -6,6 +6,7 @@ ghost use Rattle.flusher.specs.Cleaning.{Cleans, CleansOne};
 
 use buffer_pool::Pool;
 use doublewrite::Batch;
+use stored_pages::layout::{LSN, NUMBER};
 use stored_pages::{read_u32, read_u64};
 
 /// A page is in its place as these bytes. It is clean, unless it was changed since.
@@ -13,9 +14,9 @@ fn settle_page(pool: &mut Pool, bytes: &[u8])
     requires { length bytes.now ≡ 4096 }
     ensures { CleansOne bytes.now pool.old pool.new }
 {
-    let page = read_u32(bytes, 8);
+    let page = read_u32(bytes, NUMBER);
     if pool.is_pooled(page) {
-        pool.placed(page, read_u64(bytes, 12));
+        pool.placed(page, read_u64(bytes, LSN));
     }
 }
 

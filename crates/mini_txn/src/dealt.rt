@@ -6,10 +6,10 @@ ghost use Rattle.std.specs.Prelude.{position, is_some, option_copied, IsTrue, If
 ghost use Rattle.mtr.specs.Seen.{is_in, visit, with_bytes};
 ghost use Rattle.mini_txn.specs.Dealt.{copy_of, pages_of, IsVisited, HasCopy};
 
-use crate::PAGE;
 use std::alloc::Global;
 use std::marker::Model;
 use store_api::NoMemory;
+use stored_pages::layout::PAGE;
 
 /// The most pages that a mini-transaction deals with.
 const MOST: usize = 24;

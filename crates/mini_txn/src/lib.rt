@@ -13,6 +13,3 @@ pub use edits::Edits;
 pub use mini::MiniTxn;
 pub use placing::place_copies;
 pub use work::{shown_in, tells, write_in};
-
-/// The bytes of a page.
-const PAGE: usize = 4096;

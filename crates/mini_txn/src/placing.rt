@@ -6,10 +6,10 @@ ghost use Rattle.buffer_pool.specs.Frames.{is_pooled, fixes_of, at_slot, changed
 ghost use Rattle.mini_txn.specs.declared.dealt.Entry.{Entry as EntryValue};
 ghost use Rattle.mini_txn.specs.View.{IsResident, AreHeld, FixesPage, KeepsPages, TakesFrame, Places, IsStampOf, stamped};
 
-use crate::PAGE;
 use crate::dealt::{Dealt, Entry};
 use big_endian::{u32_bytes, u64_bytes};
 use buffer_pool::Pool;
+use stored_pages::layout::{FIELDS, NUMBER, PAGE};
 
 /// Fixes a page that nobody has fixed, if it is in the pool.
 fn keep(pool: &mut Pool, page: u32)
@@ -53,7 +53,7 @@ fn with_stamp(bytes: &[u8; PAGE], page: u32, lsn: u64) -> [u8; PAGE]
         p[0], p[1], p[2], p[3], l[0], l[1], l[2], l[3], l[4], l[5], l[6], l[7],
     ];
     let mut changed = *bytes;
-    changed[8..20].copy_from_slice(&stamp);
+    changed[NUMBER..FIELDS].copy_from_slice(&stamp);
     changed
 }
 

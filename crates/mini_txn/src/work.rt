@@ -15,7 +15,6 @@ ghost use Rattle.mini_txn.specs.Edits.{edited};
 ghost use Rattle.mini_txn.specs.Grouped.{IsGrouped};
 ghost use Rattle.mini_txn.specs.View.{body_of, standing_in, seen_in, state_of, IsResident, IsReadable, IsRead, IsPut, Begins, Writes, Blanks};
 
-use crate::PAGE;
 use crate::dealt::Dealt;
 use crate::edits::Edits;
 use crate::placing::{keep_all, place_copies, release_all, take_frame};
@@ -23,7 +22,8 @@ use buffer_pool::Pool;
 use redo_log::Log;
 use std::alloc::Global;
 use std::marker::Model;
-use store_api::{FreshBad, NoMemory, Visit};
+use store_api::{FreshBad, NoMemory, PageRule, Visit};
+use stored_pages::layout::{PAGE, PAGE_COUNT};
 use stored_pages::read_u32;
 
 /// A mini-transaction under way. Contracts see the pool and the log without its puts, its copies and its records.
@@ -63,7 +63,7 @@ fn counts_few(pool: &Pool, bytes: &[u8]) -> bool
     requires { length bytes.now ≡ 4096 }
     ensures { IsTrue result ↔ (u32_at 44 (body_of bytes.now) ≤ length pool.now.slots) }
 {
-    read_u32(bytes, 44) <= pool.pages()
+    read_u32(bytes, PAGE_COUNT) <= pool.pages()
 }
 
 /// Whether page 0 of a pool counts no more pages than the pool may hold.
@@ -190,7 +190,10 @@ impl Work {
             return Ok(());
         }
         if self.pool.is_pooled(page) || self.pool.has_idle() {
-            return Err(Visit::Bad { page, rule: 0 });
+            return Err(Visit::Bad {
+                page,
+                rule: PageRule::Sum as u8,
+            });
         }
         Err(Visit::Again)
     }
