@@ -9,13 +9,15 @@ use Rattle.inno_types.specs.declared.value.Schema.{Schema}
 use Rattle.inno_types.specs.declared.stmt.Filter.{Filter}
 use Rattle.store_api.specs.declared.answers.Undo.{Undo}
 use Rattle.inno_db.specs.Conditions.{matches}
+use Rattle.inno_db.specs.Database.{key_of}
 use Rattle.inno_db.specs.Names.{table_place}
 use Rattle.inno_db.specs.Indexes.{index_of}
 use Rattle.inno_model.specs.declared.event.Event.{Event}
 use Rattle.inno_model.specs.Past.{own, changed, IsOpen}
 use Rattle.lock_table.specs.Queue.{AreApart}
 use Rattle.sql_plan.specs.declared.choice.Plan.{Plan}
-use Rattle.sql_plan.specs.Visits.{IsRowOf}
+use Rattle.sql_plan.specs.Visits.{IsRowOf, kind_at}
+use Rattle.key_codec.specs.Keys.{IsOfKind}
 use Rattle.row_versions.specs.{declared.place.Place.Place, Chains.Chains, Chains.versions_at}
 use Rattle.law_past_agreement.specs.{Order.created, Order.IsOrdered, Rows.is_at, Rows.row_opened}
 use Rattle.law_past_agreement.specs.Agreement.{AreVersions}
@@ -35,7 +37,10 @@ module _ (h : List Event) (ordered : IsOrdered h) (stands : AreStanding h) (in_o
     -- the rows have the types of their columns
     (fit : (table : ℕ) (schema : Schema) → slice_get (committed_db h).schemas table ≡ Some schema → (key : Value) (row : List Value)
     → (get (committed_db h).rows (table, key) ≡ Some row) ⊎ (get (changed (committed_db h) (own t h)).rows (table, key) ≡ Some row)
-    → IsRowOf schema.columns row) where
+    → IsRowOf schema.columns row)
+    -- and those that it leaves have keys
+    (keyed : (table : ℕ) (schema : Schema) → slice_get (committed_db h).schemas table ≡ Some schema → (key : Value) (row : List Value)
+    → get (changed (committed_db h) (own t h)).rows (table, key) ≡ Some row → IsOfKind (kind_at schema.columns schema.primary) (key_of schema row)) where
   -- the other has searched by a plan that leaves out no row that meets the condition, and keeps it
   pub record KeepsSearch (name : List ℕ) (condition : Option Filter) (made : ℕ) : Type 0 where
     pub plan : Plan
@@ -51,4 +56,4 @@ module _ (h : List Event) (ordered : IsOrdered h) (stands : AreStanding h) (in_o
       (λ key row stands met. kept.enough table schema named is row (fit table schema is key row stands) met)
       (own_changes_are_owned h ordered stands in_order s t differ other_open is_open chains rows schema table kept.plan
       (records (index_of table kept.plan.which)) granted made log apart (λ key touched. owned table kept.plan.which schema is key touched)
-      (kept.keeps table schema named is))
+      (keyed table schema is) (kept.keeps table schema named is))

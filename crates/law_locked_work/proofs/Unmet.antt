@@ -1,7 +1,7 @@
 -- What a session commits is met by no search that another one keeps.
 -- The laws of `owned_changes` end here. Which places are locked is told in `law_locks`.
 use Rattle.std.proofs.Common.{◌≡◌, ◌≢◌, ◌∙◌, ap, sym, subst, refl, ℕ, zero, zero-lt-suc, Bool, true, false, List, [], ◌∷◌, map, Option, Some, None, inl, inr}
-use Rattle.std.proofs.Common.{◌⊎◌}
+use Rattle.std.proofs.Common.{◌⊎◌, length}
 use Rattle.std.specs.Prelude.{◌||◌, if◌then◌else◌, option_map, Contains}
 use Rattle.std.specs.List.{list_any}
 use Rattle.std.specs.FinMap.{get}
@@ -13,14 +13,16 @@ use Rattle.inno_types.specs.declared.value.Schema.{Schema}
 use Rattle.store_api.specs.declared.answers.Undo.{Undo}
 use Rattle.inno_db.specs.declared.change.Change.{Change}
 use Rattle.inno_db.specs.declared.change.Change.TheVariants.{Create, Put, Remove}
-use Rattle.inno_db.specs.Database.{Database, RowMap, key_in}
+use Rattle.inno_db.specs.Database.{Database, RowMap, key_in, key_of}
 use Rattle.inno_db.specs.Indexes.{index_of}
 use Rattle.inno_model.specs.declared.event.Event.{Event}
 use Rattle.inno_model.specs.Past.{own, txn, commits, committed, opening, changed, current, IsOpen}
 use Rattle.lock_table.specs.Queue.{AreApart}
 use Rattle.law_stored_rows.specs.Edits.{clustered_index}
 use Rattle.sql_plan.specs.declared.choice.Plan.{Plan}
-use Rattle.sql_plan.specs.Visits.{index_key}
+use Rattle.sql_plan.specs.Visits.{index_key, kind_at}
+use Rattle.key_codec.specs.Keys.{IsOfKind, key_width}
+use Rattle.key_codec.proofs.Lengths.{length-key_code}
 use Rattle.inno_types.specs.Ranges.{is_within}
 use Rattle.row_versions.specs.{declared.place.Place.Place, declared.version.Version.Version, Chains.Chains, Chains.in_model, Chains.versions_at, Chains.newest}
 use Rattle.row_versions.specs.{Laws.same_place_equiv}
@@ -35,7 +37,7 @@ use Rattle.law_db.proofs.Apart.{schemas_stay, get_untouched}
 use Rattle.law_histories.specs.Work.{committed_db}
 use Rattle.sql_lists.proofs.MoreTables.{same_map}
 use Rattle.law_locks.specs.Guards.{has_record}
-use Rattle.law_locks.specs.Barring.{ChangedRow, KeepsRow}
+use Rattle.law_locks.specs.Barring.{ChangedRow, MayBeKey, KeepsRow}
 use Rattle.law_locks.proofs.Outside.{none_before, none_behind}
 use Rattle.law_locks.proofs.Clashes.{nobody_beside}
 use Rattle.law_locked_work.specs.Owned.{front_of, behind_of, key_bytes, entry_at, changed_row, place_at, OwnsAt, lies_in, KeepsPlan}
@@ -117,6 +119,8 @@ module _ (h : List Event) (ordered : IsOrdered h) (stands : AreStanding h) (in_o
       (rows : (place : Place) → AreVersions h (row_opened h place) (is_at (created h) place) (versions_at place chains))
       (schema : Schema) (table : ℕ) (plan : Plan) (records : List (List ℕ)) (granted : List Lock) (made : ℕ) (log : List Undo) (apart : AreApart granted)
       (owned : (key : Value) → touches (committed_db h).schemas (own t h) (table, key) ≡ true → OwnsAt schema table plan.which records granted chains h t key)
+      (keyed : (key : Value) (row : List Value) → get (changed (committed_db h) (own t h)).rows (table, key) ≡ Some row
+      → IsOfKind (kind_at schema.columns schema.primary) (key_of schema row))
       (keeps : KeepsPlan schema table plan records granted made log h s) where
     apart_numbers : txn s h ≢ txn t h
     apart_numbers same = differ (ids.one_number s t other_open is_open same)
@@ -170,7 +174,10 @@ module _ (h : List Event) (ordered : IsOrdered h) (stands : AreStanding h) (in_o
           sym first.3 ∙ (ap newest (sym by.parts) ∙ (sym (row_behind t place (versions_at place chains) by) ∙ there)) in
           none_behind (txn s h) (txn t h) (clustered_index table) (index_of table plan.which) records granted plan.range row_told
           (index_key schema plan.which row)
-          apart_numbers apart (owned key touched) keeps_row inside made log keeps.range
+          apart_numbers apart (owned key touched) keeps_row inside (MayBeKey (key_width (kind_at schema.columns schema.primary)) plan.which) made log
+          keeps.range
+          (λ zeroth. ap (λ n. length (index_key schema n row)) zeroth
+          ∙ length-key_code (kind_at schema.columns schema.primary) (key_of schema row) (keyed key row there))
           (subst (λ (vs : List Version). Contains (map (entry_at schema plan.which) vs) (Some (index_key schema plan.which row))) (sym front)
           (zero, zero-lt-suc _, ap (option_map (index_key schema plan.which)) head))
 

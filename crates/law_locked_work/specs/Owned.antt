@@ -9,7 +9,7 @@ use Rattle.inno_db.specs.Indexes.{index_of}
 use Rattle.inno_model.specs.declared.event.Event.{Event}
 use Rattle.inno_model.specs.Past.{txn, current}
 use Rattle.std.specs.FinMap.{get}
-use Rattle.key_codec.specs.Keys.{key_code}
+use Rattle.key_codec.specs.Keys.{key_code, key_width}
 use Rattle.law_stored_rows.specs.Edits.{clustered_index}
 use Rattle.inno_types.specs.Ranges.{is_within}
 use Rattle.sql_plan.specs.declared.choice.Plan.{Plan}
@@ -17,7 +17,7 @@ use Rattle.sql_plan.specs.Visits.{index_key, kind_at}
 use Rattle.row_versions.specs.{declared.place.Place.Place, declared.version.Version.Version, Chains.Chains, Chains.versions_at, Chains.newest}
 use Rattle.law_past_agreement.specs.Ids.{id_of}
 use Rattle.law_locks.specs.Guards.{has_record}
-use Rattle.law_locks.specs.Barring.{ChangedRow, Owns, KeepsRange}
+use Rattle.law_locks.specs.Barring.{ChangedRow, Owns, MayBeKey, KeepsRange}
 
 -- the versions in front that the writer with this id has left, and those behind them
 abbrev pub front_of : ℕ → List Version → List Version
@@ -57,10 +57,11 @@ OwnsAt schema table which records granted chains h t key =
 abbrev pub lies_in : Schema → Plan → List Value → Bool
 lies_in schema plan row = is_within plan.range (index_key schema plan.which row)
 
--- The session has searched by this plan when it had made so many changes, and keeps it: each key of the range is guarded, and each row there that it sees
--- has its record locked.
+-- The session has searched by this plan when it had made so many changes, and keeps it: each key that may stand in the range is guarded, and each
+-- row there that it sees has its record locked.
 pub record KeepsPlan (schema : Schema) (table : ℕ) (plan : Plan) (records : List (List ℕ)) (granted : List Lock) (made : ℕ) (log : List Undo) (h : List Event)
     (s : ℕ) : Type 0 where
-  pub range : KeepsRange (txn s h) (index_of table plan.which) records granted plan.range made log
+  pub range : KeepsRange (MayBeKey (key_width (kind_at schema.columns schema.primary)) plan.which) (txn s h) (index_of table plan.which) records granted
+      plan.range made log
   pub rows : (key : Value) (row : List Value) → get (current s h).rows (table, key) ≡ Some row → lies_in schema plan row ≡ true
       → has_record (txn s h) (clustered_index table) (key_bytes schema key) granted ≡ true

@@ -35,7 +35,7 @@ use Rattle.row_search.proofs.Others.{bits_in}
 use Rattle.desks.specs.{Desks.Store, Desks.doing_at, Holding.lags_in}
 use Rattle.law_other_places.specs.{Owning.HasAlone, Many.IsHeldByAll}
 use Rattle.law_other_places.proofs.{Owning.one_key, Making.may_of_owner, Making.nobody_lags}
-use Rattle.law_other_places.specs.{Now.row_now, Now.sight_now, Locking.records_in, Locking.MayBeKey, Locking.lies_to, Locking.KeepsTo, Entries.IsKeyed}
+use Rattle.law_other_places.specs.{Now.row_now, Now.sight_now, Locking.records_in, Locking.IsKeyIn, Locking.lies_to, Locking.KeepsTo, Entries.IsKeyed}
 use Rattle.law_other_places.specs.{Entries.AreEntriesOwned, Entries.some_have, Entries.all_have, Entries.has, Entries.newest_has, Keeping.Fails}
 use Rattle.law_other_places.proofs.{Now.now_is, Marked.behind_seen, Commits.newest_then}
 
@@ -145,12 +145,12 @@ module _ {store : Store} {granted : List Lock} (held : IsHeldByAll store granted
       fails_before = fails_if (row_now s table past value) not_before
 
       -- where a record of the row stands in the index that was searched, and the session hasn't locked it, the row lies outside
-      not_after_if : (row : List Value) → MayBeKey schema which (index_key schema which row)
+      not_after_if : (row : List Value) → IsKeyIn schema which (index_key schema which row)
           → stands_in (records_in store.world (index_of table which)) (Some (index_key schema which row)) ≡ true
           → (has_record work.txn (index_of table which) (index_key schema which row) granted ≡ true → ⊥) → lies row ≡ true → ⊥
       not_after_if row may stands none inside =
           let parts = and_parts (is_within range (index_key schema which row)) (not (passes (index_key schema which row))) inside in
-          none (guarded_record (keeps.guarded (index_key schema which row) may parts.0 (not_not (passes (index_key schema which row)) parts.1)) stands)
+          none (guarded_record (keeps.guarded (index_key schema which row) (may, not_not (passes (index_key schema which row)) parts.1) parts.0) stands)
         where
           not_not : (b : Bool) → not b ≡ true → b ≡ false
           not_not true is = absurd (cc)

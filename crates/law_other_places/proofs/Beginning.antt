@@ -37,7 +37,7 @@ all_to_come scan key inside = begins_before scan.range.low key (bounds scan.rang
 pub begins : (schema : Schema) (scan : Scan) (s txn made : ℕ) (log : List Undo) (state : WorldState) (granted : List Lock) → scan.rows.items ≡ []
     → IsLocking schema scan s txn made log (to_come scan None) state granted
 begins schema scan s txn made log state granted empty = record {
-  range = λ key may inside past. absurd (true≢false (sym (all_to_come scan key inside) ∙ past));
+  range = λ key may inside. absurd (true≢false (sym (all_to_come scan key inside) ∙ may.1));
   rows = λ value row is lies. absurd (true≢false (sym lies ∙ none row));
   found = subst (λ (rows : List FoundRow). AreFound schema scan.which (row_now s scan.table state.past) (lies_past schema scan (to_come scan None)) rows)
       (sym empty) (record {
@@ -96,8 +96,8 @@ pub passes_before : (schema : Schema) (scan : Scan) (s txn made : ℕ) (log : Li
     → IsLocking schema scan s txn made log passes state granted
     → IsLocking schema scan s txn made log (to_come scan (Some pair.0)) state granted
 passes_before schema scan s txn made log passes rises state granted keys pair first out is = record {
-  range = λ key may inside past. absurd (true≢false (sym (bounds scan.range key inside).0
-      ∙ before_below scan.range.low key pair.0 (not_lt key_cmp key_cmp_total pair.0 key past) out));
+  range = λ key may inside. absurd (true≢false (sym (bounds scan.range key inside).0
+      ∙ before_below scan.range.low key pair.0 (not_lt key_cmp key_cmp_total pair.0 key may.1) out));
   rows = λ value row seen lies.
       let parts = and_parts (lies_in schema scan row) (not (to_come scan (Some pair.0) (index_key schema scan.which row))) lies in
       absurd (true≢false (sym (bounds scan.range (index_key schema scan.which row) parts.0).0

@@ -25,7 +25,7 @@ use Rattle.row_search.specs.{declared.scan.Scan.Scan, FoundRows.AreFound, Ranges
 use Rattle.row_search.proofs.{KeyOrder.not_lt, KeyOrder.le_not, KeyOrder.le_lt, KeyOrder.le_le, KeyOrder.up_to_below, Coming.comes_next, Coming.none_next}
 use Rattle.row_search.proofs.{Coming.comes_behind, Coming.bounds_of, Rows.found_same}
 use Rattle.law_stored_rows.specs.Edits.{clustered_index}
-use Rattle.law_other_places.specs.{Now.row_now, Locking.records_in, Locking.MayBeKey, Locking.to_come, Locking.lies_past, Locking.AreLocked}
+use Rattle.law_other_places.specs.{Now.row_now, Locking.records_in, Locking.IsKeyIn, Locking.to_come, Locking.lies_past, Locking.AreLocked}
 use Rattle.law_other_places.specs.{Locking.IsLocking, Locking.IsAtEntry}
 
 below_is : (a b : List ℕ) → is_below a b ≡ is_lt (key_cmp a b)
@@ -80,9 +80,9 @@ module _ (schema : Schema) (scan : Scan) (s made : ℕ) (log : List Undo) (passe
   kept_locks : (i : ℕ) → KeepsLocks lock.txn i old.granted new.granted
   kept_locks i = answered_locks lock.txn i old new lock Granted granted
 
-  before : (key : List ℕ) → MayBeKey schema scan.which key → is_within scan.range key ≡ true → passes key ≡ false → GuardedNow key
-  before key may within past = guarded_kept lock.txn index (records_in state index) key made log old.granted new.granted (kept_locks index)
-      (locking.range key may within past)
+  before : (key : List ℕ) → IsKeyIn schema scan.which key × (passes key ≡ false) → is_within scan.range key ≡ true → GuardedNow key
+  before key past within = guarded_kept lock.txn index (records_in state index) key made log old.granted new.granted (kept_locks index)
+      (locking.range key past within)
 
   gap_now : (spot : Option (List ℕ)) → lock.spot.key ≡ spot → locks_gap (kind_of lock) ≡ true → has_gap lock.txn index spot new.granted ≡ true
   gap_now spot at kind = subst (λ (k : Option (List ℕ)). has_gap lock.txn index k new.granted ≡ true) at
@@ -116,14 +116,13 @@ module _ (schema : Schema) (scan : Scan) (s made : ℕ) (log : List Undo) (passe
 
   module _ (pair : Pair) (first : IsFirstOf passes pairs pair) where
     up_to : GuardedNow pair.0
-        → ((key : List ℕ) → MayBeKey schema scan.which key → is_within scan.range key ≡ true → passes key ≡ true → is_lt (key_cmp key pair.0) ≡ true
-        → GuardedNow key)
-        → (key : List ℕ) → MayBeKey schema scan.which key → is_within scan.range key ≡ true → is_le (key_cmp key pair.0) ≡ true → GuardedNow key
-    up_to it between key may within le = elim (cases_Bool (passes key)) [
-      | inr past ↦ before key may within past
-      | inl comes ↦ elim (same_or_below key pair.0 le) [
+        → ((key : List ℕ) → passes key ≡ true → is_lt (key_cmp key pair.0) ≡ true → GuardedNow key)
+        → (key : List ℕ) → IsKeyIn schema scan.which key × (is_le (key_cmp key pair.0) ≡ true) → is_within scan.range key ≡ true → GuardedNow key
+    up_to it between key may within = elim (cases_Bool (passes key)) [
+      | inr past ↦ before key (may.0, past) within
+      | inl comes ↦ elim (same_or_below key pair.0 may.1) [
         | inl same ↦ subst (λ (k : List ℕ). GuardedNow k) (sym same) it
-        | inr less ↦ between key may within comes less
+        | inr less ↦ between key comes less
       ]
     ]
 
@@ -152,7 +151,7 @@ module _ (schema : Schema) (scan : Scan) (s made : ℕ) (log : List Undo) (passe
       range = up_to
           (inl (next_key_guards lock.txn index (records_in state index) new.granted pair.0 (stands pair first) (gap_now (Some pair.0) at gap)
           (record_now pair.0 at own)))
-          (λ key may inside comes less. inl (gap_guards lock.txn index (records_in state index) new.granted (Some pair.0) key (stands pair first)
+          (λ key comes less. inl (gap_guards lock.txn index (records_in state index) new.granted (Some pair.0) key (stands pair first)
           (gap_now (Some pair.0) at gap) (gap_of pair first key comes less)));
       rows = rows_below;
       found = found_below;
@@ -160,11 +159,11 @@ module _ (schema : Schema) (scan : Scan) (s made : ℕ) (log : List Undo) (passe
 
     -- rule 1: the record alone, where it is the one key that the range can hold
     pub comes_to_one : is_within scan.range pair.0 ≡ true → lock.spot.key ≡ Some pair.0 → locks_record (kind_of lock) ≡ true → made ≡ length log
-        → ((key : List ℕ) → MayBeKey schema scan.which key → is_within scan.range key ≡ true → key ≡ pair.0)
+        → ((key : List ℕ) → IsKeyIn schema scan.which key → is_within scan.range key ≡ true → key ≡ pair.0)
         → IsAtEntry schema scan s lock.txn made log pair.0 state new.granted
     comes_to_one within at own now one = record {
       within = within;
-      range = λ key may inside le. subst (λ (k : List ℕ). GuardedNow k) (sym (one key may inside)) (inr (record {
+      range = λ key may inside. subst (λ (k : List ℕ). GuardedNow k) (sym (one key may.0 inside)) (inr (record {
         pins = record { stands = stands pair first; own = record_now pair.0 at own };
         older = subst (λ (n : ℕ). IsOlder index pair.0 n log) (sym now) (newest_all index pair.0 log);
       }));
@@ -178,8 +177,8 @@ module _ (schema : Schema) (scan : Scan) (s made : ℕ) (log : List Undo) (passe
     pub comes_behind_all : is_up_to scan.range.high pair.0 ≡ false → lock.spot.key ≡ Some pair.0 → locks_gap (kind_of lock) ≡ true
         → IsLocking schema scan s lock.txn made log (λ key. false) state new.granted
     comes_behind_all out at gap = record {
-      range = λ key may inside past. elim (cases_Bool (passes key)) [
-        | inr out ↦ before key may inside out
+      range = λ key may inside. elim (cases_Bool (passes key)) [
+        | inr out ↦ before key (may.0, out) inside
         | inl comes ↦ inl (gap_guards lock.txn index (records_in state index) new.granted (Some pair.0) key (stands pair first)
             (gap_now (Some pair.0) at gap) (gap_of pair first key comes (below_out key (within_bounds key inside).1)))
       ];
@@ -202,8 +201,8 @@ module _ (schema : Schema) (scan : Scan) (s made : ℕ) (log : List Undo) (passe
   pub none_comes : NonePasses passes pairs → lock.spot.key ≡ None → locks_gap (kind_of lock) ≡ true
       → IsLocking schema scan s lock.txn made log (λ key. false) state new.granted
   none_comes none at gap = record {
-    range = λ key may inside past. elim (cases_Bool (passes key)) [
-      | inr out ↦ before key may inside out
+    range = λ key may inside. elim (cases_Bool (passes key)) [
+      | inr out ↦ before key (may.0, out) inside
       | inl comes ↦ inl (gap_guards lock.txn index (records_in state index) new.granted None key refl (gap_now None at gap) (gap_last none key comes))
     ];
     rows = λ value row is lies. (kept_locks (clustered_index scan.table)).records (primary_key schema row) (locking.rows value row is

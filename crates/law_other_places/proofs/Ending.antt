@@ -1,14 +1,11 @@
 -- A search that locks is over: it has found the rows of its plan's range that the session sees now, and keeps the plan.
 -- Whoever answers a statement that locks is to cite it. That the plan stays kept is shown in `Plans`.
-use Rattle.std.proofs.Common.{◌≡◌, ◌≢◌, ◌∙◌, ◌⊎◌, inl, inr, refl, sym, ap, subst, ℕ, ◌≤◌, Bool, true, false, ◌&&◌, List, length, map, filter, Option, Some}
+use Rattle.std.proofs.Common.{◌≡◌, ◌∙◌, ◌⊎◌, inl, inr, refl, sym, ap, subst, ℕ, ◌≤◌, Bool, true, false, ◌&&◌, List, length, map, filter, Option, Some}
 use Rattle.std.proofs.Common.{slice_get}
-use Rattle.std.specs.Ordering.{is_lt}
-use Rattle.std.specs.List.Sorted.{IsPermutation, IsSortedBy}
 use Rattle.inno_types.specs.{declared.lock.Lock.Lock, declared.value.Schema.Schema, declared.value.Value.Value, Ranges.is_within}
 use Rattle.inno_db.specs.Database.{rows_of}
 use Rattle.inno_model.specs.Past.{commits, changed}
 use Rattle.store_api.specs.declared.answers.Undo.{Undo}
-use Rattle.entries.specs.Pairs.{key_cmp}
 use Rattle.law_past_agreement.specs.{Rows.seen, DatabaseTables.with_all_tables}
 use Rattle.law_past_agreement.proofs.Gets.{seen_is}
 use Rattle.sql_plan.specs.{declared.choice.Plan.Plan, Visits.index_key}
@@ -19,18 +16,12 @@ use Rattle.row_search.proofs.{Keys.IsHome, Rows.found_same, Rows.permuted, Rows.
 use Rattle.law_found_rows.proofs.Databases.{found_are}
 use Rattle.desks.specs.{Desks.Store, Desks.doing_at, Desks.is_quiet_doing}
 use Rattle.law_other_places.specs.Many.{IsHeldByAll}
-use Rattle.law_other_places.specs.{Now.row_now, Locking.lies_past, Locking.IsLocking, Locking.KeepsTo, Plans.KeepsPlan}
+use Rattle.law_other_places.specs.{Now.row_now, Locking.lies_past, Locking.IsLocking, Locking.KeepsTo, Plans.KeepsPlan, Plans.AreInOrder}
 use Rattle.law_other_places.proofs.{Showing.homes_now, Committing.keeps_of}
 
 true_and : (a : Bool) → (a && true) ≡ a
 true_and true = refl
 true_and false = refl
-
--- the rows in the order of their keys: as they were found in the clustered index, and sorted else
-abbrev pub AreInOrder : ℕ → List FoundRow → List FoundRow → Type 0
-AreInOrder which found rows =
-    ((which ≡ 0) × (rows ≡ found))
-    ⊎ ((which ≢ 0) × IsPermutation found rows × IsSortedBy (λ (a b : FoundRow). is_lt (key_cmp a.key b.key)) rows)
 
 module _ {store : Store} {granted : List Lock} (held : IsHeldByAll store granted) (told : IsTold store.world) {s : ℕ} {session : Session} {work : Work}
     (has : HasWork s session work store.world) (searching : is_quiet_doing (doing_at s store.desks) ≡ true) {schema : Schema} (scan : Scan)

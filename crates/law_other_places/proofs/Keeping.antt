@@ -58,7 +58,7 @@ module _ {schema : Schema} {scan : Scan} {s txn made : ℕ} {log : List Undo} {o
   pub locking_kept : {passes : List ℕ → Bool} → StayOrFail (lies_past schema scan passes) (row_now s scan.table old.past) (row_now s scan.table new.past)
       → IsLocking schema scan s txn made log passes old granted → IsLocking schema scan s txn made log passes new now
   locking_kept stay is = record {
-    range = λ key may within past. leaves.guards key (is.range key may within past);
+    range = λ key may within. leaves.guards key (is.range key may within);
     rows = locked_stay schema scan s leaves stay is.rows;
     found = found_stay stay is.found;
   }
@@ -67,7 +67,7 @@ module _ {schema : Schema} {scan : Scan} {s txn made : ℕ} {log : List Undo} {o
       → IsAtEntry schema scan s txn made log entry old granted → IsAtEntry schema scan s txn made log entry new now
   entry_kept stay is = record {
     within = is.within;
-    range = λ key may within le. leaves.guards key (is.range key may within le);
+    range = λ key may within. leaves.guards key (is.range key may within);
     rows = locked_stay schema scan s leaves stay is.rows;
     found = found_stay stay is.found;
   }

@@ -16,7 +16,8 @@ use Rattle.row_search.specs.declared.scan.Scan.{Scan}
 use Rattle.desks.specs.{Desks.Store, Desks.doing_at, Desks.is_quiet_doing}
 use Rattle.law_other_places.specs.Many.{IsHeldByAll}
 use Rattle.law_other_places.specs.{Locking.to_come, Locking.IsLocking, Locking.IsAtEntry, Entries.IsKeyed, Entries.AreEntriesOwned}
-use Rattle.law_other_places.proofs.{Steps.held_now, Steps.keeps, Steps.entries_still, Steps.next_entry, Steps.record_locked, AtMarked.marked_passes}
+use Rattle.law_other_places.proofs.{SearchSteps.held_now, SearchSteps.keeps, SearchSteps.entries_still, SearchSteps.next_entry, SearchSteps.record_locked}
+use Rattle.law_other_places.proofs.{AtMarked.marked_passes}
 
 module _ {store : Store} {old new : Table} (held : IsHeldByAll store old.granted)
     (owned : AreEntriesOwned held.chains held.rows.said store.world old.granted) (told : IsTold store.world) {s : ℕ} {session : Session} {work : Work}

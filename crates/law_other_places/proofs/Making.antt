@@ -21,7 +21,7 @@ use Rattle.world.specs.State.{WorldState}
 use Rattle.world.specs.{Told.IsTold, Undoing.read_into}
 use Rattle.law_world_agreement.specs.Agreement.{Agrees}
 use Rattle.shared_lists.specs.Fitting.{FitsThen}
-use Rattle.row_changes.specs.Rows.{IsChangingRow, ChangesRow, IsAtRow, MakesRow, place_of}
+use Rattle.row_changes.specs.Rows.{IsChangingRow, ChangesRow, IsAtRow, MakesRow, place_of, row_after}
 use Rattle.row_changes.specs.Reached.{Reached, Went, Done, Hindered}
 use Rattle.row_changes.specs.{declared.record_change.RecordChange.RecordChange, declared.keys_change.KeysChange.KeysChange}
 use Rattle.row_changes.specs.{declared.row_change.RowChange.RowChange}
@@ -88,6 +88,18 @@ kept_of chains beside state s None change is row = absurd (let e : Nothing ≡ C
 kept_of chains beside state s (Some desk) change is row =
     (read_into desk.undo, desk.room, subst (RowKept chains beside state s (read_into desk.undo) desk.room) is row)
 
+-- who has a change at its desk may make its next step, whatever others do
+module _ (t : ℕ) (store : Store) (granted : List Lock) (held : IsHeldByAll store granted) where
+  knows_of : (change : RowChange) → doing_at t store.desks ≡ Changing change → (undo : Undo) × (room : WorkRoom)
+      × RowKept held.chains (said_beside held.chains held.rows.said store.world store.desks t) store.world t undo room (Changing change)
+  knows_of change doing = kept_of held.chains (said_beside held.chains held.rows.said store.world store.desks t) store.world t (desk_at t store.desks) change
+      doing (held.rows.each t)
+
+  pub may_advance : (change : RowChange) → doing_at t store.desks ≡ Changing change
+      → IsAtRow t held.chains (said_beside held.chains held.rows.said store.world store.desks t) store.world change
+  may_advance (Record change key after) doing = let knows = knows_of (Record change key after) doing in (knows.2.0, knows.2.1, knows.2.2)
+  may_advance (Keys change) doing = (knows_of (Keys change) doing).2.0
+
 one_more : (b : Bool) (version : Version) (versions : List Version) (most : ℕ) → length versions ≤ most
     → length (cond b (version ∷ versions) versions) ≤ 1 + most
 one_more true version versions most few = omega arith
@@ -123,11 +135,11 @@ module _ (t : ℕ) (store : Store) (new : WorldState) (granted now : List Lock) 
   -- ---- before the keys
 
   module _ (change : RecordChange) (key : List ℕ) (after : Option (List Value)) (doing : doing_at t store.desks ≡ Changing (Record change key after)) where
-    record_knows : (undo : Undo) × (room : WorkRoom) × RowKept held.chains beside old t undo room (Changing (Record change key after))
-    record_knows = kept_of held.chains beside old t (desk_at t store.desks) (Record change key after) doing (held.rows.each t)
+    record_knows : IsChangingRecord t old change × (key ≡ change.key) × (after ≡ row_after change.edit)
+    record_knows = may_advance t store granted held (Record change key after) doing
 
     abbrev p : IsChangingRecord t old change
-    p = record_knows.2.0
+    p = record_knows.0
 
     abbrev place : Place
     place = place_of p.schema change
@@ -144,7 +156,7 @@ module _ (t : ℕ) (store : Store) (new : WorldState) (granted now : List Lock) 
     -- the record may be put
     module _ (may : MayPut t place old store.desks) where
       abbrev row : IsChangingRow t held.chains beside old (Record change key after)
-      row = (p, (may_change held.rows t sought change p (nobody_lags t place may sought)).1, record_knows.2.1, record_knows.2.2)
+      row = (p, (may_change held.rows t sought change p (nobody_lags t place may sought)).1, record_knows.1, record_knows.2)
 
       alone : IsAloneIn t old (Record change key after)
       alone schema found = subst (λ (s : Schema). IsAloneAt (place_of s change) t old) (one_found p.schema schema p.table.there found) may.alone
@@ -215,7 +227,7 @@ module _ (t : ℕ) (store : Store) (new : WorldState) (granted now : List Lock) 
 
   module _ (change : KeysChange) (doing : doing_at t store.desks ≡ Changing (Keys change)) where
     knows : (undo : Undo) × (room : WorkRoom) × RowKept held.chains beside old t undo room (Changing (Keys change))
-    knows = kept_of held.chains beside old t (desk_at t store.desks) (Keys change) doing (held.rows.each t)
+    knows = knows_of t store granted held (Keys change) doing
 
     pub keys : IsChangingKeys held.chains beside old change
     keys = knows.2.0
@@ -272,19 +284,13 @@ module _ (t : ℕ) (store : Store) (new : WorldState) (granted now : List Lock) 
 
   -- ---- each step
 
-  -- who has a change at its desk may make its next step, whatever others do
-  pub may_advance : (change : RowChange) → doing_at t store.desks ≡ Changing change → IsAtRow t held.chains beside old change
-  may_advance (Record change key after) doing =
-      let knows = record_knows change key after doing in (knows.2.0, knows.2.1, knows.2.2)
-  may_advance (Keys change) doing = keys change doing
-
-  -- and the step keeps what is held
+  -- it keeps what is held
   pub row_made : (change : RowChange) → doing_at t store.desks ≡ Changing change → (reached : Reached RowChange)
       → ((chains : Chains) (said : Said) → IsAtRow t chains said old change → MakesRow t chains said old new change reached)
       → MayReach t old store.desks change reached
       → ((place : Place) → works_in new t (doing_after change reached) ≡ Some place → HasAlone t place new now)
       → IsHeldByAll (made_to t store new change reached) now
   row_made (Record change key after) doing reached made may mine =
-      record_made change key after doing reached (made held.chains beside (may_advance (Record change key after) doing)) may mine
+      record_made change key after doing reached (made held.chains beside (may_advance t store granted held (Record change key after) doing)) may mine
   row_made (Keys change) doing reached made may mine =
-      keys_made change doing reached (made held.chains beside (may_advance (Keys change) doing)) mine
+      keys_made change doing reached (made held.chains beside (may_advance t store granted held (Keys change) doing)) mine

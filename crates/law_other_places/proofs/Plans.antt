@@ -25,7 +25,7 @@ pub kept_by_others : (schema : Schema) (table which : ℕ) (range : Range) (s tx
     → StayOrFail (lies_to schema which range passes) (row_now s table old.past) (row_now s table new.past)
     → KeepsTo schema table which range s txn made log passes old granted → KeepsTo schema table which range s txn made log passes new now
 kept_by_others schema table which range s txn made log passes old new granted now guards records stay keeps = record {
-  guarded = λ key may within past. guards key (keeps.guarded key may within past);
+  guarded = λ key may within. guards key (keeps.guarded key may within);
   rows = λ value row is lies. elim (stay value) [
     | inl same ↦ records (primary_key schema row) (keeps.rows value row (sym same ∙ is) lies)
     | inr fail ↦ absurd (true≢false (sym lies ∙ subst (Fails (lies_to schema which range passes)) is fail.1))
@@ -43,7 +43,7 @@ pub kept_by_own : (schema : Schema) (table which : ℕ) (range : Range) (s txn m
     ⊎ (has_record txn (clustered_index table) (primary_key schema row) now ≡ true))
     → KeepsTo schema table which range s txn made log passes old granted → KeepsTo schema table which range s txn made later passes new now
 kept_by_own schema table which range s txn made log later passes old new granted now guards each keeps = record {
-  guarded = λ key may within past. guards key (keeps.guarded key may within past);
+  guarded = λ key may within. guards key (keeps.guarded key may within);
   rows = λ value row is lies. elim (each value row is) [
     | inl same ↦ same.1 (keeps.rows value row same.0 lies)
     | inr has ↦ has

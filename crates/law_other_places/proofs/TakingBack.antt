@@ -323,6 +323,14 @@ module _ (t : ℕ) (store : Store) (granted : List Lock) (held : IsHeldByAll sto
 
 -- ---- a step
 
+-- what is known of it at its session's desk
+pub going_back : (t : ℕ) (store : Store) (granted : List Lock) (held : IsHeldByAll store granted) (desk : Desk) → desk_at t store.desks ≡ Some desk
+    → desk.doing ≡ Undoing → IsGoingBack held.chains (said_beside held.chains held.rows.said store.world store.desks t) store.world t (read_into desk.undo)
+    desk.room
+going_back t store granted held desk at_desk doing =
+    subst (RowKept held.chains (said_beside held.chains held.rows.said store.world store.desks t) store.world t (read_into desk.undo) desk.room) doing
+    (subst (RowKeptAt held.chains (said_beside held.chains held.rows.said store.world store.desks t) store.world t) at_desk (held.rows.each t))
+
 module _ (t : ℕ) (store : Store) (new : WorldState) (granted now : List Lock) (held : IsHeldByAll store granted) (was : IsTold store.world)
     (told : IsTold new) (apart : AreApart now) (keeps : (s : ℕ) → KeepsAlone s store.world granted now) (desk : Desk)
     (at_desk : desk_at t store.desks ≡ Some desk) (doing : desk.doing ≡ Undoing) (next : WorkRoom)
@@ -332,11 +340,8 @@ module _ (t : ℕ) (store : Store) (new : WorldState) (granted now : List Lock) 
   abbrev beside_was : Said
   beside_was = said_beside held.chains held.rows.said store.world store.desks t
 
-  pub going_back : IsGoingBack held.chains beside_was store.world t (read_into desk.undo) desk.room
-  going_back = subst (RowKept held.chains beside_was store.world t (read_into desk.undo) desk.room) doing
-      (subst (RowKeptAt held.chains beside_was store.world t) at_desk (held.rows.each t))
-
-  module _ (holds : IsPuttingBack held.chains beside_was going_back.place (read_into desk.undo) next new) where
+  module _ (going : IsGoingBack held.chains beside_was store.world t (read_into desk.undo) desk.room)
+      (holds : IsPuttingBack held.chains beside_was going.place (read_into desk.undo) next new) where
     abbrev later : Desk
     later = record desk { room = next }
 
@@ -346,10 +351,10 @@ module _ (t : ℕ) (store : Store) (new : WorldState) (granted now : List Lock) 
     on_gives : IsGiven t desk later store.desks on_desks
     on_gives = is_given t (λ (d : Desk). record d { room = next }) store.desks at_desk refl
 
-    works_was : works_in store.world t desk.doing ≡ Some going_back.place
-    works_was = ap (works_in store.world t) doing ∙ last_place going_back.last
+    works_was : works_in store.world t desk.doing ≡ Some going.place
+    works_was = ap (works_in store.world t) doing ∙ last_place going.last
 
-    works_at_desk : works_in store.world t (doing_at t store.desks) ≡ Some going_back.place
+    works_at_desk : works_in store.world t (doing_at t store.desks) ≡ Some going.place
     works_at_desk = ap (λ d. works_in store.world t (doing_in d)) at_desk ∙ works_was
 
     pub went_on : IsHeldByAll (record store { world = new; desks = on_desks }) now
@@ -360,13 +365,13 @@ module _ (t : ℕ) (store : Store) (new : WorldState) (granted now : List Lock) 
           whole = holds.whole;
           anew = λ none. absurd (true≢false (sym (ap is_undoing doing) ∙ none));
         })
-        (back_kept t on_desks held.rows held.logs was told (agrees_beside leaves.1 held.agrees) desk later at_desk on_gives.here doing doing refl going_back
+        (back_kept t on_desks held.rows held.logs was told (agrees_beside leaves.1 held.agrees) desk later at_desk on_gives.here doing doing refl going
         leaves its holds (record {
           same = on_gives.others;
-          apart = λ s other differs works. works_apart held.agrees held.apart held.owned t (held.owned.working t going_back.place works_at_desk) s other
+          apart = λ s other differs works. works_apart held.agrees held.apart held.owned t (held.owned.working t going.place works_at_desk) s other
               differs works;
         }))
         (all_left store.world new leaves.0 (logs_beside store.world new leaves.1) held.logs)
         (owned_pairs held leaves.1 leaves.0.versions was told places on_gives keeps
         (λ place works. inl (works_was ∙ sym (ap (λ d. works_in new t d) doing ∙ (λ i. newest_place (leaves.0.schemas i)
-        (own_beside t store.world new leaves.1 i)) ∙ last_place going_back.last) ∙ works))) apart
+        (own_beside t store.world new leaves.1 i)) ∙ last_place going.last) ∙ works))) apart

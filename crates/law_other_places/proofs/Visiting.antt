@@ -50,7 +50,7 @@ module _ {schema : Schema} {scan : Scan} {s txn made : ℕ} {log : List Undo} {e
       → ((value : Value) (row : List Value) → row_at value ≡ Some row → lies_in schema scan row ≡ true → index_key schema scan.which row ≢ entry)
       → IsLocking schema scan s txn made log above state granted
   passes_row pairs keys none = record {
-    range = λ key may inside past. at.range key may inside (not_lt key_cmp key_cmp_total entry key past);
+    range = λ key may inside. at.range key (may.0, not_lt key_cmp key_cmp_total entry key may.1) inside;
     rows = λ value row is lies. elim (apart_or_below row lies) [
       | inl same ↦ absurd (none value row is (and_parts (lies_in schema scan row) (not (above (index_key schema scan.which row))) lies).0 same)
       | inr less ↦ at.rows value row is less
@@ -66,7 +66,7 @@ module _ {schema : Schema} {scan : Scan} {s txn made : ℕ} {log : List Undo} {e
       (rows_are : rows.items ≡ scan.rows.items ++ record { key = primary_part schema entry; row = row } ∷ []) where
     pub keeps_row : IsLocking schema (record scan { rows = rows }) s txn made log above state granted
     keeps_row = record {
-      range = λ key may inside past. at.range key may inside (not_lt key_cmp key_cmp_total entry key past);
+      range = λ key may inside. at.range key (may.0, not_lt key_cmp key_cmp_total entry key may.1) inside;
       rows = λ value other is lies. elim (apart_or_below other lies) [
         | inl same ↦
             let one : value ≡ key_of schema row = one_place schema scan.which value (key_of schema row) other row le (homes value other is)

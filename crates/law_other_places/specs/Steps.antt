@@ -1,14 +1,14 @@
 -- A step of one session at one place, as all other sessions see it.
 -- The laws of changes and of taking back give it; searches and others' rows go on by it.
-use Rattle.std.specs.Prelude.{◌≡◌, ◌≢◌, ℕ, false, List, Option, Some}
+use Rattle.std.specs.Prelude.{◌≡◌, ◌≢◌, ℕ, true, false, List, Option, Some}
 use Rattle.row_versions.specs.{declared.place.Place.Place}
 use Rattle.row_versions.specs.Chains.{Chains, versions_at}
 use Rattle.law_past_agreement.specs.Rows.{is_place}
-use Rattle.law_stored_rows.specs.{Tables.Said}
+use Rattle.law_stored_rows.specs.{Tables.Said, Tables.TellsOfOlder}
 use Rattle.world.specs.{State.WorldState, Told.IsTold}
-use Rattle.row_changes.specs.Told.{AreRowsAs}
-use Rattle.desks.specs.{declared.desk.Desk.Desk, Desks.desk_at, Desks.doing_at}
-use Rattle.law_other_places.specs.{Beside.IsKeyOf, Beside.LeavesRow, Beside.LeavesEntries, Beside.LeavesSession, Kept.works_in}
+use Rattle.row_changes.specs.Told.{AreRowsAs, SaysAt}
+use Rattle.desks.specs.{declared.desk.Desk.Desk, Desks.desk_at, Desks.doing_at, Holding.lags_at, Holding.said_beside}
+use Rattle.law_other_places.specs.{Beside.IsKeyOf, Beside.LeavesRow, Beside.LeavesEntries, Beside.LeavesSession, Kept.works_in, Kept.RowKeptAt}
 
 -- Rows, versions and what keys say are the same of all places but this one, if there is one, and so is what the other
 -- sessions have.
@@ -27,3 +27,10 @@ pub record StepsAt (t : ℕ) (at : Option Place) (chains after : Chains) (said n
 pub record LeavesWork (t : ℕ) (at : Option Place) (old : WorldState) (desks now : List Desk) : Type 0 where
   pub same : (s : ℕ) → s ≢ t → desk_at s now ≡ desk_at s desks
   pub apart : (s : ℕ) (other : Place) → s ≢ t → works_in old s (doing_at s desks) ≡ Some other → is_place other at ≡ false
+
+-- What the session itself knows behind its step, and what keys say then of its place. Where its keys lagged elsewhere they lag yet.
+pub record KnowsItsOwn (t : ℕ) (at : Option Place) (after : Chains) (said : Said) (old new : WorldState) (desks now : List Desk) : Type 0 where
+  pub row : RowKeptAt after (said_beside after said new now t) new t (desk_at t now)
+  pub lagging : (other : Place) → lags_at other new now t ≡ true → TellsOfOlder other after said
+  pub settled : (place : Place) → is_place place at ≡ true → lags_at place new now t ≡ false → SaysAt place after said
+  pub lagged : (other : Place) → lags_at other old desks t ≡ true → is_place other at ≡ false → lags_at other new now t ≡ true
