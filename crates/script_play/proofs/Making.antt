@@ -20,16 +20,6 @@ use Rattle.script_play.specs.Sessions.{items_of}
 use Rattle.script_play.proofs.Places.{own_item, other_item}
 use Rattle.script_play.specs.Playing.{HasBegun, IsWhole}
 
-pub nothing_begun : (s : Sitting) → own s ≡ [] → HasBegun [] s × IsWhole [] s
-nothing_begun s none = (
-  record {
-    left = [];
-    items_are = sym (append-nil (items s.number (own s)) ∙ ap (items s.number) none);
-    rests = ap (under_way s.number) none;
-  },
-  λ kept. ap (items s.number) none,
-)
-
 -- a session that has made no call has begun no item
 pub unbegun : (script : List ScriptItem) (s t : Sitting) → own s ≡ [] → own t ≡ own s → HasBegun script t
 unbegun script s t none same = record {
@@ -133,13 +123,3 @@ module _ (hall : TableId) (first : Sitting) (script : List ScriptItem) (n : ℕ)
         begun = on.0;
         whole = on.1;
       }
-
-pub called_none : (hall : TableId) (s : Sitting) (script : List ScriptItem) → s.hall ≡ hall → own s ≡ [] → HasCalled hall s script 0 s
-called_none hall s script is none =
-    let on = nothing_begun s none in record { hall_is = is; number_is = refl; names = λ zero. refl; begun = on.0; whole = on.1 }
-
-pub called_all : (hall : TableId) (first : Sitting) (script : List ScriptItem) (n : ℕ) (s : Sitting) → n ≡ length script → HasCalled hall first script n s
-    → HasBegun script s × IsWhole script s
-called_all hall first script n s end called =
-    let all : take n script ≡ script = ap (λ m. take m script) end ∙ take-length script in
-    (subst (λ list. HasBegun list s) all called.begun, subst (λ list. IsWhole list s) all called.whole)

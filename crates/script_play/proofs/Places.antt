@@ -45,19 +45,6 @@ set_other places s t n apart = search (arith, rules)
 set_within : (places : List ℕ) (s n bound : ℕ) → n ≤ bound → All (λ place. place ≤ bound) places → All (λ place. place ≤ bound) (set places s n)
 set_within places s n bound h all = search (arith, rules)
 
--- the place moves over items of others
-pub moves_over : (script : List ScriptItem) (places : List ℕ) (past : List Event) (s n : ℕ) → s < length places → n ≤ length script
-    → items_of s (take n script) ≡ items_of s (take (get_or places s 0) script) → HasStarted script places past
-    → HasStarted script (set places s n) past
-moves_over script places past s n joined h same started = record {
-  within = set_within places s n (length script) h started.within;
-  items = λ t. elim (eqb_tells t s) [
-    | inl own ↦ ap (λ u. items u past) own.1 ∙ started.items s ∙ sym same ∙ ap (λ place. items_of s (take place script))
-        (sym (get_or-set_same places s n 0 joined)) ∙ ap (λ u. items_of u (take (get_or (set places s n) u 0) script)) (sym own.1)
-    | inr other ↦ started.items t ∙ ap (λ place. items_of t (take place script)) (sym (set_other places s t n other.1))
-  ];
-}
-
 -- the session starts an item before which only those of others stand from its place on
 pub starts_item : (script : List ScriptItem) (places : List ℕ) (old new : List Event) (s n j : ℕ) (d : ScriptItem) → s < length places
     → n < length script → items_of s (take n script) ≡ items_of s (take (get_or places s 0) script) → (get_or script n d).s ≡ s

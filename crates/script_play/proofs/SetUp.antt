@@ -57,9 +57,6 @@ over_on old new goes_on same over =
 pub extends_on : (a b c : List Event) → Extends a b → Extends b c → Extends a c
 extends_on a b c p q = (q.0 ++ p.0, q.1 ∙ (ap (λ l. q.0 ++ l) p.1 ∙ sym (append_assoc q.0 p.0 a)))
 
-pub starts_none : (a : Shown) → StartsNothing a a
-starts_none a = record { names = refl; moment = refl; entries = ([], refl); items = λ s. refl }
-
 pub starts_none_on : (a b c : Shown) → StartsNothing a b → StartsNothing b c → StartsNothing a c
 starts_none_on a b c p q = record {
   names = q.names ∙ p.names;
@@ -70,17 +67,6 @@ starts_none_on a b c p q = record {
 
 pub over_still : (a b : Shown) → StartsNothing a b → IsOver a.past → IsOver b.past
 over_still a b p over = over_on a.past b.past p.entries p.items over
-
--- ---- an item of another session
-
-pub over_started : (s j : ℕ) (item : Item) (old new : List Event) → new ≡ Started s j item ∷ old → 0 < s → IsOver old → IsOver new
-over_started s j item old new is above over = subst IsOver (sym is) (record {
-  rests = rw (ne_eqb s 0 (λ zeroth. absurd (omega (arith, above, zeroth)))) over.rests;
-  first = ((λ zeroth. absurd (omega (arith, above, zeroth))), (λ _. over.rests), over.first);
-})
-
-pub others_started : (s j : ℕ) (item : Item) (old new : List Event) → new ≡ Started s j item ∷ old → (t : ℕ) → t ≢ s → items t new ≡ items t old
-others_started s j item old new is t apart = ap (items t) is ∙ rw (ne_eqb s t (λ same. apart (sym same))) refl
 
 -- ---- the setup part alone
 
