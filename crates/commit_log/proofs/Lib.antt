@@ -1,5 +1,4 @@
 pub mod Logging
 mod Cut
 mod DraftSpelling
-mod Totals
 pub mod Short

@@ -2,8 +2,7 @@
 use Rattle.std.proofs.Common.{◌≡◌, ◌≢◌, ℕ, zero, suc, ◌+◌, ◌-◌, ◌<◌, ◌≤◌, Bool, true, false, List, [], ◌∷◌, ◌++◌, length, get_or, set, refl, sym, ap, subst, ◌∙◌, inl, inr, arith}
 use Rattle.std.proofs.lemmas.Bool.{false≢true}
 use Rattle.std.proofs.lemmas.Bool.Decides.{nat_tests, eqb_tells}
-use Rattle.std.proofs.lemmas.List.{get_or-set_same, get_or-set_other, length-set, length-append}
-use Rattle.inno_db.specs.declared.change.Change.{Change}
+use Rattle.std.proofs.lemmas.List.{get_or-set_same, get_or-set_other, length-append}
 use Rattle.inno_model.specs.declared.event.Event.{Event}
 use Rattle.inno_model.specs.declared.event.Event.TheVariants as events
 use Rattle.inno_model.specs.Past.{is_of, own, oldest}
@@ -37,14 +36,8 @@ module _ (drafts : List DraftView) (s : ℕ) (draft : DraftView) (joined : s < l
 
 -- what a session's own entry makes of its changes
 module _ (s t : ℕ) (past : List Event) (mine : is_of s (events.Committed t) ≡ true) where
-  pub own_changed : (change : Change) → own s (events.Changed t change ∷ past) ≡ change ∷ own s past
-  own_changed change = grind (arith, nat_tests, mine)
-
   pub own_undone : (keep : ℕ) → own s (events.Undone t keep ∷ past) ≡ oldest keep (own s past)
   own_undone keep = grind (arith, nat_tests, mine)
-
-  pub own_begun : (n : ℕ) (l : _) → own s (events.Begin t n l ∷ past) ≡ []
-  own_begun n l = grind (arith, nat_tests, mine)
 
   pub own_rolled_back : own s (events.RolledBack t ∷ past) ≡ []
   own_rolled_back = grind (arith, nat_tests, mine)
@@ -109,12 +102,6 @@ module _ (s t : ℕ) (mine : is_of s (events.Committed t) ≡ true) (old new : C
     | inr differ ↦ omega (arith, due_other u differ.1)
   ]
 
-  below : old.log.next ≤ new.log.next → (u : ℕ) → due_of u new < new.log.next
-  below up u = elim (eqb_tells u s) [
-    | inl same ↦ subst (λ v. due_of v new < new.log.next) (sym same.1) (omega (arith, due_is, due_mine))
-    | inr differ ↦ omega (arith, due_other u differ.1, reached u, up)
-  ]
-
   is_committed : t ≡ s
   is_committed = elim (eqb_tells t s) [ inl same ↦ same.1 | inr differ ↦ absurd (false≢true (sym differ.0 ∙ mine)) ]
 
@@ -153,17 +140,6 @@ module _ (s t : ℕ) (mine : is_of s (events.Committed t) ≡ true) (old new : C
               (durable_after none some (is_none (own s past)) refl);
           drafted = drafted_after;
         }
-
-  next_up : (none : is_none (draft_of s old.drafts).changes ≡ true → new.log ≡ old.log)
-      → (is_none (draft_of s old.drafts).changes ≡ false → IsAppended (records_of (draft_of s old.drafts).changes) old.log new.log)
-      → (b : Bool) → is_none (draft_of s old.drafts).changes ≡ b → old.log.next ≤ new.log.next
-  next_up none some true is = omega (arith, ap (λ (log : LogView). log.next) (none is))
-  next_up none some false is = omega (arith, (some is).next)
-
-  pub reached_after : (is_none (draft_of s old.drafts).changes ≡ true → new.log ≡ old.log)
-      → (is_none (draft_of s old.drafts).changes ≡ false → IsAppended (records_of (draft_of s old.drafts).changes) old.log new.log)
-      → (u : ℕ) → due_of u new < new.log.next
-  reached_after none some = below (next_up none some (is_none (draft_of s old.drafts).changes) refl)
 
 -- ---- calls that add no entry
 
@@ -319,10 +295,3 @@ acknowledged s moment view reached root now past is_now is =
       durable = durable_ack root now past view.log (λ u. due_of u view) is.durable s moment is_now (grind (arith, nat_tests, reached));
       drafted = is.drafted;
     }
-
--- ---- an entry is taken over
-
-pub joined_after : (old drafts : List DraftView) (s : ℕ) (dues after : List ℕ) (due : ℕ) → drafts ≡ set old s no_draft → after ≡ set dues s due
-    → length old ≤ length dues → length drafts ≤ length after
-joined_after old drafts s dues after due is also seated =
-    omega (arith, ap length is, length-set old s no_draft, ap length also, length-set dues s due, seated)

@@ -112,16 +112,7 @@ impl CommitLog {
         self.flush(disk)
     }
 
-    /// Whether the session's last commit may be acknowledged: the log is flushed as far as that needs it.
-    pub fn may_acknowledge(&self, session: u32) -> bool
-        requires { IsJoined session self.now }
-        ensures kept { result ≡ true → (root now : Past) (past : List EventValue) (moment : ℕ) → moment ≡ now.moment
-            → IsLogging root now past self.now → IsLogging root now (Acked session moment ∷ past) self.now }
-        ensures flushed { due_of session self.now ≤ self.now.log.flushed → result ≡ true }
-    {
-        self.is_flushed_for(session)
-    }
-
+    /// Whether the log is flushed as far as the session's last commit needs it.
     fn is_flushed_for(&self, session: u32) -> bool
         requires { IsJoined session self.now }
         ensures { result ≡ nat_le (due_of session self.now) self.now.log.flushed }
