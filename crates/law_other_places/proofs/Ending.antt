@@ -1,6 +1,6 @@
 -- A search that locks is over: it has found the rows of its plan's range that the session sees now, and keeps the plan.
 -- Whoever answers a statement that locks is to cite it. That the plan stays kept is shown in `Plans`.
-use Rattle.std.proofs.Common.{◌≡◌, ◌∙◌, ◌⊎◌, inl, inr, refl, sym, ap, subst, ℕ, ◌≤◌, Bool, true, false, ◌&&◌, List, length, map, filter, Option, Some}
+use Rattle.std.proofs.Common.{◌≡◌, ◌∙◌, inl, inr, refl, sym, ap, subst, ℕ, ◌≤◌, Bool, true, false, ◌&&◌, List, length, map, filter, Option, Some}
 use Rattle.std.proofs.Common.{slice_get}
 use Rattle.inno_types.specs.{declared.lock.Lock.Lock, declared.value.Schema.Schema, declared.value.Value.Value, Ranges.is_within}
 use Rattle.inno_db.specs.Database.{rows_of}
