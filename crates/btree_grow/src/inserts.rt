@@ -21,13 +21,8 @@ use btree::{Tree, leaf_of};
 use btree_change::{Insertion, insert_in};
 use btree_split::{LowestRoom, lowest_room};
 use mtr::Mtr;
-use store_api::{NoMemory, SpaceBad, Visit};
-
-/// The rule that a page breaks by one of its fields.
-const FIELD: u8 = 1;
-
-/// How many levels a tree has at most.
-const MOST_LEVELS: u8 = 8;
+use page_format::layout::MOST_LEVELS;
+use store_api::{NoMemory, PageRule, SpaceBad, Visit};
 
 /// What becomes of a pair that is to be added.
 #[derive(Clone, Copy, Debug, PartialEq, Eq)]
@@ -85,7 +80,7 @@ fn finish_in<M: Mtr>(
             m.give_up();
             Err(SpaceBad::Visit(Visit::Bad {
                 page: leaf,
-                rule: FIELD,
+                rule: PageRule::Fields as u8,
             }))
         }
         Err(why) => {

@@ -7,35 +7,26 @@ ghost use Rattle.btree_grow.specs.Raised.{IsRaised};
 
 use big_endian::{u16_bytes, u32_bytes};
 use btree_change::lay;
-
-const SIZE: usize = 4096;
-
-/// Where a page's kind stands, and behind it its level.
-const KIND: usize = 20;
-
-/// The kind of an inner page.
-const INNER: u8 = 4;
-
-const COUNT: usize = 22;
-
-const WIDTH: usize = 32;
-
-/// Where the records begin.
-const RECORDS: usize = 208;
+use page_format::layout::{CHILD, COUNT, INNER, KIND, RECORDS, WIDTH};
+use stored_pages::layout::PAGE;
 
 /// The root above the page of that number, on that level: its place is the same, and its one record begins with zeros.
-pub fn raised_root(bytes: &[u8], key_len: u8, number: u32, level: u8) -> [u8; 4096]
+pub fn raised_root(bytes: &[u8], key_len: u8, number: u32, level: u8) -> [u8; PAGE]
     requires size { length bytes.now ≡ 4096 }
     requires short { key_len ≤ 80 }
     requires inner { 0 < level }
     requires low { level ≤ 7 }
     ensures { HasTreeFields bytes.now → IsRaised key_len number level bytes.now result }
 {
-    let mut root = [0; SIZE];
+    let mut root = [0; PAGE];
     lay(&mut root, 0, &bytes[..RECORDS]);
     lay(&mut root, KIND, &[INNER, level]);
     lay(&mut root, COUNT, &u16_bytes(1));
-    lay(&mut root, WIDTH, &u16_bytes(u16::from(key_len) + 4));
+    lay(
+        &mut root,
+        WIDTH,
+        &u16_bytes(u16::from(key_len) + CHILD as u16),
+    );
     lay(
         &mut root,
         RECORDS + usize::from(key_len),

@@ -25,18 +25,10 @@ use btree::{Bound, Tree, child_at, first_place, is_laid_out, key_at};
 use btree_change::{Edit, has_room, put_edit};
 use btree_split::{lower_half, upper_half};
 use mtr::Mtr;
-use store_api::{NoMemory, SpaceBad, Visit};
+use page_format::layout::{COUNT, LEVEL};
+use store_api::{NoMemory, PageRule, SpaceBad, Visit};
+use stored_pages::layout::FIELDS;
 use stored_pages::read_u16;
-
-const LEVEL: usize = 21;
-
-const COUNT: usize = 22;
-
-/// The rule that a page breaks by one of its fields.
-const FIELD: u8 = 1;
-
-/// Where a page's bytes begin that are a tree's.
-const FIELDS: usize = 20;
 
 /// A page that is to be cut: the record in the middle that the new page begins with, and the record of the parent that leads
 /// to the page.
@@ -58,13 +50,22 @@ fn place_for(bytes: &[u8], tree: Tree, page: u32, key: &[u8]) -> Result<u16, Vis
     ensures refused { IfErr result (λ why. (why ≡ Bad page 1) × (IsReadable tree bytes.now → level_of bytes.now ≢ 0 → ⊥)) }
 {
     if !is_laid_out(bytes, tree) {
-        return Err(Visit::Bad { page, rule: FIELD });
+        return Err(Visit::Bad {
+            page,
+            rule: PageRule::Fields as u8,
+        });
     }
     if bytes[LEVEL] == 0 {
-        return Err(Visit::Bad { page, rule: FIELD });
+        return Err(Visit::Bad {
+            page,
+            rule: PageRule::Fields as u8,
+        });
     }
     if read_u16(bytes, COUNT) == 0 {
-        return Err(Visit::Bad { page, rule: FIELD });
+        return Err(Visit::Bad {
+            page,
+            rule: PageRule::Fields as u8,
+        });
     }
     Ok(first_place(bytes, tree, Bound::Above, key).saturating_sub(1))
 }
@@ -79,11 +80,17 @@ fn middle_of(bytes: &[u8], tree: Tree, page: u32) -> Result<u16, Visit>
     ensures refused { IfErr result (λ why. (why ≡ Bad page 1) × (IsLaidOut tree bytes.now → (HasRoom bytes.now → ⊥) → ⊥)) }
 {
     if !is_laid_out(bytes, tree) {
-        return Err(Visit::Bad { page, rule: FIELD });
+        return Err(Visit::Bad {
+            page,
+            rule: PageRule::Fields as u8,
+        });
     }
     let middle = read_u16(bytes, COUNT) / 2;
     if middle == 0 {
-        return Err(Visit::Bad { page, rule: FIELD });
+        return Err(Visit::Bad {
+            page,
+            rule: PageRule::Fields as u8,
+        });
     }
     Ok(middle)
 }
@@ -198,7 +205,7 @@ pub fn split_below<M: Mtr>(m: &mut M, tree: Tree, parent: u32, key: &[u8]) -> Re
     if !has_room(&above) {
         return Err(SpaceBad::Visit(Visit::Bad {
             page: parent,
-            rule: FIELD,
+            rule: PageRule::Fields as u8,
         }));
     }
     let child = child_at(&above, tree, place);

@@ -11,16 +11,15 @@ ghost use Rattle.btree_grow.specs.Taken.{AreReserved, TakesPage};
 use mtr::Mtr;
 use space_map::take;
 use store_api::{FreshBad, SpaceBad, Visit};
-
-const SIZE: usize = 4096;
+use stored_pages::layout::PAGE;
 
 /// The bytes of a page.
-pub fn copy_of<M: Mtr>(m: &mut M, page: u32) -> Result<[u8; 4096], Visit>
+pub fn copy_of<M: Mtr>(m: &mut M, page: u32) -> Result<[u8; PAGE], Visit>
     requires { length (visit page (M.state m.old).visited) ≤ 24 }
     ensures shown { IfOk result (λ bytes. IsTrue (M.state m.old).told → IsShown ((M.state m.old).seen page) bytes) }
     ensures asks { Asks page (M.state m.old) result (M.state m.new) }
 {
-    let mut copy = [0; SIZE];
+    let mut copy = [0; PAGE];
     copy.copy_from_slice(m.bytes(page)?);
     Ok(copy)
 }

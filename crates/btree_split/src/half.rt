@@ -8,40 +8,20 @@ ghost use Rattle.page_format.specs.Words.{count_of, record_len_of};
 
 use big_endian::{u16_bytes, u32_bytes};
 use btree_change::{begin_of, lay};
+use page_format::layout::{COUNT, FENCE, HIGH, HIGH_LEN, LOW, LOW_LEN, RECORDS, RIGHT};
+use stored_pages::layout::{NUMBER, PAGE};
 use stored_pages::read_u16;
 
-const SIZE: usize = 4096;
-
-/// Where the records begin.
-const RECORDS: usize = 208;
-
-const NUMBER: usize = 8;
-
-const COUNT: usize = 22;
-
-const RIGHT: usize = 28;
-
-const LOW_LEN: usize = 34;
-
-const HIGH_LEN: usize = 35;
-
-const LOW: usize = 36;
-
-const HIGH: usize = 116;
-
-/// How many bytes a fence has room for.
-const FENCE: usize = 80;
-
 /// The page with its records before a place, below the key and left of the page of that number.
-pub fn lower_half(bytes: &[u8], i: u16, key: &[u8], number: u32) -> [u8; 4096]
+pub fn lower_half(bytes: &[u8], i: u16, key: &[u8], number: u32) -> [u8; PAGE]
     requires size { length bytes.now ≡ 4096 }
     requires place { i ≤ count_of bytes.now }
     requires inside { 208 + count_of bytes.now * record_len_of bytes.now ≤ 4096 }
     requires key { length key.now ≤ 80 }
     ensures { HasTreeFields bytes.now → IsLowerHalf bytes.now i key.now number result }
 {
-    let zeros = [0; SIZE];
-    let mut half = [0; SIZE];
+    let zeros = [0; PAGE];
+    let mut half = [0; PAGE];
     half.copy_from_slice(bytes);
     let at = begin_of(bytes, i);
     let end = begin_of(bytes, read_u16(bytes, COUNT));
@@ -55,15 +35,15 @@ pub fn lower_half(bytes: &[u8], i: u16, key: &[u8], number: u32) -> [u8; 4096]
 }
 
 /// The page of that number, with the records from a place on, from the key on.
-pub fn upper_half(bytes: &[u8], i: u16, key: &[u8], number: u32) -> [u8; 4096]
+pub fn upper_half(bytes: &[u8], i: u16, key: &[u8], number: u32) -> [u8; PAGE]
     requires size { length bytes.now ≡ 4096 }
     requires place { i ≤ count_of bytes.now }
     requires inside { 208 + count_of bytes.now * record_len_of bytes.now ≤ 4096 }
     requires key { length key.now ≤ 80 }
     ensures { HasTreeFields bytes.now → IsUpperHalf bytes.now i key.now number result }
 {
-    let zeros = [0; SIZE];
-    let mut half = [0; SIZE];
+    let zeros = [0; PAGE];
+    let mut half = [0; PAGE];
     half.copy_from_slice(bytes);
     let count = read_u16(bytes, COUNT);
     let at = begin_of(bytes, i);

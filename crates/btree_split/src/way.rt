@@ -11,13 +11,8 @@ ghost use Rattle.btree_split.specs.Ways.{EndsFull, IsLowestRoom};
 use btree::{Down, Tree, step_down};
 use btree_change::has_room;
 use mtr::Mtr;
-use store_api::Visit;
-
-/// How many levels a tree has at most.
-const MOST_LEVELS: u8 = 8;
-
-/// The rule that a page breaks whose level isn't one below that of its parent.
-const WRONG_LEVEL: u8 = 3;
+use page_format::layout::MOST_LEVELS;
+use store_api::{PageRule, Visit};
 
 /// The lowest page of a way that has room, if any has, and how many pages below it are full.
 #[derive(Clone, Copy)]
@@ -90,6 +85,6 @@ pub fn lowest_room<M: Mtr>(m: &mut M, tree: Tree, key: &[u8]) -> Result<LowestRo
     }
     Err(Visit::Bad {
         page: tree.root,
-        rule: WRONG_LEVEL,
+        rule: PageRule::Child as u8,
     })
 }

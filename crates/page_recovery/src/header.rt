@@ -7,16 +7,11 @@ ghost use Rattle.page_recovery.specs.Refused.{IsOther};
 
 use crate::bad::RecoverBad;
 use store_api::MOST_PAGES;
+use stored_pages::layout::{FIRST_LSN, FIXED_PAGES, MAGIC, MAGIC_NUMBER, PAGE_COUNT, RUN, VERSION};
 use stored_pages::{read_u32, read_u64};
 
-/// The bytes `INNODPRF`.
-const MAGIC: u64 = 5_282_245_515_307_668_038;
-
 /// The version of files that keep rows in pages.
-const VERSION: u32 = 1;
-
-/// A new file has so many pages.
-const FEWEST: u32 = 21;
+const WITH_PAGES: u32 = 1;
 
 /// What page 0 says: how many pages the file may have, the run of the log, and the LSN of its first group.
 #[derive(Clone, Copy)]
@@ -32,20 +27,20 @@ pub fn header_of(page: &[u8]) -> Result<Header, RecoverBad>
     ensures ok { IfOk result (λ header. IsFileHeader header.capacity header.run header.first page.now) }
     ensures other { IfErr result (IsOther page.now) }
 {
-    if read_u64(page, 32) != MAGIC {
+    if read_u64(page, MAGIC) != MAGIC_NUMBER {
         return Err(RecoverBad::NoDatabase);
     }
-    let version = read_u32(page, 40);
-    if version != VERSION {
+    let version = read_u32(page, VERSION);
+    if version != WITH_PAGES {
         return Err(RecoverBad::Version { found: version });
     }
-    let capacity = read_u32(page, 44);
-    if !(FEWEST..=MOST_PAGES).contains(&capacity) {
+    let capacity = read_u32(page, PAGE_COUNT);
+    if !(FIXED_PAGES..=MOST_PAGES).contains(&capacity) {
         return Err(RecoverBad::Capacity { found: capacity });
     }
     Ok(Header {
         capacity,
-        run: read_u64(page, 48),
-        first: read_u64(page, 56),
+        run: read_u64(page, RUN),
+        first: read_u64(page, FIRST_LSN),
     })
 }

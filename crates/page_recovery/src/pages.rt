@@ -14,10 +14,8 @@ use std::boxed::Box;
 use std::marker::Model;
 use std::mem;
 use store_api::NoMemory;
+use stored_pages::layout::{FIELDS, LSN, NUMBER, PAGE};
 use stored_pages::read_u64;
-
-/// A page has so many bytes.
-pub const PAGE: usize = 4096;
 
 /// The bytes of one page.
 #[derive(Drop)]
@@ -53,7 +51,7 @@ fn stamp_over(bytes: &mut [u8; PAGE], page: u32, lsn: u64)
     let stamp = [
         p[0], p[1], p[2], p[3], l[0], l[1], l[2], l[3], l[4], l[5], l[6], l[7],
     ];
-    bytes[8..20].copy_from_slice(&stamp);
+    bytes[NUMBER..FIELDS].copy_from_slice(&stamp);
 }
 
 impl PageBytes {
@@ -196,7 +194,7 @@ impl Pages {
         ensures { result ≡ lsn_of (page_of self.now page) }
     {
         match slot_at(&self.slots, page) {
-            Some(bytes) => read_u64(bytes.as_slice(), 12),
+            Some(bytes) => read_u64(bytes.as_slice(), LSN),
             None => 0,
         }
     }

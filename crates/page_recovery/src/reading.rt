@@ -13,10 +13,11 @@ ghost use Rattle.page_recovery.specs.Refused.{IsFailed};
 
 use crate::bad::RecoverBad;
 use crate::header::{Header, header_of};
-use crate::pages::{PAGE, Pages};
+use crate::pages::Pages;
 use std::alloc::Global;
 use store_api::{Area, Disk, Failed};
 use stored_pages::good_number;
+use stored_pages::layout::PAGE;
 
 /// Whether what was read of a page's place is the page.
 fn is_page(place: &[u8], len: usize, page: u32) -> bool

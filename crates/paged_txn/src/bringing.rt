@@ -8,9 +8,9 @@ ghost use Rattle.buffer_pool.specs.Frames.{is_pooled, fixes_of, next_idle};
 ghost use Rattle.paged_txn.specs.View as view;
 ghost use Rattle.paged_txn.specs.Bringing.{IsHeld, IsLetIn, IsRefused};
 
-use crate::PAGE;
 use buffer_pool::{Pool, bytes_of_place};
-use store_api::{Disk, Visit};
+use store_api::{Disk, PageRule, Visit};
+use stored_pages::layout::{NUMBER, PAGE, SUM};
 use stored_pages::{read_u32, read_u64};
 use sum64::fnv;
 
@@ -18,7 +18,7 @@ use sum64::fnv;
 fn sum_of(bytes: &[u8; PAGE]) -> u64
     ensures { result ≡ fnv_of (drop 8 bytes.now) }
 {
-    fnv(bytes.split_at(8).1)
+    fnv(bytes.split_at(NUMBER).1)
 }
 
 /// Whether a page's sum and number are right.
@@ -26,8 +26,8 @@ fn sum_of(bytes: &[u8; PAGE]) -> u64
 fn is_good(bytes: &[u8; PAGE], page: u32) -> bool
     ensures { result ≡ view.is_good page bytes.now }
 {
-    let sum = read_u64(bytes, 0) == sum_of(bytes);
-    sum & (read_u32(bytes, 8) == page)
+    let sum = read_u64(bytes, SUM) == sum_of(bytes);
+    sum & (read_u32(bytes, NUMBER) == page)
 }
 
 /// Reads a page that isn't in the pool into the frame that goes next.
@@ -44,7 +44,10 @@ fn let_in<D: Disk>(pool: &mut Pool, disk: &mut D, page: u32) -> Result<(), Visit
         return Err(Visit::Failed);
     };
     if !is_good(&bytes, page) {
-        return Err(Visit::Bad { page, rule: 0 });
+        return Err(Visit::Bad {
+            page,
+            rule: PageRule::Sum as u8,
+        });
     }
     pool.let_in(page, &bytes);
     Ok(())
@@ -68,7 +71,10 @@ pub fn bring<D: Disk>(pool: &mut Pool, disk: &mut D, page: u32) -> Result<(), Vi
         return Err(Visit::Again);
     }
     if page >= pool.pages() {
-        return Err(Visit::Bad { page, rule: 0 });
+        return Err(Visit::Bad {
+            page,
+            rule: PageRule::Sum as u8,
+        });
     }
     let_in(pool, disk, page)
 }

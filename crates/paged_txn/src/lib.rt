@@ -10,6 +10,3 @@ mod work;
 
 pub use paged::PagedTxn;
 pub use room::Room;
-
-/// The bytes of a page.
-const PAGE: usize = 4096;

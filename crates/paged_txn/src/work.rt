@@ -27,7 +27,6 @@ ghost use Rattle.flusher.specs.Flushing.{AreNewest, HoldsRun, KeepsSince, AreHom
 ghost use Rattle.flusher.specs.Working.{IsAtRest, KeepsLog};
 ghost use Rattle.flusher.specs.declared.work.Worked.TheVariants.{Did, Idle};
 
-use crate::PAGE;
 use crate::bringing::bring;
 use crate::ending::{let_all_go, let_go};
 use crate::room::Room;
@@ -36,6 +35,7 @@ use flusher::{Flusher, Worked};
 use mini_txn::{Dealt, Edits, place_copies, shown_in, tells, write_in};
 use redo_log::Log;
 use store_api::{Disk, Failed, FreshBad, NoMemory, Visit};
+use stored_pages::layout::{PAGE, PAGE_COUNT};
 use stored_pages::read_u32;
 
 /// A mini-transaction under way.
@@ -62,7 +62,7 @@ fn counts_few<D: Disk>(pool: &mut Pool, disk: &mut D) -> bool
 {
     match bring(pool, disk, 0) {
         Ok(()) => {
-            let few = read_u32(pool.bytes(0), 44) <= pool.pages();
+            let few = read_u32(pool.bytes(0), PAGE_COUNT) <= pool.pages();
             let_go(pool, 0);
             few
         }
