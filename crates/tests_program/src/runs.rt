@@ -5,6 +5,7 @@ use disk_mem::{FixedClock, MemDisk, MemSink, MemSource, OpenGate};
 use inno_types::{Bytes, Ids, Listed};
 use script_runner::{Fault, run};
 use std::alloc::{AllocError, Global};
+use std::process::Abort;
 use std::sync::Wait;
 use std::test::Fail;
 use std::thread::Threads;
@@ -265,10 +266,19 @@ fn prints_what_sessions_were_answered(rt: HostRuntime) -> Result<(), Fail> {
         failed(ONE_SESSION, 1, 0, Fault::ScriptRead, 3),
         failed(ONE_SESSION, 0, 1, Fault::OutputWrite, 4),
     ];
-    for case in &cases {
-        let (made, disk) = new_files(&rt, rt.alloc())?;
+    answer_as_told(&rt, rt.alloc(), &cases)
+}
+
+/// Plays each case over new files, and compares what it answers and prints with what is told.
+fn answer_as_told<R: Threads + Wait + Timer + Sync + Abort>(
+    rt: &R,
+    alloc: Global,
+    cases: &[Case],
+) -> Result<(), Fail> {
+    for case in cases {
+        let (made, disk) = new_files(rt, alloc)?;
         assert_eq!(rt; made, Fault::Nothing);
-        let (fault, status, sink, disk) = result_on(&rt, rt.alloc(), disk, case)?;
+        let (fault, status, sink, disk) = result_on(rt, alloc, disk, case)?;
         drop(disk);
         let script = case.script;
         assert_eq!(rt; fault, case.fault, "after {script}");
@@ -280,6 +290,30 @@ fn prints_what_sessions_were_answered(rt: HostRuntime) -> Result<(), Fail> {
         );
     }
     Ok(())
+}
+
+const SETUP_ALONE: &str = "CREATE TABLE t (id BIGINT, PRIMARY KEY (id));\n";
+
+const SESSION_WITHOUT_ITEMS: &str = "CREATE TABLE t (id BIGINT, PRIMARY KEY (id));\n@session a\n";
+
+const SESSIONS_NAMED_AGAIN_OR_LAST: &str =
+    "CREATE TABLE t (id BIGINT, PRIMARY KEY (id));\n@session a\n@session b\nINSERT INTO t VALUES (1);\n@session a\n@session c\n";
+
+#[test]
+fn sessions_may_have_no_items(rt: HostRuntime) -> Result<(), Fail> {
+    let made = "@session setup\n1> OK\n";
+    let put = "@session setup\n1> OK\n@session b\n1> OK 1\n";
+    let cases = [
+        ran("play", SETUP_ALONE, made),
+        ran("run", SETUP_ALONE, made),
+        ran("play", SESSION_WITHOUT_ITEMS, made),
+        ran("run", SESSION_WITHOUT_ITEMS, made),
+        ran("play", SESSIONS_NAMED_AGAIN_OR_LAST, put),
+        ran("run", SESSIONS_NAMED_AGAIN_OR_LAST, put),
+        ran("play", "@session a\n@session b\n", ""),
+        ran("run", "@session a\n@session b\n", ""),
+    ];
+    answer_as_told(&rt, rt.alloc(), &cases)
 }
 
 #[test]
