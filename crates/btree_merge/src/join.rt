@@ -9,28 +9,9 @@ ghost use Rattle.btree_merge.specs.Merged.{FitTogether, HoldsFew};
 
 use big_endian::u16_bytes;
 use btree_change::{begin_of, lay};
+use page_format::layout::{COUNT, FENCE, HIGH, HIGH_LEN, RECORDS, RIGHT, WIDTH};
+use stored_pages::layout::PAGE;
 use stored_pages::read_u16;
-
-const SIZE: usize = 4096;
-
-/// Where the records begin.
-const RECORDS: usize = 208;
-
-pub const COUNT: usize = 22;
-
-const RIGHT: usize = 28;
-
-/// How many bytes the number of a page has.
-const NUMBER: usize = 4;
-
-const WIDTH: usize = 32;
-
-const HIGH_LEN: usize = 35;
-
-const HIGH: usize = 116;
-
-/// How many bytes a fence has room for.
-const FENCE: usize = 80;
 
 /// Whether the records of both pages have room in one.
 pub fn fit_together(left: &[u8], right: &[u8]) -> bool
@@ -39,7 +20,7 @@ pub fn fit_together(left: &[u8], right: &[u8]) -> bool
     ensures { MatchBool result (FitTogether left.now right.now) (FitTogether left.now right.now → ⊥) }
 {
     let count = usize::from(read_u16(left, COUNT)) + usize::from(read_u16(right, COUNT));
-    RECORDS + count * usize::from(read_u16(left, WIDTH)) <= SIZE
+    RECORDS + count * usize::from(read_u16(left, WIDTH)) <= PAGE
 }
 
 /// Whether a page has less than half of the records that have room on it.
@@ -48,11 +29,11 @@ pub fn holds_few(bytes: &[u8]) -> bool
     ensures { MatchBool result (HoldsFew bytes.now) (HoldsFew bytes.now → ⊥) }
 {
     let more_than_twice = 2 * usize::from(read_u16(bytes, COUNT)) + 1;
-    RECORDS + more_than_twice * usize::from(read_u16(bytes, WIDTH)) <= SIZE
+    RECORDS + more_than_twice * usize::from(read_u16(bytes, WIDTH)) <= PAGE
 }
 
 /// The left page with the records of the right one behind its own, up to where that one ends.
-pub fn joined(left: &[u8], right: &[u8]) -> [u8; 4096]
+pub fn joined(left: &[u8], right: &[u8]) -> [u8; PAGE]
     requires left_size { length left.now ≡ 4096 }
     requires right_size { length right.now ≡ 4096 }
     requires some { 0 < record_len_of left.now }
@@ -60,14 +41,14 @@ pub fn joined(left: &[u8], right: &[u8]) -> [u8; 4096]
     requires fits { FitTogether left.now right.now }
     ensures { HasTreeFields left.now → HasTreeFields right.now → IsJoined left.now right.now result }
 {
-    let mut page = [0; SIZE];
+    let mut page = [0; PAGE];
     page.copy_from_slice(left);
     let count = read_u16(left, COUNT);
     let more = read_u16(right, COUNT);
     let end = begin_of(left, count);
     lay(&mut page, end, &right[RECORDS..begin_of(right, more)]);
     lay(&mut page, COUNT, &u16_bytes(count + more));
-    lay(&mut page, RIGHT, &right[RIGHT..RIGHT + NUMBER]);
+    lay(&mut page, RIGHT, &right[RIGHT..WIDTH]);
     lay(&mut page, HIGH_LEN, &right[HIGH_LEN..HIGH_LEN + 1]);
     lay(&mut page, HIGH, &right[HIGH..HIGH + FENCE]);
     page

@@ -11,14 +11,14 @@ ghost use Rattle.btree_merge.specs.Going.{Reads, IsStop};
 ghost use Rattle.btree_merge.specs.Merged.{CanMerge};
 ghost use Rattle.btree_merge.specs.Siblings.{IsCouple, AreReadable, AreDealtWith, AreToMerge};
 
-use crate::join::{COUNT, fit_together};
-use crate::reading::{FIELD, copy_of, leaf_copy};
+use crate::join::fit_together;
+use crate::reading::{copy_of, leaf_copy};
 use btree::{Tree, child_at, is_laid_out};
 use mtr::Mtr;
-use store_api::Visit;
+use page_format::layout::{COUNT, LEVEL};
+use store_api::{PageRule, Visit};
+use stored_pages::layout::PAGE;
 use stored_pages::read_u16;
-
-const LEVEL: usize = 21;
 
 /// Two leaves side by side under one parent.
 #[derive(Clone, Copy)]
@@ -31,9 +31,9 @@ pub struct Couple {
 #[derive(Drop)]
 pub struct Siblings {
     pub couple: Couple,
-    pub above: [u8; 4096],
-    pub left: [u8; 4096],
-    pub right: [u8; 4096],
+    pub above: [u8; PAGE],
+    pub left: [u8; PAGE],
+    pub right: [u8; PAGE],
 }
 
 /// The children of a record and of the next one, if there is a next one.
@@ -43,10 +43,16 @@ fn couple_at(bytes: &[u8], tree: Tree, page: u32, place: u16) -> Result<Option<C
     ensures refused { IfErr result (λ why. (why ≡ Bad page 1) × (IsReadable tree bytes.now → level_of bytes.now ≢ 0 → ⊥)) }
 {
     if !is_laid_out(bytes, tree) {
-        return Err(Visit::Bad { page, rule: FIELD });
+        return Err(Visit::Bad {
+            page,
+            rule: PageRule::Fields as u8,
+        });
     }
     if bytes[LEVEL] == 0 {
-        return Err(Visit::Bad { page, rule: FIELD });
+        return Err(Visit::Bad {
+            page,
+            rule: PageRule::Fields as u8,
+        });
     }
     if usize::from(place) + 1 >= usize::from(read_u16(bytes, COUNT)) {
         return Ok(None);

@@ -17,9 +17,7 @@ use btree::Tree;
 use btree_change::{Edit, put_edit};
 use mtr::Mtr;
 use store_api::{NoMemory, SpaceBad};
-
-/// Where a page's bytes begin that are a tree's.
-const FIELDS: usize = 20;
+use stored_pages::layout::FIELDS;
 
 /// Puts what an image has for a tree's page.
 fn put_image<M: Mtr>(m: &mut M, page: u32, image: &[u8]) -> Result<(), NoMemory>

@@ -9,13 +9,8 @@ ghost use Rattle.btree_merge.specs.Parents.{IsParentFor};
 
 use btree::{Down, Tree, step_down};
 use mtr::Mtr;
-use store_api::Visit;
-
-/// How many levels a tree has at most.
-const MOST_LEVELS: u8 = 8;
-
-/// The rule that a page breaks whose level isn't one below that of its parent.
-const WRONG_LEVEL: u8 = 3;
+use page_format::layout::MOST_LEVELS;
+use store_api::{PageRule, Visit};
 
 /// The page above the leaf of the key, if the root isn't that leaf.
 pub fn parent_of<M: Mtr>(m: &mut M, tree: Tree, key: &[u8]) -> Result<Option<u32>, Visit>
@@ -38,6 +33,6 @@ pub fn parent_of<M: Mtr>(m: &mut M, tree: Tree, key: &[u8]) -> Result<Option<u32
     }
     Err(Visit::Bad {
         page: tree.root,
-        rule: WRONG_LEVEL,
+        rule: PageRule::Child as u8,
     })
 }

@@ -9,26 +9,22 @@ ghost use Rattle.btree_merge.specs.Going.{IsStop};
 
 use btree::{Tree, is_readable_leaf};
 use mtr::Mtr;
-use store_api::Visit;
-
-const SIZE: usize = 4096;
-
-/// The rule that a page breaks by one of its fields.
-pub const FIELD: u8 = 1;
+use store_api::{PageRule, Visit};
+use stored_pages::layout::PAGE;
 
 /// The bytes of a page, asked for.
-fn asked<M: Mtr>(m: &mut M, page: u32) -> Result<[u8; 4096], Visit>
+fn asked<M: Mtr>(m: &mut M, page: u32) -> Result<[u8; PAGE], Visit>
     requires { length (visit page (M.state m.old).visited) ≤ 24 }
     ensures shown { IfOk result (λ bytes. IsTrue (M.state m.old).told → IsShown ((M.state m.old).seen page) bytes) }
     ensures asks { Asks page (M.state m.old) result (M.state m.new) }
 {
-    let mut copy = [0; SIZE];
+    let mut copy = [0; PAGE];
     copy.copy_from_slice(m.bytes(page)?);
     Ok(copy)
 }
 
 /// The bytes of a page.
-pub fn copy_of<M: Mtr>(m: &mut M, page: u32) -> Result<[u8; 4096], Visit>
+pub fn copy_of<M: Mtr>(m: &mut M, page: u32) -> Result<[u8; PAGE], Visit>
     requires { length (visit page (M.state m.old).visited) ≤ 24 }
     ensures shown { IfOk result (λ bytes. IsTrue (M.state m.old).told → IsShown ((M.state m.old).seen page) bytes) }
     ensures looks { Consults (page ∷ []) (M.state m.old) (M.state m.new) }
@@ -39,7 +35,7 @@ pub fn copy_of<M: Mtr>(m: &mut M, page: u32) -> Result<[u8; 4096], Visit>
 }
 
 /// The bytes of a page that is a leaf.
-pub fn leaf_copy<M: Mtr>(m: &mut M, tree: Tree, page: u32) -> Result<[u8; 4096], Visit>
+pub fn leaf_copy<M: Mtr>(m: &mut M, tree: Tree, page: u32) -> Result<[u8; PAGE], Visit>
     requires few { length (visit page (M.state m.old).visited) ≤ 24 }
     requires leaf { IsTrue (M.state m.old).told → IsReadableLeaf tree ((M.state m.old).seen page) }
     ensures shown { IfOk result (λ bytes. IsTrue (M.state m.old).told → IsShown ((M.state m.old).seen page) bytes) }
@@ -50,7 +46,10 @@ pub fn leaf_copy<M: Mtr>(m: &mut M, tree: Tree, page: u32) -> Result<[u8; 4096],
 {
     let bytes = copy_of(m, page)?;
     if !is_readable_leaf(&bytes, tree) {
-        return Err(Visit::Bad { page, rule: FIELD });
+        return Err(Visit::Bad {
+            page,
+            rule: PageRule::Fields as u8,
+        });
     }
     Ok(bytes)
 }

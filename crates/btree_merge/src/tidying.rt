@@ -18,16 +18,15 @@ ghost use Rattle.btree_merge.specs.Merges.{IsAboveLeaves};
 ghost use Rattle.btree_merge.specs.Going.{GoesOn, Reads, IsStop, IsMergeReason};
 ghost use Rattle.btree_merge.specs.Tidied.{IsSparse, MergesBeside, DoesTidy};
 
-use crate::join::{COUNT, holds_few};
+use crate::join::holds_few;
 use crate::merge::merge_in;
 use crate::parent::parent_of;
-use crate::reading::{FIELD, copy_of, leaf_copy};
+use crate::reading::{copy_of, leaf_copy};
 use btree::{Bound, Tree, child_at, first_place, is_laid_out};
 use mtr::Mtr;
-use store_api::{NoMemory, SpaceBad, Visit};
+use page_format::layout::{COUNT, LEVEL};
+use store_api::{NoMemory, PageRule, SpaceBad, Visit};
 use stored_pages::read_u16;
-
-const LEVEL: usize = 21;
 
 /// The record of an inner page that leads to the child for a key.
 fn place_for(bytes: &[u8], tree: Tree, page: u32, key: &[u8]) -> Result<u16, Visit>
@@ -40,13 +39,22 @@ fn place_for(bytes: &[u8], tree: Tree, page: u32, key: &[u8]) -> Result<u16, Vis
     ensures refused { IfErr result (λ why. (why ≡ Bad page 1) × (IsReadable tree bytes.now → level_of bytes.now ≢ 0 → ⊥)) }
 {
     if !is_laid_out(bytes, tree) {
-        return Err(Visit::Bad { page, rule: FIELD });
+        return Err(Visit::Bad {
+            page,
+            rule: PageRule::Fields as u8,
+        });
     }
     if bytes[LEVEL] == 0 {
-        return Err(Visit::Bad { page, rule: FIELD });
+        return Err(Visit::Bad {
+            page,
+            rule: PageRule::Fields as u8,
+        });
     }
     if read_u16(bytes, COUNT) == 0 {
-        return Err(Visit::Bad { page, rule: FIELD });
+        return Err(Visit::Bad {
+            page,
+            rule: PageRule::Fields as u8,
+        });
     }
     Ok(first_place(bytes, tree, Bound::Above, key).saturating_sub(1))
 }
