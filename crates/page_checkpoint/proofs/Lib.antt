@@ -8,5 +8,5 @@ mod Alone
 mod Found
 mod Headers
 mod Homes
-mod NewRun
+mod NewRuns
 mod Staying

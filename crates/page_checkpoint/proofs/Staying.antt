@@ -17,7 +17,7 @@ use Rattle.law_logged_pages.proofs.Edits.{lsn-same, same_itself}
 use Rattle.law_logged_pages.proofs.Groups.{lsn_logical, lsn_from, not_past}
 use Rattle.law_logged_pages.proofs.Afterwards.{copy_from}
 use Rattle.page_checkpoint.specs.Checkpoints.{begun, IsClean, IsCheckpoint}
-use Rattle.page_checkpoint.proofs.NewRun.{begun_other, begun_first, size, in_batch, durable_is, copy_older, other_stage}
+use Rattle.page_checkpoint.proofs.NewRuns.{begun_other, begun_first, size, in_batch, durable_is, copy_older, other_stage}
 
 module _ (capacity run first : ℕ) (groups : List Group) (base : ℕ → List ℕ) (staged : StagedView) (before : State) (is : IsRun first groups base)
     (check : IsCheckpoint capacity run first groups staged.batch before) (flushed : ℕ) (clean : IsClean first flushed groups base before)

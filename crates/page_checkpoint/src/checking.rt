@@ -8,6 +8,7 @@ ghost use Rattle.page_checkpoint.specs.declared.checking.CheckpointBad.TheVarian
 
 use buffer_pool::Pool;
 use redo_log::Log;
+use stored_pages::layout::{FIRST_LSN, RUN};
 use stored_pages::read_u64;
 
 /// A run without groups: its number, and the LSN of its first group.
@@ -72,8 +73,8 @@ pub fn next_run(pool: &Pool, log: &Log) -> Result<NewRun, CheckpointBad>
         return Err(CheckpointBad::NotFlushed);
     }
     let page = pool.bytes(0);
-    if log.last() < read_u64(page, 56) {
+    if log.last() < read_u64(page, FIRST_LSN) {
         return Err(CheckpointBad::NoGroups);
     }
-    numbers_after(read_u64(page, 48), log.last())
+    numbers_after(read_u64(page, RUN), log.last())
 }

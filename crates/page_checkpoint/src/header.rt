@@ -7,9 +7,8 @@ ghost use Rattle.law_logged_pages.specs.Stages.{AreBytes};
 ghost use Rattle.page_checkpoint.specs.Header.{IsNextHeader};
 
 use big_endian::u64_bytes;
+use stored_pages::layout::{FIRST_LSN, LSN, NUMBER, PAGE, RUN, SUM};
 use sum64::fnv;
-
-pub const PAGE: usize = 4096;
 
 /// The bytes with a piece in place of those that stood there.
 fn with_piece(bytes: &[u8; PAGE], at: usize, piece: &[u8]) -> [u8; PAGE]
@@ -27,9 +26,9 @@ pub fn next_header(page: &[u8; PAGE], lsn: u64, run: u64, first: u64) -> [u8; PA
     ensures front { AreBytes 8 result }
     ensures header { IsNextHeader lsn run first page.now result }
 {
-    let numbered = with_piece(page, 8, &[0; 4]);
-    let stamped = with_piece(&numbered, 12, &u64_bytes(lsn));
-    let of_run = with_piece(&stamped, 48, &u64_bytes(run));
-    let begun = with_piece(&of_run, 56, &u64_bytes(first));
-    with_piece(&begun, 0, &u64_bytes(fnv(&begun[8..])))
+    let numbered = with_piece(page, NUMBER, &[0; 4]);
+    let stamped = with_piece(&numbered, LSN, &u64_bytes(lsn));
+    let of_run = with_piece(&stamped, RUN, &u64_bytes(run));
+    let begun = with_piece(&of_run, FIRST_LSN, &u64_bytes(first));
+    with_piece(&begun, SUM, &u64_bytes(fnv(&begun[NUMBER..])))
 }

@@ -14,7 +14,7 @@ ghost use Rattle.page_checkpoint.specs.Header.{IsNextHeader};
 ghost use Rattle.page_checkpoint.specs.Beginning.{IsNextRun, IsCause, IsFault, IsFailure, HasHeader, HoldsAll, HasBegun, LeavesOne, alone};
 
 use crate::checking::{CheckpointBad, NewRun, next_run};
-use crate::header::{PAGE, next_header};
+use crate::header::next_header;
 use crate::placing::place_header;
 use crate::{
     a_checkpoint_begins_a_run, a_crash_leaves_one_of_both_runs, a_placed_checkpoint_stays,
@@ -24,6 +24,7 @@ use doublewrite::Batch;
 use redo_log::{Log, stands_for_what_is_left};
 use std::alloc::Global;
 use store_api::{Disk, Failed, NoMemory};
+use stored_pages::layout::PAGE;
 
 /// Page 0 of the pool as it says the run.
 fn header_of(pool: &Pool, next: NewRun) -> [u8; PAGE]

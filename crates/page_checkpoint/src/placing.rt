@@ -9,9 +9,9 @@ ghost use Rattle.stored_pages.specs.Reading.{IsGoodPage};
 ghost use Rattle.doublewrite.specs.Kept.{IsReadyAs, IsStagedHonestly, IsStaged, HasPlaced, KeepsPages};
 ghost use Rattle.page_checkpoint.specs.Beginning.{alone};
 
-use crate::header::PAGE;
 use doublewrite::{Batch, Staged, stage};
 use store_api::{Disk, Failed};
+use stored_pages::layout::PAGE;
 
 /// Writes the one page of a batch, whose copy is synced, in its place, and syncs.
 fn place_alone<D: Disk>(mut staged: Staged, disk: &mut D) -> Result<(), Failed>

@@ -6,16 +6,7 @@ ghost use Rattle.page_format.specs.Shape.{HasTreeFields};
 ghost use Rattle.page_format.specs.Words.{low_of, high_of};
 ghost use Rattle.law_flat_tree.specs.Pages.{low_fence, high_fence};
 
-const LOW_LEN: usize = 34;
-
-const HIGH_LEN: usize = 35;
-
-const LOW: usize = 36;
-
-const HIGH: usize = 116;
-
-/// The length of a fence that isn't there.
-const NO_FENCE: u8 = 255;
+use page_format::layout::{HIGH, HIGH_LEN, LOW, LOW_LEN, NO_FENCE};
 
 /// The low fence, if there is one.
 pub fn low_fence_of(bytes: &[u8]) -> Option<&[u8]>

@@ -10,27 +10,10 @@ ghost use Rattle.tree_check.specs.Nodes.{StandsOn, HasLengths, DoKeysRise, IsNod
 
 use crate::fences::low_fence_of;
 use btree::{Tree, key_at};
+use page_format::layout::{
+    CHILD, COUNT, HIGH_LEN, INDEX, INNER, KIND, LEAF, LEVEL, LOW_LEN, NO_FENCE, WIDTH,
+};
 use stored_pages::{read_u16, read_u32};
-
-/// How many bytes the number of a child has.
-const CHILD: usize = 4;
-
-const KIND: usize = 20;
-
-const LEVEL: usize = 21;
-
-const COUNT: usize = 22;
-
-const INDEX: usize = 24;
-
-const WIDTH: usize = 32;
-
-const LOW_LEN: usize = 34;
-
-const HIGH_LEN: usize = 35;
-
-/// The length of a fence that isn't there.
-const NO_FENCE: u8 = 255;
 
 /// What is wrong with a page in a tree.
 #[derive(Clone, Copy, Debug, PartialEq, Eq)]
@@ -50,7 +33,7 @@ fn stands_on(bytes: &[u8], tree: Tree, level: u8) -> bool
     requires { length bytes.now ≡ 4096 }
     ensures { MatchBool result (StandsOn tree level bytes.now) (StandsOn tree level bytes.now → ⊥) }
 {
-    if bytes[KIND] != 3 && bytes[KIND] != 4 {
+    if bytes[KIND] != LEAF && bytes[KIND] != INNER {
         return false;
     }
     if read_u32(bytes, INDEX) != tree.index {

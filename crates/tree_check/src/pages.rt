@@ -8,9 +8,10 @@ ghost use Rattle.tree_check.specs.Rows.{page_in, IsNodeAt, IsFaulty};
 ghost use Rattle.tree_check.specs.Space.{HasFirstPages};
 
 use crate::node::{NodeBad, check_node};
-use crate::space::{FIRST_TREE_PAGE, is_used, page_count};
+use crate::space::{is_used, page_count};
 use btree::Tree;
 use page_format::{Page, PageBad};
+use stored_pages::layout::{FIXED_PAGES, PAGE};
 
 /// Why a page may not stand where a tree leads to it.
 #[derive(Clone, Copy, Debug, PartialEq, Eq)]
@@ -26,12 +27,12 @@ pub enum PageFault {
 }
 
 /// Whether the file has a page of that number that may stand on that level.
-pub fn read_node(pages: &[[u8; 4096]], tree: Tree, level: u8, number: u32) -> Result<(), PageFault>
+pub fn read_node(pages: &[[u8; PAGE]], tree: Tree, level: u8, number: u32) -> Result<(), PageFault>
     requires { HasFirstPages pages.now }
     ensures node { OnOk result (IsNodeAt tree pages.now level number) }
     ensures faulty { IfErr result (IsFaulty tree pages.now level number) }
 {
-    if number < FIRST_TREE_PAGE || number >= page_count(pages) {
+    if number < FIXED_PAGES || number >= page_count(pages) {
         return Err(PageFault::Missing);
     }
     if !is_used(pages, number) {

@@ -14,13 +14,9 @@ ghost use Rattle.tree_check.specs.Rows.{IsCheckedRow, IsRowFrom, HasRowBelow, Is
 use crate::fences::{do_meet, high_fence_of, low_fence_of};
 use crate::pages::{PageFault, read_node};
 use btree::{Tree, child_at, is_laid_out, key_at};
+use page_format::layout::{COUNT, LEVEL, RIGHT};
+use stored_pages::layout::PAGE;
 use stored_pages::{read_u16, read_u32};
-
-const LEVEL: usize = 21;
-
-const COUNT: usize = 22;
-
-const RIGHT: usize = 28;
 
 /// Where a walk along two levels has come: the page above and its record that comes next, the page below, and the one before
 /// that, or 0 where there is none.
@@ -93,7 +89,7 @@ fn begins_there(above: &[u8], tree: Tree, place: u16, child: &[u8]) -> bool
 }
 
 /// Whether the page begins where the one before ends, or has no low fence where it is the first of its row.
-fn follows(pages: &[[u8; 4096]], tree: Tree, last: u32, page: u32) -> bool
+fn follows(pages: &[[u8; PAGE]], tree: Tree, last: u32, page: u32) -> bool
     requires last { last ≢ 0 → (last < length pages.now) × HasTreeFields (page_in pages.now last) }
     requires within { page < length pages.now }
     requires fields { HasTreeFields (page_in pages.now page) }
@@ -137,7 +133,7 @@ fn next_of(above: &[u8], child: &[u8], now: Walk) -> Walk
 }
 
 /// Checks the page that comes next below, and answers what comes next then.
-fn step(pages: &[[u8; 4096]], tree: Tree, level: u8, now: Walk) -> Result<Walk, RowFault>
+fn step(pages: &[[u8; PAGE]], tree: Tree, level: u8, now: Walk) -> Result<Walk, RowFault>
     requires file { HasFirstPages pages.now }
     requires upper { IsNodeAt tree pages.now (suc level) now.upper }
     requires last { now.last ≢ 0 → IsNodeAt tree pages.now level now.last }
@@ -170,7 +166,7 @@ fn step(pages: &[[u8; 4096]], tree: Tree, level: u8, now: Walk) -> Result<Walk, 
 }
 
 /// Whether the row below ends with the last page.
-fn ends_with(pages: &[[u8; 4096]], last: u32, lower: u32) -> bool
+fn ends_with(pages: &[[u8; PAGE]], last: u32, lower: u32) -> bool
     requires { last ≢ 0 → (last < length pages.now) × HasTreeFields (page_in pages.now last) }
     ensures { MatchBool result (IsRowEnd pages.now last lower) (IsRowEnd pages.now last lower → ⊥) }
 {
@@ -185,7 +181,7 @@ fn ends_with(pages: &[[u8; 4096]], last: u32, lower: u32) -> bool
 
 /// Checks that the pages from the first one on are a row, and the children of the row above, in order.
 pub fn check_level(
-    pages: &[[u8; 4096]],
+    pages: &[[u8; PAGE]],
     tree: Tree,
     level: u8,
     top: u32,

@@ -8,12 +8,13 @@ use crate::node::NodeBad;
 use crate::pages::PageFault;
 use crate::rows::RowFault;
 use page_format::PageBad;
+use store_api::PageRule;
 
 fn rule_in_page(bad: PageBad) -> u8
     ensures { result ≡ rule_in_page bad }
 {
     match bad {
-        PageBad::Sum { .. } | PageBad::Number { .. } => 0,
+        PageBad::Sum { .. } | PageBad::Number { .. } => PageRule::Sum as u8,
         PageBad::Shape { rule } => rule,
     }
 }
@@ -22,9 +23,9 @@ fn rule_on_level(bad: NodeBad) -> u8
     ensures { result ≡ rule_on_level bad }
 {
     match bad {
-        NodeBad::Field => 1,
-        NodeBad::Order | NodeBad::First => 2,
-        NodeBad::Place => 3,
+        NodeBad::Field => PageRule::Fields as u8,
+        NodeBad::Order | NodeBad::First => PageRule::Order as u8,
+        NodeBad::Place => PageRule::Child as u8,
     }
 }
 
@@ -32,8 +33,8 @@ fn rule_at_page(fault: PageFault) -> u8
     ensures { result ≡ rule_at_page fault }
 {
     match fault {
-        PageFault::Missing => 1,
-        PageFault::Free => 5,
+        PageFault::Missing => PageRule::Fields as u8,
+        PageFault::Free => PageRule::Use as u8,
         PageFault::Unread(bad) => rule_in_page(bad),
         PageFault::Wrong(bad) => rule_on_level(bad),
     }
@@ -46,7 +47,7 @@ pub fn rule_broken(fault: RowFault) -> u8
 {
     match fault {
         RowFault::Page { page: _, fault } => rule_at_page(fault),
-        RowFault::Child { .. } => 3,
-        RowFault::Neighbour { .. } => 4,
+        RowFault::Child { .. } => PageRule::Child as u8,
+        RowFault::Neighbour { .. } => PageRule::Neighbour as u8,
     }
 }

@@ -9,22 +9,8 @@ ghost use Rattle.tree_check.specs.Rows.{page_in};
 ghost use Rattle.tree_check.specs.Space.{HasFirstPages, IsSpaceFault};
 
 use store_api::MOST_PAGES;
+use stored_pages::layout::{BITS, COVERED, FIRST_MAP_PAGE, FIXED_PAGES, PAGE, PAGE_COUNT};
 use stored_pages::read_u32;
-
-/// The first page that may be a tree's.
-pub const FIRST_TREE_PAGE: u32 = 21;
-
-/// Where page 0 counts the pages.
-const PAGE_COUNT: usize = 44;
-
-/// The first page of the map.
-const MAP: u32 = 2;
-
-/// How many pages one page of the map has bits of.
-const COVERED: u32 = 32512;
-
-/// Where the bits begin in a page of the map.
-const BITS: usize = 32;
 
 /// What is wrong with the first pages of a file.
 #[derive(Clone, Copy, Debug, PartialEq, Eq)]
@@ -36,7 +22,7 @@ pub enum SpaceFault {
 }
 
 /// How many pages page 0 counts.
-pub fn page_count(pages: &[[u8; 4096]]) -> u32
+pub fn page_count(pages: &[[u8; PAGE]]) -> u32
     requires { 0 < length pages.now }
     ensures { result ≡ u32_at 44 (page_in pages.now 0) }
 {
@@ -44,30 +30,30 @@ pub fn page_count(pages: &[[u8; 4096]]) -> u32
 }
 
 /// Whether the map says that the page is in use.
-pub fn is_used(pages: &[[u8; 4096]], page: u32) -> bool
+pub fn is_used(pages: &[[u8; PAGE]], page: u32) -> bool
     requires map { 4 < length pages.now }
     requires page { page < 65536 }
     ensures { MatchBool result (mark_of (page_in pages.now) page ≡ 1) (mark_of (page_in pages.now) page ≡ 0) }
 {
-    let map = &pages[(MAP + page / COVERED) as usize];
+    let map = &pages[(FIRST_MAP_PAGE + page / COVERED) as usize];
     let byte = map[BITS + (page % COVERED / 8) as usize];
     (byte >> (page % 8)) & 1 == 1
 }
 
 /// Whether page 0 counts the pages as it may, and the map says that the first ones are in use.
-pub fn check_space(pages: &[[u8; 4096]]) -> Result<(), SpaceFault>
+pub fn check_space(pages: &[[u8; PAGE]]) -> Result<(), SpaceFault>
     ensures first { OnOk result (HasFirstPages pages.now) }
     ensures fault { IfErr result (IsSpaceFault pages.now) }
     ensures refused { OnErr result (HasFirstPages pages.now → ⊥) }
 {
-    if pages.len() < FIRST_TREE_PAGE as usize {
+    if pages.len() < FIXED_PAGES as usize {
         return Err(SpaceFault::Count);
     }
     let count = page_count(pages);
-    if count < FIRST_TREE_PAGE || count > MOST_PAGES || count as usize > pages.len() {
+    if count < FIXED_PAGES || count > MOST_PAGES || count as usize > pages.len() {
         return Err(SpaceFault::Count);
     }
-    for page in 0..FIRST_TREE_PAGE {
+    for page in 0..FIXED_PAGES {
         if !is_used(pages, page) {
             return Err(SpaceFault::Free { page });
         }

@@ -12,14 +12,12 @@ use crate::pages::{PageFault, read_node};
 use crate::rows::{RowFault, check_level};
 use crate::space::page_count;
 use btree::{Tree, child_at};
+use page_format::layout::{LEVEL, RIGHT};
+use stored_pages::layout::PAGE;
 use stored_pages::read_u32;
 
-const LEVEL: usize = 21;
-
-const RIGHT: usize = 28;
-
 /// The root's level, where it is a row by itself.
-fn read_root(pages: &[[u8; 4096]], tree: Tree) -> Result<u8, RowFault>
+fn read_root(pages: &[[u8; PAGE]], tree: Tree) -> Result<u8, RowFault>
     requires { HasFirstPages pages.now }
     ensures row { IfOk result (λ level. IsCheckedRow tree pages.now level tree.root (tree.root ∷ [])) }
     ensures fault { IfErr result (IsRootFault tree pages.now) }
@@ -48,7 +46,7 @@ fn read_root(pages: &[[u8; 4096]], tree: Tree) -> Result<u8, RowFault>
 }
 
 /// Checks that the pages of a file from the root on are a tree, each of them one of the file's, and in use.
-pub fn check_tree(pages: &[[u8; 4096]], tree: Tree) -> Result<(), RowFault>
+pub fn check_tree(pages: &[[u8; PAGE]], tree: Tree) -> Result<(), RowFault>
     requires some { 0 < tree.key_len }
     requires file { HasFirstPages pages.now }
     ensures tree { OnOk result (IsPlacedTree tree (page_in pages.now)) }

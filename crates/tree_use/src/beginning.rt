@@ -14,26 +14,15 @@ ghost use Rattle.tree_use.specs.Beginning.{IsEmptyLeaf, AreReserved, IsCountedRo
 use crate::reading::sure;
 use btree::Tree;
 use mtr::{Mtr, Resident};
+use page_format::layout::{
+    COUNT, HIGH_LEN, INDEX, KIND, LEAF, LEVEL, LOW, LOW_LEN, NO_FENCE, RIGHT, WIDTH,
+};
 use store_api::{MOST_PAGES, Visit};
+use stored_pages::layout::{BITS, COVERED, FIRST_MAP_PAGE, FIXED_PAGES, PAGE, PAGE_COUNT};
 use stored_pages::{read_u16, read_u32};
 
-/// Where page 0 has the number of pages.
-const PAGE_COUNT: usize = 44;
-
-/// The first pages of the file, which are no tree's.
-const RESERVED: u32 = 21;
-
-/// How many pages the first page of the map has bits of.
-const COVERED: u32 = 32_512;
-
-/// Where the fences begin; what follows them are records.
-const FENCES: usize = 36;
-
-/// Where the bits begin.
-const BITS: usize = 32;
-
 /// Whether a page is marked as used in the first page of the map.
-fn is_used(map: &[u8; 4096], page: u32) -> bool
+fn is_used(map: &[u8; PAGE], page: u32) -> bool
     requires { page < 32512 }
     ensures { MatchBool result (bit_in map.now page ≡ 1) (bit_in map.now page ≡ 1 → ⊥) }
 {
@@ -42,10 +31,10 @@ fn is_used(map: &[u8; 4096], page: u32) -> bool
 }
 
 /// Whether the first pages are marked as used.
-fn are_reserved(map: &[u8; 4096]) -> bool
+fn are_reserved(map: &[u8; PAGE]) -> bool
     ensures { MatchBool result (AreReserved map.now) (AreReserved map.now → ⊥) }
 {
-    for page in 0..RESERVED {
+    for page in 0..FIXED_PAGES {
         if !is_used(map, page) {
             return false;
         }
@@ -54,11 +43,11 @@ fn are_reserved(map: &[u8; 4096]) -> bool
 }
 
 /// Whether the root is a page of the file that is in use.
-fn is_counted(root: u32, header: &[u8; 4096], map: &[u8; 4096]) -> bool
+fn is_counted(root: u32, header: &[u8; PAGE], map: &[u8; PAGE]) -> bool
     ensures { MatchBool result (IsCountedRoot root header.now map.now) (IsCountedRoot root header.now map.now → ⊥) }
 {
     let count = read_u32(header, PAGE_COUNT);
-    if root < RESERVED || root >= COVERED || root >= count || count > MOST_PAGES {
+    if root < FIXED_PAGES || root >= COVERED || root >= count || count > MOST_PAGES {
         return false;
     }
     are_reserved(map) && is_used(map, root)
@@ -76,30 +65,34 @@ fn is_empty_leaf(tree: Tree, bytes: &[u8]) -> bool
     requires widths { HasWidths tree }
     ensures { MatchBool result (IsEmptyLeaf tree bytes.now) (IsEmptyLeaf tree bytes.now → ⊥) }
 {
-    if bytes[20] != 3 || bytes[21] != 0 || bytes[34] != 255 || bytes[35] != 255 {
+    if bytes[KIND] != LEAF
+        || bytes[LEVEL] != 0
+        || bytes[LOW_LEN] != NO_FENCE
+        || bytes[HIGH_LEN] != NO_FENCE
+    {
         return false;
     }
-    if read_u16(bytes, 22) != 0 || read_u32(bytes, 28) != 0 {
+    if read_u16(bytes, COUNT) != 0 || read_u32(bytes, RIGHT) != 0 {
         return false;
     }
-    if read_u32(bytes, 24) != tree.index {
+    if read_u32(bytes, INDEX) != tree.index {
         return false;
     }
-    if read_u16(bytes, 32) != u16::from(tree.key_len) + tree.value_len {
+    if read_u16(bytes, WIDTH) != u16::from(tree.key_len) + tree.value_len {
         return false;
     }
-    let (_, behind) = bytes.split_at(FENCES);
+    let (_, behind) = bytes.split_at(LOW);
     are_zeros(behind)
 }
 
 /// A copy of a page.
-fn copied<M: Mtr>(m: &mut M, page: u32) -> Result<[u8; 4096], Visit>
+fn copied<M: Mtr>(m: &mut M, page: u32) -> Result<[u8; PAGE], Visit>
     requires idle { IsIdle (M.state m.old) }
     ensures shown { IfOk result (λ bytes. IsTrue (M.state m.new).told → IsShown ((M.state m.old).standing page) bytes) }
     ensures reads { GivesUp (M.state m.old) (M.state m.new) }
     ensures reason { IfErr result (IsHindered (M.state m.old) (M.state m.new)) }
 {
-    let mut copy = [0; 4096];
+    let mut copy = [0; PAGE];
     copy.copy_from_slice(m.bytes(page)?);
     m.give_up();
     Ok(copy)
@@ -116,7 +109,7 @@ pub fn is_new_tree<M: Resident>(m: &mut M, tree: Tree) -> bool
     ensures other { result ≡ false → HoldsNewTree tree (M.state m.old).standing → ⊥ }
 {
     let header = sure(copied(m, 0));
-    let map = sure(copied(m, 2));
+    let map = sure(copied(m, FIRST_MAP_PAGE));
     let root = sure(copied(m, tree.root));
     is_counted(tree.root, &header, &map) && is_empty_leaf(tree, &root)
 }

@@ -1,4 +1,4 @@
-use Rattle.page_checkpoint.proofs.NewRun.{begins, begun_other}
+use Rattle.page_checkpoint.proofs.NewRuns.{begins, begun_other}
 use Rattle.page_checkpoint.proofs.new_runs.a_checkpoint_begins_a_run.Goals as goal
 
 pub returns-clause-run : goal.returns-clause-run

@@ -1,4 +1,4 @@
-use Rattle.page_checkpoint.proofs.NewRun.{either_run}
+use Rattle.page_checkpoint.proofs.NewRuns.{either_run}
 use Rattle.page_checkpoint.proofs.new_runs.a_crash_leaves_one_of_both_runs.Goals as goal
 
 pub returns : goal.returns
