@@ -5,6 +5,7 @@ use Rattle.store_api.specs.Past.{Past}
 use Rattle.inno_model.specs.Recorded.{Recorded}
 use Rattle.script.specs.declared.script.ScriptBad.{ScriptBad}
 use Rattle.script.specs.declared.script.ScriptBad.TheVariants as bad
+use Rattle.script.specs.declared.script.Limited.TheVariants as limited
 use Rattle.script.specs.Reading.{over, most_sessions, most_items}
 use Rattle.script_generator.specs.Generated.{passed}
 use Rattle.run_outcome.specs.declared.words.Asked.{Asked}
@@ -24,7 +25,7 @@ IsOfScript (Some (bad.Limit what found most)) = what ≤ 2
 IsOfScript (Some other) = ⊥
 
 one_of : (first second : Bool)
-    → IsOfScript (if first then Some (over 1 most_sessions) else (if second then Some (over 2 most_items) else None))
+    → IsOfScript (if first then Some (over limited.Sessions most_sessions) else (if second then Some (over limited.Items most_items) else None))
 one_of true second = omega arith
 one_of false true = omega arith
 one_of false false = tt
