@@ -21,7 +21,7 @@ use Rattle.sql_history.specs.Legal.{AnswersRows, EndsRows, EndsTaken, EndsItem, 
 use Rattle.law_past_agreement.specs.Order.{IsOfRow}
 use Rattle.shared_lists.specs.Tasks.{Task, Idle, Lagging, Undoing, MayTakeBack, asked}
 use Rattle.shared_lists.specs.State.{State, Closes, task_of}
-use Rattle.sql_lists.specs.{Kept.MayReply, Kept.OwesAck, Steps.HasRowsAlone, Going.NearsAcked, Steps.GoesOnAcked, Steps.Steps}
+use Rattle.sql_lists.specs.{Kept.MayReply, Steps.HasRowsAlone, Steps.Steps}
 use Rattle.sql_lists.specs.declared.advance.Advance.TheVariants as advance
 use Rattle.sql_lists.proofs.Moving.{moves_closes, below_phase}
 use Rattle.giving_up.specs.declared.leaving.Leaving.{Leaving}
@@ -29,6 +29,7 @@ use Rattle.giving_up.specs.declared.leaving.Leaving.TheVariants as leaving
 use Rattle.giving_up.specs.Going.{to_leave}
 use Rattle.giving_up.specs.Ends.{is_rows, IsAnswered, EndsWith, MayEndWith, IsClosing, IsFailed, IsGivingUp}
 use Rattle.giving_up.specs.Leaving.{IsLeaving, owes_ack, acked}
+use Rattle.giving_up.specs.Machines.{MovesOnAcked}
 use Rattle.giving_up.proofs.Ends.{spares_ack, closing_on}
 use Rattle.giving_up.proofs.Own.{acked_of, did_same, did_now, point_same}
 use Rattle.giving_up.proofs.TakingBack.{may_take_back}
@@ -189,19 +190,16 @@ module _ (s : ℕ) (h : List Event) where
 
 -- ---- the acknowledgement
 
-pub owes_it : (state : State) (s : ℕ) (m : Leaving) → owes_ack m ≡ true → IsLeaving state s m → OwesAck s state.past
-owes_it state s (leaving.Unacked _ given) owes r = record { owed = r.1; closed = r.2 }
-owes_it state s m owes r = absurd (false≢true owes)
-
-pub goes_on_acked : (m : Leaving) → owes_ack m ≡ true → GoesOnAcked IsLeaving m (acked m)
-goes_on_acked (leaving.Unacked kept given) owes old new s moment r adds =
-    let none : awaits_ack (of_item s (events.Acked s moment ∷ old.past)) ≡ false = grind (arith, nat_tests) in
-    rw adds.past_is (closing_on (events.Acked s moment) old.past s (spares_ack s moment old.past) kept given r.0, none, adds.task_is ∙ r.3)
-goes_on_acked m owes old new s moment r adds = absurd (false≢true owes)
-
-pub acked_nears : (m : Leaving) → owes_ack m ≡ true → NearsAcked to_leave m (acked m)
-acked_nears (leaving.Unacked kept given) owes old new s = below_phase 2 0 _ _ _ _ _ _ (omega arith)
-acked_nears m owes old new s = absurd (false≢true owes)
+pub moves_on_acked : MovesOnAcked IsLeaving to_leave owes_ack acked
+moves_on_acked (leaving.Unacked kept given) owes =
+    record {
+      owed = λ state s r. record { owed = r.1; closed = r.2 };
+      runs = λ old new s moment r adds.
+          let none : awaits_ack (of_item s (events.Acked s moment ∷ old.past)) ≡ false = grind (arith, nat_tests) in
+          rw adds.past_is (closing_on (events.Acked s moment) old.past s (spares_ack s moment old.past) kept given r.0, none, adds.task_is ∙ r.3);
+      nears = λ old new s. below_phase 2 0 _ _ _ _ _ _ (omega arith);
+    }
+moves_on_acked m owes = absurd (false≢true owes)
 
 -- ---- nothing is to be told
 
@@ -216,3 +214,4 @@ asks_for_none state s (leaving.BackingOut work) r = taken_back_asks_none (task_o
 asks_for_none state s (leaving.Failed alone) r = ap asked r.1
 asks_for_none state s (leaving.Unacked kept given) r = ap asked r.3
 asks_for_none state s (leaving.Ending kept given) r = ap asked r.2
+asks_for_none state s leaving.Ended r = absurd r

@@ -266,6 +266,7 @@ module _ (old new : State) (t s : ℕ) (differ : t ≢ s) (adding : AddingOne t 
       (by_entry (IsClosing s kept given) (λ e spares. closing_on e old.past s spares kept given) r.0, acks_are ∙ r.1, level_is ∙ r.2, task-is ∙ r.3)
   leaving_on (leaving.Ending kept given) r =
       (by_entry (IsClosing s kept given) (λ e spares. closing_on e old.past s spares kept given) r.0, acks_are ∙ r.1, task-is ∙ r.2)
+  leaving_on leaving.Ended r = absurd r
 
 pub stays : StaysRunning IsLeaving
 stays = stays_running IsLeaving (λ old new t s m differ adding keeps task-is known. leaving_on old new t s differ adding keeps task-is m known)

@@ -12,3 +12,4 @@ to_leave s state (leaving.BackingOut work) = left 3 (length (own s state.past)) 
 to_leave s state (leaving.Failed alone) = left 2 0 0 0
 to_leave s state (leaving.Unacked kept given) = left 2 0 0 0
 to_leave s state (leaving.Ending kept given) = left 0 0 0 0
+to_leave s state leaving.Ended = left 0 0 0 0

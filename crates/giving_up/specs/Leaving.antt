@@ -96,3 +96,4 @@ IsLeaving state s (leaving.Failed alone) = IsFailed s alone state.past × (task_
 IsLeaving state s (leaving.Unacked kept given) =
     IsClosing s kept given state.past × (awaits_ack (of_item s state.past) ≡ true) × IsClosed s state.past × (task_of s state ≡ Idle)
 IsLeaving state s (leaving.Ending kept given) = IsClosing s kept given state.past × (awaits_ack (of_item s state.past) ≡ false) × (task_of s state ≡ Idle)
+IsLeaving state s leaving.Ended = ⊥

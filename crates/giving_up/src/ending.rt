@@ -36,7 +36,7 @@ pub fn end<L: SharedLists>(
     ensures done { result.1 ≡ Advance.Done given }
 {
     lists.end(session, kept);
-    (Leaving::Failed { alone: false }, Advance::Done(given))
+    (Leaving::Ended, Advance::Done(given))
 }
 
 /// Commits the statement's own transaction. Its item may end once that is acknowledged.

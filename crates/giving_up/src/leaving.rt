@@ -1,14 +1,13 @@
 //! The states of a statement that ends, and its step.
 //! `read_statement` and `write_statement` make one and step it; nothing leads back from it to their other states.
 
-ghost use Rattle.std.specs.Prelude.{◌≡◌, ◌<◌, ℕ, length, true, false, None};
+ghost use Rattle.std.specs.Prelude.{◌≡◌, ℕ, None};
 ghost use Rattle.shared_lists.specs.Tasks.{asked};
 ghost use Rattle.shared_lists.specs.State.{State, task_of};
-ghost use Rattle.sql_lists.specs.Kept.{OwesAck};
-ghost use Rattle.sql_lists.specs.Steps.{Steps, StaysRunning, GoesOnAcked};
-ghost use Rattle.sql_lists.specs.Going.{Nears, NearsAcked};
+ghost use Rattle.sql_lists.specs.Steps.{StaysRunning};
 ghost use Rattle.giving_up.specs.Going.{to_leave};
 ghost use Rattle.giving_up.specs.Leaving.{IsLeaving, owes_ack, acked, given_up};
+ghost use Rattle.giving_up.specs.Machines.{MayStep, StepsAs, MovesOnAcked};
 
 use crate::backing::step_backing;
 use crate::ending::{step_ending, step_failed};
@@ -27,6 +26,8 @@ pub enum Leaving {
     Unacked { kept: Reply, given: Reply },
     /// Its own transaction has ended or it leaves none, and nothing awaits an acknowledgement.
     Ending { kept: Reply, given: Reply },
+    /// Its item has ended.
+    Ended,
 }
 
 /// A statement that was refused or given up. `alone` says that the transaction is its own, which had made so many changes before.
@@ -72,26 +73,21 @@ impl Leaving {
 
     /// One step towards the end of the session's statement.
     pub fn step<L: SharedLists>(self, session: u32, lists: &mut SqlLists<L>) -> (Leaving, Advance)
-        requires joined { session < length lists.old.names }
-        requires leaving { IsLeaving lists.old session self }
-        requires acked { owes_ack self ≡ false }
-        ensures steps { Steps IsLeaving session lists.old lists.new result.0 result.1 }
-        ensures nears { Nears to_leave session lists.old self lists.new result.0 result.1 }
+        requires { MayStep IsLeaving owes_ack session lists.old self }
+        ensures { StepsAs IsLeaving to_leave session lists.old self lists.new result.0 result.1 }
     {
         match self {
             Leaving::BackingOut(work) => step_backing(work, session, lists),
             Leaving::Failed { alone } => step_failed(alone, session, lists),
-            Leaving::Unacked { .. } => unreachable!(),
+            Leaving::Unacked { .. } | Leaving::Ended => unreachable!(),
             Leaving::Ending { kept, given } => step_ending(kept, given, session, lists),
         }
     }
 }
 
 /// A commit that is owed stands in the past, and its acknowledgement brings the statement nearer to its end.
-pub fn a_commit_that_is_owed_is_acknowledged()
-    ensures owed { (state : State) (s : ℕ) (m : Leaving) → owes_ack m ≡ true → IsLeaving state s m → OwesAck s state.past }
-    ensures runs { (m : Leaving) → owes_ack m ≡ true → GoesOnAcked IsLeaving m (acked m) }
-    ensures nears { (m : Leaving) → owes_ack m ≡ true → NearsAcked to_leave m (acked m) }
+pub fn an_acknowledgement_moves_it_on()
+    ensures { MovesOnAcked IsLeaving to_leave owes_ack acked }
 {}
 
 /// It has no change to tell.

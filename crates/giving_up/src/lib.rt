@@ -9,6 +9,5 @@ mod leaving;
 
 pub use ending::{commit, end, overfull_by, roll_back};
 pub use leaving::{
-    Leaving, Work, a_commit_that_is_owed_is_acknowledged, one_that_leaves_tells_no_change,
-    others_leave_it,
+    Leaving, Work, an_acknowledgement_moves_it_on, one_that_leaves_tells_no_change, others_leave_it,
 };

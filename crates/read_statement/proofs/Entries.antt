@@ -17,10 +17,9 @@ use Rattle.sql_history.specs.Legal.{MayBegin, MayView}
 use Rattle.shared_lists.specs.Tasks.{Idle}
 use Rattle.shared_lists.specs.State.{State, Adds, Turns, Stays, task_of}
 use Rattle.law_past_agreement.specs.Order.{IsOfRow}
-use Rattle.sql_lists.specs.Kept.{OwesAck}
-use Rattle.sql_lists.specs.Going.{NearsAcked}
-use Rattle.sql_lists.specs.Steps.{Moves, IsTaken, GoesOnAcked}
+use Rattle.sql_lists.specs.Steps.{Moves, IsTaken}
 use Rattle.sql_lists.proofs.Moving.{moves_none, moves_adds}
+use Rattle.giving_up.specs.Machines.{MovesOnAcked}
 use Rattle.giving_up.proofs.Closing as of_leaving
 use Rattle.giving_up.proofs.Nothing.{own_nothing, level_nothing, turn_nothing}
 use Rattle.read_statement.specs.declared.machine.Asked.{Asked}
@@ -216,14 +215,7 @@ has_view s h is some =
 
 -- ---- the acknowledgement of a commit
 
-pub owes_it : (state : State) (s : ℕ) (m : ReadStatement) → owes_ack m ≡ true → IsRunning state s m → OwesAck s state.past
-owes_it state s (machine.Leaving leaving) owes r = of_leaving.owes_it state s leaving owes r
-owes_it state s m owes r = never owes
-
-pub goes_on_acked : (m : ReadStatement) → owes_ack m ≡ true → GoesOnAcked IsRunning m (acked m)
-goes_on_acked (machine.Leaving leaving) owes = of_leaving.goes_on_acked leaving owes
-goes_on_acked m owes = never owes
-
-pub acked_nears : (m : ReadStatement) → owes_ack m ≡ true → NearsAcked to_go m (acked m)
-acked_nears (machine.Leaving leaving) owes = of_leaving.acked_nears leaving owes
-acked_nears m owes = never owes
+pub moves_on_acked : MovesOnAcked IsRunning to_go owes_ack acked
+moves_on_acked (machine.Leaving leaving) owes =
+    let goes = of_leaving.moves_on_acked leaving owes in record { owed = goes.owed; runs = goes.runs; nears = goes.nears }
+moves_on_acked m owes = never owes

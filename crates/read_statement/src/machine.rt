@@ -1,15 +1,14 @@
 //! The states of a SELECT, and its step by each.
 //! `statement` alone makes and steps one; which state comes next is said by the steps in the other files.
 
-ghost use Rattle.std.specs.Prelude.{◌≡◌, ◌<◌, ℕ, length, true, false, None};
+ghost use Rattle.std.specs.Prelude.{◌≡◌, ◌<◌, length, true, false, None};
 ghost use Rattle.inno_db.specs.Refusals.{refusal};
 ghost use Rattle.sql_history.specs.Readings.{is_plain_select};
 ghost use Rattle.sql_history.specs.Statements.{is_select, schemas_now};
 ghost use Rattle.shared_lists.specs.Tasks.{Idle};
-ghost use Rattle.shared_lists.specs.State.{State, task_of};
-ghost use Rattle.sql_lists.specs.Going.{Nears, NearsAcked};
-ghost use Rattle.sql_lists.specs.Kept.{OwesAck};
-ghost use Rattle.sql_lists.specs.Steps.{Steps, StaysRunning, GoesOnAcked};
+ghost use Rattle.shared_lists.specs.State.{task_of};
+ghost use Rattle.sql_lists.specs.Steps.{StaysRunning};
+ghost use Rattle.giving_up.specs.Machines.{MayStep, StepsAs, MovesOnAcked};
 ghost use Rattle.read_statement.specs.Going.{to_go};
 ghost use Rattle.read_statement.specs.Running.{IsRunning, IsTakenWith, is_searching, owes_ack, acked};
 
@@ -121,11 +120,8 @@ impl ReadStatement {
         session: u32,
         lists: &mut SqlLists<L>,
     ) -> Advance
-        requires joined { session < length lists.old.names }
-        requires running { IsRunning lists.old session self.old }
-        requires acked { owes_ack self.old ≡ false }
-        ensures steps { Steps IsRunning session lists.old lists.new self.new result }
-        ensures nears { Nears to_go session lists.old self.old lists.new self.new result }
+        requires { MayStep IsRunning owes_ack session lists.old self.old }
+        ensures { StepsAs IsRunning to_go session lists.old self.old lists.new self.new result }
     {
         match self {
             ReadStatement::Searching(_) => step_searching(self, session, lists),
@@ -140,12 +136,9 @@ impl ReadStatement {
         session: u32,
         lists: &mut SqlLists<L>,
     ) -> Advance
-        requires joined { session < length lists.old.names }
-        requires running { IsRunning lists.old session self.old }
-        requires acked { owes_ack self.old ≡ false }
+        requires may { MayStep IsRunning owes_ack session lists.old self.old }
         requires between { is_searching self.old ≡ false }
-        ensures steps { Steps IsRunning session lists.old lists.new self.new result }
-        ensures nears { Nears to_go session lists.old self.old lists.new self.new result }
+        ensures { StepsAs IsRunning to_go session lists.old self.old lists.new self.new result }
     {
         let (next, answer) = self.taken().stepped(alloc, session, lists);
         drop(mem::replace(self, next));
@@ -159,12 +152,9 @@ impl ReadStatement {
         session: u32,
         lists: &mut SqlLists<L>,
     ) -> (Self, Advance)
-        requires joined { session < length lists.old.names }
-        requires running { IsRunning lists.old session self }
-        requires acked { owes_ack self ≡ false }
+        requires may { MayStep IsRunning owes_ack session lists.old self }
         requires between { is_searching self ≡ false }
-        ensures steps { Steps IsRunning session lists.old lists.new result.0 result.1 }
-        ensures nears { Nears to_go session lists.old self lists.new result.0 result.1 }
+        ensures { StepsAs IsRunning to_go session lists.old self lists.new result.0 result.1 }
     {
         match self {
             ReadStatement::Opening(asked) => step_opening(asked, session, lists),
@@ -185,10 +175,7 @@ impl ReadStatement {
     fn taken(&mut self) -> Self
         ensures { result ≡ self.old }
     {
-        mem::replace(
-            self,
-            ReadStatement::Leaving(Leaving::Failed { alone: false }),
-        )
+        mem::replace(self, ReadStatement::Leaving(Leaving::Ended))
     }
 
     /// The search under way, which is taken out of it.
@@ -205,9 +192,7 @@ impl ReadStatement {
 
 /// A commit that is owed stands in the past, and its acknowledgement brings the statement nearer to its end.
 pub fn an_acknowledgement_moves_it_on()
-    ensures owed { (state : State) (s : ℕ) (m : ReadStatement) → owes_ack m ≡ true → IsRunning state s m → OwesAck s state.past }
-    ensures runs { (m : ReadStatement) → owes_ack m ≡ true → GoesOnAcked IsRunning m (acked m) }
-    ensures nears { (m : ReadStatement) → owes_ack m ≡ true → NearsAcked to_go m (acked m) }
+    ensures { MovesOnAcked IsRunning to_go owes_ack acked }
 {}
 
 /// A step of another session leaves what a SELECT knows.

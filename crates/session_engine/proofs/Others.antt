@@ -1,5 +1,5 @@
 -- A step of another session leaves what the engine knows of a seat as it was.
-use Rattle.std.proofs.Common.{◌≡◌, ◌≢◌, ℕ, Bool, true, false, Option, Some, None, List, [], ◌∷◌, length, refl, sym, ap, subst, ◌∙◌, inl, inr, arith}
+use Rattle.std.proofs.Common.{◌≡◌, ◌≢◌, ℕ, false, Some, None, List, ◌∷◌, length, refl, sym, subst, ◌∙◌, inl, inr, arith}
 use Rattle.std.proofs.lemmas.Bool.Decides.{nat_tests}
 use Rattle.std.specs.List.{AllByRecursion}
 use Rattle.inno_types.specs.declared.reply.Item.{Item}
@@ -8,7 +8,7 @@ use Rattle.inno_types.specs.declared.reply.Item.TheVariants.{Sql}
 use Rattle.inno_types.specs.declared.stmt.Stmt.{Stmt}
 use Rattle.inno_model.specs.declared.event.Event.{Event}
 use Rattle.inno_model.specs.declared.event.Event.TheVariants as events
-use Rattle.inno_model.specs.Past.{is_of, under_way, of_item, own, IsClosed}
+use Rattle.inno_model.specs.Past.{is_of, under_way, own, IsClosed}
 use Rattle.inno_model.proofs.Untouched.{untouched}
 use Rattle.sql_grammar.specs.Grammar.{Spells}
 use Rattle.sql_prefix.specs.declared.parser.ParseBad.TheVariants.{Syntax}
@@ -17,7 +17,7 @@ use Rattle.sql_history.specs.Legal.{is_leaving}
 use Rattle.law_past_agreement.specs.Order.{IsOfRow}
 use Rattle.shared_lists.specs.Tasks as tasks
 use Rattle.shared_lists.specs.State.{State as Lists, Adds, task_of}
-use Rattle.sql_lists.specs.Steps.{Adding, HasRowsAlone, StaysRunning}
+use Rattle.sql_lists.specs.Steps.{Adding, HasRowsAlone}
 use Rattle.sql_lists.proofs.Moving.{AddingOne, adding_at_most_one, stays_running}
 use Rattle.sql_lists.proofs.Staying.{other_of}
 use Rattle.transaction_statements.specs.Running.{TakesBackTo}
@@ -121,7 +121,6 @@ module _ (old new : Lists) (t s : ℕ) (differ : t ≢ s) (adding : AddingOne t 
   )
 
   runs_on : (old.writer ≡ Some s → new.writer ≡ Some s) → (statement : Statement) → IsRunning old s statement → IsRunning new s statement
-  runs_on keeps (statements.Unread at) runs = (runs.0, started_on runs.0 runs.1, runs.2, same_task ∙ runs.3)
   runs_on keeps (statements.Asked stmt) runs = (runs.0, started_on runs.0 runs.1, runs.2, same_task ∙ runs.3)
   runs_on keeps (statements.Transaction statement) runs =
       transaction_runs old new t s statement differ (adding_at_most_one t old new adding) keeps same_task runs
@@ -129,6 +128,7 @@ module _ (old new : Lists) (t s : ℕ) (differ : t ≢ s) (adding : AddingOne t 
   runs_on keeps (statements.Read statement) runs = read_on old new t s statement differ (adding_at_most_one t old new adding) keeps same_task runs
   runs_on keeps (statements.Write statement) runs = write_runs old new t s statement differ (adding_at_most_one t old new adding) keeps same_task runs
   runs_on keeps statements.Failed runs = (runs.0, started_on runs.0 runs.1, same_task ∙ runs.2)
+  runs_on keeps statements.Ended runs = absurd runs
 
 stays_by_one : (old new : Lists) (t s : ℕ) → t ≢ s → AddingOne t old new → (old.writer ≡ Some s → new.writer ≡ Some s) → task_of s new ≡ task_of s old
     → (seat : Seat) → SeatAgrees old s seat → SeatAgrees new s seat
@@ -155,6 +155,7 @@ leaving_item state s (leaving.BackingOut work) r none = (let x = r.0.working.tak
 leaving_item state s (leaving.Failed alone) r none = (let x = r.0.takes.asks.1 in cc)
 leaving_item state s (leaving.Unacked kept given) r none = (let x = r.0.may.item in cc)
 leaving_item state s (leaving.Ending kept given) r none = (let x = r.0.may.item in cc)
+leaving_item state s leaving.Ended r none = absurd r
 
 read_item : (state : Lists) (s : ℕ) (m : ReadStatement) → IsReading state s m → under_way s state.past ≢ None
 read_item state s (reads.Opening asked) r none = (let x = r.0.takes.asks.1 in cc)
@@ -175,13 +176,13 @@ write_item state s (writes.Leaving m) r none = leaving_item state s m r none
 
 -- a running statement has an item under way
 pub has_item : (state : Lists) (s : ℕ) (statement : Statement) → IsRunning state s statement → under_way s state.past ≢ None
-has_item state s (statements.Unread at) runs none = (let x = runs.1.item in cc)
 has_item state s (statements.Asked stmt) runs none = (let x = runs.1.item in cc)
 has_item state s (statements.Transaction statement) runs none = transaction_item state s statement runs none
 has_item state s (statements.Create statement) runs none = create_item state s statement runs none
 has_item state s (statements.Read statement) runs none = read_item state s statement runs none
 has_item state s (statements.Write statement) runs none = write_item state s statement runs none
 has_item state s statements.Failed runs none = (let x = runs.1.item in cc)
+has_item state s statements.Ended runs none = absurd runs
 
 only_started : (s j : ℕ) (text : List ℕ) (h : List Event) → HasRowsAlone s h → HasOnlyStarted s text (events.Started s j (Sql text) ∷ h)
 only_started s j text h rows = record { item = grind (arith, nat_tests); nothing = grind (arith, nat_tests); rows_alone = rows }

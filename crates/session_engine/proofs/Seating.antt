@@ -34,7 +34,7 @@ use Rattle.session_engine.specs.declared.seats.Seat.TheVariants.{Idle, Busy, Ref
 use Rattle.session_engine.specs.declared.seats.SignalItem.{SignalItem}
 use Rattle.session_engine.specs.declared.seats.SignalItem.TheVariants.{Gives, Awaits}
 use Rattle.statement.specs.Running.{IsRunning, owes_ack, acked}
-use Rattle.statement.proofs.Acked.{goes_on_acked, acked_nears}
+use Rattle.statement.proofs.Acked.{moves_on_acked}
 use Rattle.session_engine.specs.Seats.{State, seat_at, is_working, IsSpelled, IsUnread, MayGoOut, IsGoingOut, HasAsked, IsSeatOf, SeatAgrees, AreSeats, owes}
 use Rattle.session_engine.specs.Seats.{phase_of, wants_room, is_busy, IsAtWork}
 use Rattle.session_engine.specs.Calls.{AreFirst, SameLists, Joins, SameState, OthersStay, KeepsItems, TellsOne, GoesOn, StepsOn, Settled, Refuses}
@@ -497,22 +497,22 @@ module _ (old new : Lists) (seats : List Seat) (s : ℕ) (are : AreSeats old sea
 
     pub stepped_keeps : AreSeats new (set seats s seat)
     stepped_keeps =
-        once (AreSeats new) (step_keeps (spelled_at steps.statement steps.was) steps.next steps.told seat answer steps.steps steps.settled)
+        once (AreSeats new) (step_keeps (spelled_at steps.statement steps.was) steps.next steps.told seat answer steps.step.steps steps.settled)
 
     pub stepped_does : StepsBy s answer (record { lists = old; seats = seats }) (record { lists = new; seats = set seats s seat })
     stepped_does =
         once (λ xs. StepsBy s answer (record { lists = old; seats = seats }) (record { lists = new; seats = xs }))
-        (step_does steps.next steps.told seat answer steps.steps steps.settled)
+        (step_does steps.next steps.told seat answer steps.step.steps steps.settled)
 
     pub stepped_nears : Nears s answer (record { lists = old; seats = seats }) (record { lists = new; seats = set seats s seat })
     stepped_nears =
         once (λ xs. Nears s answer (record { lists = old; seats = seats }) (record { lists = new; seats = xs }))
-        (step_nears steps.statement steps.next steps.told seat answer steps.was steps.nears steps.settled)
+        (step_nears steps.statement steps.next steps.told seat answer steps.was steps.step.nears steps.settled)
 
     pub stepped_lacks : NearsLacking s answer (record { lists = old; seats = seats }) (record { lists = new; seats = set seats s seat })
     stepped_lacks =
         once (λ xs. NearsLacking s answer (record { lists = old; seats = seats }) (record { lists = new; seats = xs }))
-        (step_lacks steps.statement steps.next steps.told seat answer steps.was steps.nears steps.settled)
+        (step_lacks steps.statement steps.next steps.told seat answer steps.was steps.step.nears steps.settled)
 
     pub stepped_quiet : wants_room (seat_at seats s) ≡ false → TellsNone old.past new.past
     stepped_quiet wants_none = steps.quiet (sym (ap wants_room steps.was) ∙ wants_none)
@@ -550,7 +550,7 @@ module _ (old new : Lists) (seats : List Seat) (s : ℕ) (are : AreSeats old sea
     pub acked_keeps : AreSeats new (set (set seats s Idle) s (Busy (acked statement)))
     acked_keeps =
         kept (Busy (acked statement)) (of_acknowledgement s moment old new adds)
-        (goes_on_acked statement owed old new s moment runs.0 adds, subst (IsSpelled s) (sym adds.past_is) runs.1)
+        ((moves_on_acked statement owed).runs old new s moment runs.0 adds, subst (IsSpelled s) (sym adds.past_is) runs.1)
         (subst HasExactPlaces (sym adds.past_is) are.exact)
 
     pub acked_does : Acknowledges s moment (record { lists = old; seats = seats })
@@ -566,7 +566,8 @@ module _ (old new : Lists) (seats : List Seat) (s : ℕ) (are : AreSeats old sea
     pub acked_nears_it : Nears s progress.Went (record { lists = old; seats = seats })
         (record { lists = new; seats = set (set seats s Idle) s (Busy (acked statement)) })
     acked_nears_it =
-        step_nears statement (acked statement) advance.Went (Busy (acked statement)) progress.Went was (acked_nears statement owed old new s) (refl, refl)
+        step_nears statement (acked statement) advance.Went (Busy (acked statement)) progress.Went was ((moves_on_acked statement owed).nears old new s)
+        (refl, refl)
 
   -- ---- a step of an item whose text is no statement
 

@@ -18,8 +18,8 @@ use Rattle.shared_lists.specs.Tasks as tasks
 use Rattle.shared_lists.specs.State.{State as Lists, Adds, task_of}
 use Rattle.sql_lists.specs.declared.advance.Advance.{Advance}
 use Rattle.sql_lists.specs.declared.advance.Advance.TheVariants as advance
-use Rattle.sql_lists.specs.Going.{Nears as StatementNears}
-use Rattle.sql_lists.specs.Steps.{Moves, AsksToWrite, Steps, WaitsFor, is_apart, changes_rows}
+use Rattle.sql_lists.specs.Steps.{Moves, AsksToWrite, WaitsFor, is_apart, changes_rows}
+use Rattle.giving_up.specs.Machines.{StepsAs}
 use Rattle.statement.specs.declared.under_way.Statement.{Statement}
 use Rattle.statement.specs.Running.{IsRunning, wants_room}
 use Rattle.statement.specs.Going.{statement_to_go}
@@ -124,8 +124,7 @@ pub record StepsTo (s : ℕ) (old new : Lists) (before after : Seat) (answer : P
   pub was : before ≡ seats.Busy statement
   pub next : Statement
   pub told : Advance
-  pub steps : Steps IsRunning s old new next told
-  pub nears : StatementNears statement_to_go s old statement new next told
+  pub step : StepsAs IsRunning statement_to_go s old statement new next told
   pub quiet : wants_room statement ≡ false → count_by changes_rows new.past ≡ count_by changes_rows old.past
   pub settled : Settled next told after answer
 

@@ -2,8 +2,8 @@
 //! statement holds. Contracts see the statement. Only seats hold one.
 
 ghost use Rattle.std.specs.Prelude.{◌≡◌, ◌<◌, length, true, false, IfOk, count_by};
-ghost use Rattle.sql_lists.specs.Steps.{Steps, changes_rows};
-ghost use Rattle.sql_lists.specs.Going.{Nears};
+ghost use Rattle.sql_lists.specs.Steps.{changes_rows};
+ghost use Rattle.giving_up.specs.Machines.{MayStep, StepsAs};
 ghost use Rattle.statement.specs.Running.{IsRunning, owes_ack, acked, wants_room};
 ghost use Rattle.statement.specs.Going.{statement_to_go};
 
@@ -60,7 +60,7 @@ impl BoxedStatement {
         ensures { result ≡ acked self }
     {
         let BoxedStatement { mut statement } = self;
-        let before = mem::replace(&mut *statement, Statement::Failed);
+        let before = mem::replace(&mut *statement, Statement::Ended);
         drop(mem::replace(&mut *statement, before.acked()));
         BoxedStatement { statement }
     }
@@ -74,12 +74,11 @@ impl BoxedStatement {
         requires joined { session < length lists.old.names }
         requires running { IsRunning lists.old session self }
         requires wants { wants_room self ≡ true }
-        ensures steps { Steps IsRunning session lists.old lists.new result.0 result.1 }
-        ensures nears { Nears statement_to_go session lists.old self lists.new result.0 result.1 }
+        ensures step { StepsAs IsRunning statement_to_go session lists.old self lists.new result.0 result.1 }
         ensures lacks { result.1 ≡ Advance.NoMemory }
     {
         let BoxedStatement { mut statement } = self;
-        let before = mem::replace(&mut *statement, Statement::Failed);
+        let before = mem::replace(&mut *statement, Statement::Ended);
         let (after, advance) = before.without_room(session, lists);
         drop(mem::replace(&mut *statement, after));
         (BoxedStatement { statement }, advance)
@@ -92,11 +91,8 @@ impl BoxedStatement {
         session: u32,
         lists: &mut SqlLists<L>,
     ) -> Advance
-        requires joined { session < length lists.old.names }
-        requires running { IsRunning lists.old session self.old }
-        requires acked { owes_ack self.old ≡ false }
-        ensures steps { Steps IsRunning session lists.old lists.new self.new result }
-        ensures nears { Nears statement_to_go session lists.old self.old lists.new self.new result }
+        requires { MayStep IsRunning owes_ack session lists.old self.old }
+        ensures step { StepsAs IsRunning statement_to_go session lists.old self.old lists.new self.new result }
         ensures quiet { wants_room self.old ≡ false → count_by changes_rows lists.new.past ≡ count_by changes_rows lists.old.past }
     {
         self.statement.step(alloc, session, lists)

@@ -62,6 +62,7 @@ of_transactions state s (transactions.RollbackTo name made) legal r =
 of_transactions state s (transactions.Opening name l) legal r = inl (none_yet s state.past r.0.1)
 of_transactions state s (transactions.Saving name opened) legal r = saving s state.past opened r.0.1
 of_transactions state s transactions.Failed legal r = inl r.0.made
+of_transactions state s transactions.Ended legal r = absurd r.0
 
 -- ---- CREATE TABLE
 
@@ -121,6 +122,7 @@ leaves state s (leaving.BackingOut work) r =
 leaves state s (leaving.Failed alone) r = inl r.0.made
 leaves state s (leaving.Unacked kept given) r = r.0.may.made
 leaves state s (leaving.Ending kept given) r = r.0.may.made
+leaves state s leaving.Ended r = absurd r
 
 -- ---- SELECT
 
@@ -162,10 +164,10 @@ pub of_nothing : (s : ℕ) (past : List Event) → of_item s past ≡ [] → Mad
 of_nothing s past nothing = inl (none_yet s past nothing)
 
 pub of_statements : (state : State) (s : ℕ) (m : Statement) → IsLegal Spells state.past → IsRunning state s m → MadeSome Spells s state.past
-of_statements state s (statements.Unread at) legal r = inl (none_yet s state.past r.1.nothing)
 of_statements state s (statements.Asked statement) legal r = inl (none_yet s state.past r.1.nothing)
 of_statements state s (statements.Transaction m) legal r = of_transactions state s m legal r
 of_statements state s (statements.Create m) legal r = of_creations state s m legal r
 of_statements state s (statements.Read m) legal r = of_readings state s m r
 of_statements state s (statements.Write m) legal r = of_writings state s m r
 of_statements state s statements.Failed legal r = inl (none_yet s state.past r.1.nothing)
+of_statements state s statements.Ended legal r = absurd r

@@ -87,6 +87,7 @@ transaction_intends_none s old new (transactions.Opening name l) after r nears =
 transaction_intends_none s old new (transactions.Saving name opened) after r nears =
     intends_none s old (stmt.Savepoint name) r.0.0.takes.asks (λ kind. kind) (ap asked r.1)
 transaction_intends_none s old new transactions.Failed after r nears = absurd (below_none (to_transaction.to_go s new after) nears)
+transaction_intends_none s old new transactions.Ended after r nears = absurd r.0
 
 pub transaction_tells_none : (s : ℕ) (old new : State) (m after : TransactionStatement) (a : Advance) → of_transaction.IsRunning old s m
     → Steps of_transaction.IsRunning s old new after a → Nears to_transaction.to_go s old m new after a
@@ -109,6 +110,7 @@ leaving_intends_none s old (leaving.BackingOut work) list r owes nears =
 leaving_intends_none s old (leaving.Failed alone) list r owes nears = on_rows_none s old r.0.statement r.0.takes.asks r.0.on_rows (ap asked r.1)
 leaving_intends_none s old (leaving.Unacked kept given) list r owes nears = absurd (false≢true (sym owes))
 leaving_intends_none s old (leaving.Ending kept given) list r owes nears = absurd (below_none list nears)
+leaving_intends_none s old leaving.Ended list r owes nears = absurd r
 
 -- ---- SELECT
 

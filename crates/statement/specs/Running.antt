@@ -35,20 +35,14 @@ pub record HasOnlyStarted (s : ℕ) (text : List ℕ) (past : List Event) : Type
 abbrev pub IsNone : List ℕ → Type 0
 IsNone text = (stmt : Stmt) → Spells text stmt → ⊥
 
--- what a text is read as, before its first step
-abbrev pub IsReadFrom : List ℕ → Statement → Type 0
-IsReadFrom text (statements.Unread at) = IsNone text
-IsReadFrom text (statements.Asked stmt) = Spells text stmt
-IsReadFrom text other = ⊥
-
 abbrev pub IsRunning : State → ℕ → Statement → Type 0
-IsRunning state s (statements.Unread at) = (text : List ℕ) × HasOnlyStarted s text state.past × IsNone text × (task_of s state ≡ Idle)
 IsRunning state s (statements.Asked stmt) = (text : List ℕ) × HasOnlyStarted s text state.past × Spells text stmt × (task_of s state ≡ Idle)
 IsRunning state s (statements.Transaction statement) = of_transaction.IsRunning state s statement
 IsRunning state s (statements.Create statement) = of_create.IsRunning state s statement
 IsRunning state s (statements.Read statement) = of_read.IsRunning state s statement
 IsRunning state s (statements.Write statement) = of_write.IsRunning state s statement
 IsRunning state s statements.Failed = (text : List ℕ) × HasOnlyStarted s text state.past × (task_of s state ≡ Idle)
+IsRunning state s statements.Ended = ⊥
 
 -- its step makes another statement of it; a SELECT, or one that changes rows, steps where it lies
 abbrev pub goes_over : Statement → Bool

@@ -1,15 +1,14 @@
 //! A statement under way, whichever it is. Before its first step it is looked at whether something refuses it at once;
 //! then the machine of its kind makes the steps.
 
-ghost use Rattle.std.specs.Prelude.{◌≡◌, ◌≢◌, ◌<◌, ℕ, None, true, false, IfOk, length, count_by};
-ghost use Rattle.shared_lists.specs.State.{State};
+ghost use Rattle.std.specs.Prelude.{◌≡◌, ◌≢◌, ◌<◌, None, true, false, IfOk, length, count_by};
 ghost use Rattle.inno_db.specs.Refusals.{refused_if};
 ghost use Rattle.inno_model.specs.Past.{level_or, IsOpen};
 ghost use Rattle.sql_history.specs.Settings.{next_level};
 ghost use Rattle.sql_history.specs.Statements.{session_refusal, is_serializable};
-ghost use Rattle.sql_lists.specs.Kept.{OwesAck};
-ghost use Rattle.sql_lists.specs.Steps.{Steps, GoesOnAcked, changes_rows};
-ghost use Rattle.sql_lists.specs.Going.{Nears, NearsAcked};
+ghost use Rattle.sql_lists.specs.Steps.{Steps, changes_rows};
+ghost use Rattle.sql_lists.specs.Going.{Nears};
+ghost use Rattle.giving_up.specs.Machines.{MayStep, StepsAs, MovesOnAcked};
 ghost use Rattle.statement.specs.Running.{IsRunning, IsOfKind, LooksAs, IsBegun, is_done, goes_over, owes_ack, acked, wants_room};
 ghost use Rattle.statement.specs.Going.{statement_to_go};
 
@@ -28,8 +27,6 @@ use write_statement::WriteStatement;
 /// A statement under way.
 #[derive(Drop)]
 pub enum Statement {
-    /// Its text is no statement: it stops being the beginning of one at this byte.
-    Unread { at: u32 },
     /// It has made no step yet.
     Asked(Boxed<Stmt>),
     Transaction(TransactionStatement),
@@ -38,6 +35,8 @@ pub enum Statement {
     Write(WriteStatement),
     /// No memory was found before it began.
     Failed,
+    /// Its item has ended.
+    Ended,
 }
 
 impl Statement {
@@ -50,7 +49,7 @@ impl Statement {
             Statement::Create(statement) => statement.owes_ack(),
             Statement::Read(statement) => statement.owes_ack(),
             Statement::Write(statement) => statement.owes_ack(),
-            Statement::Unread { .. } | Statement::Asked(_) | Statement::Failed => false,
+            Statement::Asked(_) | Statement::Failed | Statement::Ended => false,
         }
     }
 
@@ -69,9 +68,7 @@ impl Statement {
 
     /// A commit that is owed stands in the past, and its acknowledgement brings the statement nearer to its end.
     pub fn an_acknowledgement_moves_it_on()
-        ensures owed { (state : State) (s : ℕ) (m : Statement) → owes_ack m ≡ true → IsRunning state s m → OwesAck s state.past }
-        ensures runs { (m : Statement) → owes_ack m ≡ true → GoesOnAcked IsRunning m (acked m) }
-        ensures nears { (m : Statement) → owes_ack m ≡ true → NearsAcked statement_to_go m (acked m) }
+        ensures { MovesOnAcked IsRunning statement_to_go owes_ack acked }
     {}
 
     /// Whether the statement is about to tell a change to the history. An engine that logs its changes takes room in its
@@ -82,11 +79,11 @@ impl Statement {
         match self {
             Statement::Create(statement) => statement.wants_room(),
             Statement::Write(statement) => statement.wants_room(),
-            Statement::Unread { .. }
-            | Statement::Asked(_)
+            Statement::Asked(_)
             | Statement::Transaction(_)
             | Statement::Read(_)
-            | Statement::Failed => false,
+            | Statement::Failed
+            | Statement::Ended => false,
         }
     }
 
@@ -99,8 +96,7 @@ impl Statement {
         requires joined { session < length lists.old.names }
         requires running { IsRunning lists.old session self }
         requires wants { wants_room self ≡ true }
-        ensures steps { Steps IsRunning session lists.old lists.new result.0 result.1 }
-        ensures nears { Nears statement_to_go session lists.old self lists.new result.0 result.1 }
+        ensures step { StepsAs IsRunning statement_to_go session lists.old self lists.new result.0 result.1 }
         ensures lacks { result.1 ≡ Advance.NoMemory }
     {
         match self {
@@ -123,21 +119,18 @@ impl Statement {
         session: u32,
         lists: &mut SqlLists<L>,
     ) -> Advance
-        requires joined { session < length lists.old.names }
-        requires running { IsRunning lists.old session self.old }
-        requires acked { owes_ack self.old ≡ false }
-        ensures steps { Steps IsRunning session lists.old lists.new self.new result }
-        ensures nears { Nears statement_to_go session lists.old self.old lists.new self.new result }
+        requires { MayStep IsRunning owes_ack session lists.old self.old }
+        ensures step { StepsAs IsRunning statement_to_go session lists.old self.old lists.new self.new result }
         ensures quiet { wants_room self.old ≡ false → count_by changes_rows lists.new.past ≡ count_by changes_rows lists.old.past }
     {
         match self {
             Statement::Read(statement) => statement.step(alloc, session, lists),
             Statement::Write(statement) => statement.step(alloc, session, lists),
-            Statement::Unread { .. }
-            | Statement::Asked(_)
+            Statement::Asked(_)
             | Statement::Transaction(_)
             | Statement::Create(_)
-            | Statement::Failed => self.go_over(alloc, session, lists),
+            | Statement::Failed
+            | Statement::Ended => self.go_over(alloc, session, lists),
         }
     }
 
@@ -148,15 +141,12 @@ impl Statement {
         session: u32,
         lists: &mut SqlLists<L>,
     ) -> Advance
-        requires joined { session < length lists.old.names }
-        requires running { IsRunning lists.old session self.old }
-        requires acked { owes_ack self.old ≡ false }
+        requires may { MayStep IsRunning owes_ack session lists.old self.old }
         requires between { goes_over self.old ≡ true }
-        ensures steps { Steps IsRunning session lists.old lists.new self.new result }
-        ensures nears { Nears statement_to_go session lists.old self.old lists.new self.new result }
+        ensures step { StepsAs IsRunning statement_to_go session lists.old self.old lists.new self.new result }
         ensures quiet { wants_room self.old ≡ false → count_by changes_rows lists.new.past ≡ count_by changes_rows lists.old.past }
     {
-        let statement = mem::replace(self, Statement::Failed);
+        let statement = mem::replace(self, Statement::Ended);
         let (next, answer) = statement.stepped(alloc, session, lists);
         drop(mem::replace(self, next));
         answer
@@ -169,16 +159,12 @@ impl Statement {
         session: u32,
         lists: &mut SqlLists<L>,
     ) -> (Statement, Advance)
-        requires joined { session < length lists.old.names }
-        requires running { IsRunning lists.old session self }
-        requires acked { owes_ack self ≡ false }
+        requires may { MayStep IsRunning owes_ack session lists.old self }
         requires between { goes_over self ≡ true }
-        ensures steps { Steps IsRunning session lists.old lists.new result.0 result.1 }
-        ensures nears { Nears statement_to_go session lists.old self lists.new result.0 result.1 }
+        ensures step { StepsAs IsRunning statement_to_go session lists.old self lists.new result.0 result.1 }
         ensures quiet { wants_room self ≡ false → count_by changes_rows lists.new.past ≡ count_by changes_rows lists.old.past }
     {
         match self {
-            Statement::Unread { at } => refuse_text(at, session, lists),
             Statement::Asked(stmt) => first_step(alloc, stmt, session, lists),
             Statement::Transaction(statement) => {
                 let (statement, advance) = statement.step(alloc, session, lists);
@@ -189,28 +175,9 @@ impl Statement {
                 (Statement::Create(statement), advance)
             }
             Statement::Failed => give_up(session, lists),
-            Statement::Read(_) | Statement::Write(_) => unreachable!(),
+            Statement::Read(_) | Statement::Write(_) | Statement::Ended => unreachable!(),
         }
     }
-}
-
-/// The text of the item is no statement.
-fn refuse_text<L: SharedLists>(
-    at: u32,
-    session: u32,
-    lists: &mut SqlLists<L>,
-) -> (Statement, Advance)
-    requires joined { session < length lists.old.names }
-    requires running { IsRunning lists.old session (Statement.Unread at) }
-    ensures steps { Steps IsRunning session lists.old lists.new result.0 result.1 }
-    ensures over { is_done result.1 ≡ true }
-    ensures quiet { count_by changes_rows lists.new.past ≡ count_by changes_rows lists.old.past }
-{
-    lists.end(session, Reply::Fail(SqlError::Syntax { at }));
-    (
-        Statement::Failed,
-        Advance::Done(Reply::Fail(SqlError::Syntax { at })),
-    )
 }
 
 /// No memory was found: nothing was begun.
@@ -222,7 +189,7 @@ fn give_up<L: SharedLists>(session: u32, lists: &mut SqlLists<L>) -> (Statement,
     ensures quiet { count_by changes_rows lists.new.past ≡ count_by changes_rows lists.old.past }
 {
     lists.end(session, Reply::NoMemory);
-    (Statement::Failed, Advance::Done(Reply::NoMemory))
+    (Statement::Ended, Advance::Done(Reply::NoMemory))
 }
 
 /// Looks whether something refuses the statement at once, and else begins it.
@@ -361,7 +328,7 @@ fn refuse_at_once<L: SharedLists>(
     match error.copied() {
         Ok(copy) => {
             lists.end(session, Reply::Fail(error));
-            (Statement::Failed, Advance::Done(Reply::Fail(copy)))
+            (Statement::Ended, Advance::Done(Reply::Fail(copy)))
         }
         Err(_) => (Statement::Failed, Advance::NoMemory),
     }

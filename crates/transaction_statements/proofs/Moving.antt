@@ -20,9 +20,8 @@ use Rattle.store_api.specs.declared.stepped.Stepped.TheVariants as stepped
 use Rattle.shared_lists.specs.Tasks.{Task, Idle, Searching, Changing, Lagging, Undoing, MayTakeBack, undo_to_go}
 use Rattle.shared_lists.specs.State.{State, task_of, Adds, Closes, Stays}
 use Rattle.shared_lists.specs.Steps.{TakesBack}
-use Rattle.sql_lists.specs.Steps.{Steps, GoesOnAcked, changes_rows, HasRowsAlone, is_apart}
-use Rattle.sql_lists.specs.Kept.{OwesAck}
-use Rattle.sql_lists.specs.Going.{Nears, NearsAcked}
+use Rattle.sql_lists.specs.Steps.{Steps, changes_rows, HasRowsAlone, is_apart}
+use Rattle.sql_lists.specs.Going.{Nears}
 use Rattle.sql_lists.specs.declared.advance.Advance.TheVariants as advance
 use Rattle.transaction_statements.specs.declared.statement.TransactionStatement.{TransactionStatement}
 use Rattle.transaction_statements.specs.declared.statement.TransactionStatement.TheVariants as statements
@@ -34,6 +33,7 @@ use Rattle.transaction_statements.specs.Running.{RunsBy, TakesBackTo, HasTask, I
 use Rattle.transaction_statements.specs.Going.{to_go}
 use Rattle.sql_lists.proofs.Moving.{moves_none, moves_stays, moves_adds, moves_closes, moves_takes_back, below_phase, below_second, below_third, fewer_stand}
 use Rattle.sql_lists.proofs.Moving.{takes_back_nears}
+use Rattle.giving_up.specs.Machines.{MovesOnAcked}
 use Rattle.giving_up.proofs.Own.{point_same}
 use Rattle.giving_up.proofs.Ends.{spares_ack, emptied_on}
 use Rattle.giving_up.proofs.Nothing.{own_nothing, level_nothing}
@@ -97,21 +97,18 @@ commits s old new c r closes =
     closes_one s (events.Committed s) old new (statements.Unacked c) (grind (arith, nat_tests)) refl refl refl closes
     (at_committed s old.past (stmt_of c) (Fits c) r.0.0, empty.0, empty.1) r.1
 
-pub owes_it : (s : ℕ) (state : State) (m : TransactionStatement) → owes_ack m ≡ true → IsRunning state s m → OwesAck s state.past
-owes_it s state (statements.Unacked c) owes r = record { owed = r.0.2; closed = r.0.1.closed }
-owes_it s state m owes r = absurd (false≢true owes)
-
-pub goes_on_acked : (m : TransactionStatement) → owes_ack m ≡ true → GoesOnAcked IsRunning m (acked m)
-goes_on_acked (statements.Unacked c) owes old new s moment r adds =
-    let e = events.Acked s moment in
-    let spared = spares_ack s moment old.past in
-    runs_now s (e ∷ old.past) (task_of s old) new (statements.Closed c) adds.past_is adds.task_is
-    (at_spared e old.past s spared (stmt_of c) (Fits c) r.0.0, emptied_on e old.past s spared r.0.1, grind (arith, nat_tests)) r.1
-goes_on_acked m owes old new s moment r adds = absurd (false≢true owes)
-
-pub acked_nears : (m : TransactionStatement) → owes_ack m ≡ true → NearsAcked to_go m (acked m)
-acked_nears (statements.Unacked c) owes old new s = below_phase 4 3 _ _ _ _ _ _ (omega arith)
-acked_nears m owes old new s = absurd (false≢true owes)
+pub moves_on_acked : MovesOnAcked IsRunning to_go owes_ack acked
+moves_on_acked (statements.Unacked c) owes =
+    record {
+      owed = λ state s r. record { owed = r.0.2; closed = r.0.1.closed };
+      runs = λ old new s moment r adds.
+          let e = events.Acked s moment in
+          let spared = spares_ack s moment old.past in
+          runs_now s (e ∷ old.past) (task_of s old) new (statements.Closed c) adds.past_is adds.task_is
+          (at_spared e old.past s spared (stmt_of c) (Fits c) r.0.0, emptied_on e old.past s spared r.0.1, grind (arith, nat_tests)) r.1;
+      nears = λ old new s. below_phase 4 3 _ _ _ _ _ _ (omega arith);
+    }
+moves_on_acked m owes = absurd (false≢true owes)
 
 -- ---- BEGIN
 

@@ -104,6 +104,7 @@ module _ (e : Event) (h : List Event) (s : ℕ) (other : is_of s e ≡ false) wh
   runs_on (statements.Opening name l) r = (at_other _ _ r.0, same.entries ∙ r.1, same.level_is ∙ r.2, same.own_is ∙ r.3)
   runs_on (statements.Saving name opened) r = (at_other _ _ r.0, saves_on opened r.1)
   runs_on statements.Failed r = gives_up_on e h s spared r
+  runs_on statements.Ended r = absurd r
 
 stays_by_one : (old new : State) (t s : ℕ) (m : TransactionStatement) → t ≢ s → AddingOne t old new → task_of s new ≡ task_of s old → IsRunning old s m
     → IsRunning new s m
@@ -137,3 +138,4 @@ has_item state s (statements.RollbackTo name made) r none = (let x = r.0.0.takes
 has_item state s (statements.Opening name l) r none = (let x = r.0.0.takes.asks.1 in cc)
 has_item state s (statements.Saving name opened) r none = (let x = r.0.0.takes.asks.1 in cc)
 has_item state s statements.Failed r none = (let x = r.0.item in cc)
+has_item state s statements.Ended r none = absurd r.0

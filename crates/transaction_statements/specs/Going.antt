@@ -22,3 +22,4 @@ to_go s state (statements.RollbackTo name made) = left 1 0 (length (own s state.
 to_go s state (statements.Opening name l) = left 2 0 0 0
 to_go s state (statements.Saving name opened) = left 1 0 0 0
 to_go s state statements.Failed = left 0 0 0 0
+to_go s state statements.Ended = left 0 0 0 0

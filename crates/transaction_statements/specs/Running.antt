@@ -40,6 +40,7 @@ RunsBy past s (statements.Opening name l) =
 RunsBy past s (statements.Saving name opened) =
     IsAt s (stmt.Savepoint name) (λ setting. opened ≡ true → setting.autocommit ≡ false) past × SavesIn opened s past
 RunsBy past s statements.Failed = IsGivingUp s past
+RunsBy past s statements.Ended = ⊥
 
 -- nothing is under way with rows, or the newest change is being taken back, while more stand than are to be kept
 abbrev pub TakesBackTo : ℕ → ℕ → Task → Type 0

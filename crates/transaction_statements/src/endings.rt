@@ -31,7 +31,7 @@ pub fn finish<L: SharedLists>(
 {
     lists.end_done(session, &stmt);
     drop(stmt);
-    (TransactionStatement::Failed, Advance::Done(Reply::Done))
+    (TransactionStatement::Ended, Advance::Done(Reply::Done))
 }
 
 pub fn step_quiet<L: SharedLists>(
@@ -60,7 +60,7 @@ pub fn step_missing<L: SharedLists>(
 {
     lists.end(session, Reply::Fail(SqlError::NoSavepoint));
     let given = Reply::Fail(SqlError::NoSavepoint);
-    (TransactionStatement::Failed, Advance::Done(given))
+    (TransactionStatement::Ended, Advance::Done(given))
 }
 
 /// A statement that found no memory ends, and leaves what it may.
@@ -74,5 +74,5 @@ pub fn step_failed<L: SharedLists>(
     ensures nears { Nears to_go session lists.old TransactionStatement.Failed lists.new result.0 result.1 }
 {
     lists.end(session, Reply::NoMemory);
-    (TransactionStatement::Failed, Advance::Done(Reply::NoMemory))
+    (TransactionStatement::Ended, Advance::Done(Reply::NoMemory))
 }

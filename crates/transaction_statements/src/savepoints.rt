@@ -78,7 +78,7 @@ pub fn step_saving<L: SharedLists>(
     ensures nears { Nears to_go session lists.old (TransactionStatement.Saving savepoint opened) lists.new result.0 result.1 }
 {
     match lists.end_savepoint(session, &savepoint) {
-        Ok(()) => (TransactionStatement::Failed, Advance::Done(Reply::Done)),
+        Ok(()) => (TransactionStatement::Ended, Advance::Done(Reply::Done)),
         Err(_) => (TransactionStatement::Failed, Advance::NoMemory),
     }
 }

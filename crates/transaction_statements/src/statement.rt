@@ -1,12 +1,11 @@
 //! A statement on transactions under way, its beginning and its steps.
 //! The crate `statement` alone makes and drives one.
 
-ghost use Rattle.std.specs.Prelude.{◌≡◌, ◌<◌, ℕ, true, false, length};
+ghost use Rattle.std.specs.Prelude.{◌≡◌, ◌<◌, length};
 ghost use Rattle.shared_lists.specs.Tasks.{Idle};
-ghost use Rattle.shared_lists.specs.State.{State, task_of};
-ghost use Rattle.sql_lists.specs.Kept.{OwesAck};
-ghost use Rattle.sql_lists.specs.Steps.{IsTaken, Steps, StaysRunning, GoesOnAcked};
-ghost use Rattle.sql_lists.specs.Going.{Nears, NearsAcked};
+ghost use Rattle.shared_lists.specs.State.{task_of};
+ghost use Rattle.sql_lists.specs.Steps.{IsTaken, StaysRunning};
+ghost use Rattle.giving_up.specs.Machines.{MayStep, StepsAs, MovesOnAcked};
 ghost use Rattle.transaction_statements.specs.Committing.{IsOnTransactions};
 ghost use Rattle.transaction_statements.specs.Running.{IsRunning, owes_ack, acked};
 ghost use Rattle.transaction_statements.specs.Going.{to_go};
@@ -48,6 +47,8 @@ pub enum TransactionStatement {
     Saving { savepoint: Bytes, opened: bool },
     /// No memory was found.
     Failed,
+    /// Its item has ended.
+    Ended,
 }
 
 impl TransactionStatement {
@@ -106,9 +107,7 @@ impl TransactionStatement {
 
     /// A commit that is owed stands in the past, and its acknowledgement brings the statement nearer to its end.
     pub fn an_acknowledgement_moves_it_on()
-        ensures owed { (state : State) (s : ℕ) (m : TransactionStatement) → owes_ack m ≡ true → IsRunning state s m → OwesAck s state.past }
-        ensures runs { (m : TransactionStatement) → owes_ack m ≡ true → GoesOnAcked IsRunning m (acked m) }
-        ensures nears { (m : TransactionStatement) → owes_ack m ≡ true → NearsAcked to_go m (acked m) }
+        ensures { MovesOnAcked IsRunning to_go owes_ack acked }
     {}
 
     /// One step of the session's statement.
@@ -118,11 +117,8 @@ impl TransactionStatement {
         session: u32,
         lists: &mut SqlLists<L>,
     ) -> (Self, Advance)
-        requires joined { session < length lists.old.names }
-        requires running { IsRunning lists.old session self }
-        requires acked { owes_ack self ≡ false }
-        ensures steps { Steps IsRunning session lists.old lists.new result.0 result.1 }
-        ensures nears { Nears to_go session lists.old self lists.new result.0 result.1 }
+        requires { MayStep IsRunning owes_ack session lists.old self }
+        ensures { StepsAs IsRunning to_go session lists.old self lists.new result.0 result.1 }
     {
         match self {
             TransactionStatement::Quiet { setter } => step_quiet(setter, session, lists),
@@ -130,7 +126,7 @@ impl TransactionStatement {
             TransactionStatement::Committing { committer } => step_committing(
                 committer, session, lists,
             ),
-            TransactionStatement::Unacked { .. } => unreachable!(),
+            TransactionStatement::Unacked { .. } | TransactionStatement::Ended => unreachable!(),
             TransactionStatement::Closed { committer } => step_closed(committer, session, lists),
             TransactionStatement::Viewing => step_viewing(session, lists),
             TransactionStatement::Unviewed => step_unviewed(session, lists),

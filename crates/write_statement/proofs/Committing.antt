@@ -21,17 +21,13 @@ use Rattle.sql_history.specs.Endings.{Commits, Goes}
 use Rattle.sql_history.specs.Legal.{IsSettled, CommitsBy, MayCommit, is_alone}
 use Rattle.sql_history.specs.Waiting.{is_victim}
 use Rattle.law_past_agreement.specs.Order.{IsOfRow}
-use Rattle.shared_lists.specs.State.{State}
-use Rattle.sql_lists.specs.Kept.{OwesAck}
-use Rattle.sql_lists.specs.Going.{NearsAcked}
-use Rattle.sql_lists.specs.Steps.{GoesOnAcked}
 use Rattle.sql_lists.proofs.Staying.{point_now}
-use Rattle.write_statement.specs.declared.machine.WriteStatement.{WriteStatement}
 use Rattle.write_statement.specs.declared.machine.WriteStatement.TheVariants as machine
 use Rattle.write_statement.specs.Going.{to_go}
 use Rattle.giving_up.specs.Replies.{HasReply}
 use Rattle.giving_up.specs.Ends.{MayEndWith, IsClosing}
 use Rattle.giving_up.specs.Leaving.{InTxn}
+use Rattle.giving_up.specs.Machines.{MovesOnAcked}
 use Rattle.write_statement.specs.Running.{IsMade, IsRunning, owes_ack, acked}
 use Rattle.giving_up.proofs.Writing.{of_writing, some_of, sees_base}
 use Rattle.giving_up.proofs.Own.{acked_of, did_same, did_now, over_now, takes_on, reply_closed}
@@ -198,14 +194,7 @@ module _ (h : List Event) (writer : Option ℕ) (s : ℕ) (alone : Bool) (before
 
 -- ---- its commit is acknowledged
 
-pub owes_it : (state : State) (s : ℕ) (m : WriteStatement) → owes_ack m ≡ true → IsRunning state s m → OwesAck s state.past
-owes_it state s (machine.Leaving leaving) owes r = of_leaving.owes_it state s leaving owes r
-owes_it state s m owes r = absurd (false≢true owes)
-
-pub goes_on_acked : (m : WriteStatement) → owes_ack m ≡ true → GoesOnAcked IsRunning m (acked m)
-goes_on_acked (machine.Leaving leaving) owes = of_leaving.goes_on_acked leaving owes
-goes_on_acked m owes = absurd (false≢true owes)
-
-pub acked_nears : (m : WriteStatement) → owes_ack m ≡ true → NearsAcked to_go m (acked m)
-acked_nears (machine.Leaving leaving) owes = of_leaving.acked_nears leaving owes
-acked_nears m owes = absurd (false≢true owes)
+pub moves_on_acked : MovesOnAcked IsRunning to_go owes_ack acked
+moves_on_acked (machine.Leaving leaving) owes =
+    let goes = of_leaving.moves_on_acked leaving owes in record { owed = goes.owed; runs = goes.runs; nears = goes.nears }
+moves_on_acked m owes = absurd (false≢true owes)

@@ -7,9 +7,8 @@ ghost use Rattle.shared_lists.specs.State.{State, task_of};
 ghost use Rattle.inno_db.specs.Refusals.{refusal};
 ghost use Rattle.sql_history.specs.Legal.{IsWriting};
 ghost use Rattle.sql_history.specs.Statements.{schemas_now};
-ghost use Rattle.sql_lists.specs.Kept.{OwesAck};
-ghost use Rattle.sql_lists.specs.Steps.{Steps, IsTaken, StaysRunning, GoesOnAcked};
-ghost use Rattle.sql_lists.specs.Going.{Nears, NearsAcked};
+ghost use Rattle.sql_lists.specs.Steps.{IsTaken, StaysRunning};
+ghost use Rattle.giving_up.specs.Machines.{MayStep, StepsAs, MovesOnAcked};
 ghost use Rattle.write_statement.specs.Going.{to_go};
 ghost use Rattle.write_statement.specs.Running.{IsRunning, AreParts, is_searching, is_at_change, owes_ack, acked, wants_room};
 
@@ -131,8 +130,7 @@ impl WriteStatement {
         requires joined { session < length lists.old.names }
         requires running { IsRunning lists.old session self }
         requires wants { wants_room self ≡ true }
-        ensures steps { Steps IsRunning session lists.old lists.new result.0 result.1 }
-        ensures nears { Nears to_go session lists.old self lists.new result.0 result.1 }
+        ensures step { StepsAs IsRunning to_go session lists.old self lists.new result.0 result.1 }
         ensures lacks { result.1 ≡ Advance.NoMemory }
     {
         match self {
@@ -151,11 +149,8 @@ impl WriteStatement {
         session: u32,
         lists: &mut SqlLists<L>,
     ) -> Advance
-        requires joined { session < length lists.old.names }
-        requires running { IsRunning lists.old session self.old }
-        requires acked { owes_ack self.old ≡ false }
-        ensures steps { Steps IsRunning session lists.old lists.new self.new result }
-        ensures nears { Nears to_go session lists.old self.old lists.new self.new result }
+        requires { MayStep IsRunning owes_ack session lists.old self.old }
+        ensures { StepsAs IsRunning to_go session lists.old self.old lists.new self.new result }
     {
         match self {
             WriteStatement::Searching(_) => step_searching(self, alloc, session, lists),
@@ -178,18 +173,11 @@ impl WriteStatement {
         session: u32,
         lists: &mut SqlLists<L>,
     ) -> Advance
-        requires joined { session < length lists.old.names }
-        requires running { IsRunning lists.old session self.old }
-        requires acked { owes_ack self.old ≡ false }
+        requires may { MayStep IsRunning owes_ack session lists.old self.old }
         requires between { (is_searching self.old ≡ false) × (is_at_change self.old ≡ false) }
-        ensures steps { Steps IsRunning session lists.old lists.new self.new result }
-        ensures nears { Nears to_go session lists.old self.old lists.new self.new result }
+        ensures { StepsAs IsRunning to_go session lists.old self.old lists.new self.new result }
     {
-        let statement = mem::replace(
-            self,
-            WriteStatement::Leaving(Leaving::Failed { alone: false }),
-        );
-        let (next, answer) = statement.stepped(alloc, session, lists);
+        let (next, answer) = self.taken().stepped(alloc, session, lists);
         drop(mem::replace(self, next));
         answer
     }
@@ -201,12 +189,9 @@ impl WriteStatement {
         session: u32,
         lists: &mut SqlLists<L>,
     ) -> (WriteStatement, Advance)
-        requires joined { session < length lists.old.names }
-        requires running { IsRunning lists.old session self }
-        requires acked { owes_ack self ≡ false }
+        requires may { MayStep IsRunning owes_ack session lists.old self }
         requires between { (is_searching self ≡ false) × (is_at_change self ≡ false) }
-        ensures steps { Steps IsRunning session lists.old lists.new result.0 result.1 }
-        ensures nears { Nears to_go session lists.old self lists.new result.0 result.1 }
+        ensures { StepsAs IsRunning to_go session lists.old self lists.new result.0 result.1 }
     {
         match self {
             WriteStatement::Fresh { stmt } => step_fresh(stmt, session, lists),
@@ -226,15 +211,19 @@ impl WriteStatement {
         }
     }
 
+    /// It is taken out of its place, to be put back as another one.
+    fn taken(&mut self) -> Self
+        ensures { result ≡ self.old }
+    {
+        mem::replace(self, WriteStatement::Leaving(Leaving::Ended))
+    }
+
     /// The part that it searches for, which is taken out of it.
     pub fn part(&mut self) -> Part
         requires { is_searching self.old ≡ true }
         ensures { self.old ≡ WriteStatement.Searching result }
     {
-        match mem::replace(
-            self,
-            WriteStatement::Leaving(Leaving::Failed { alone: false }),
-        ) {
+        match self.taken() {
             WriteStatement::Searching(part) => part,
             _ => unreachable!(),
         }
@@ -245,10 +234,7 @@ impl WriteStatement {
         requires { is_at_change self.old ≡ true }
         ensures { AreParts self.old result.0 result.1 }
     {
-        match mem::replace(
-            self,
-            WriteStatement::Leaving(Leaving::Failed { alone: false }),
-        ) {
+        match self.taken() {
             WriteStatement::Making { part, todo, .. } => (part, todo),
             WriteStatement::Finishing { part, todo } => (part, todo),
             _ => unreachable!(),
@@ -258,9 +244,7 @@ impl WriteStatement {
 
 /// A commit that is owed stands in the past, and its acknowledgement brings the statement nearer to its end.
 pub fn an_acknowledgement_moves_it_on()
-    ensures owed { (state : State) (s : ℕ) (m : WriteStatement) → owes_ack m ≡ true → IsRunning state s m → OwesAck s state.past }
-    ensures runs { (m : WriteStatement) → owes_ack m ≡ true → GoesOnAcked IsRunning m (acked m) }
-    ensures nears { (m : WriteStatement) → owes_ack m ≡ true → NearsAcked to_go m (acked m) }
+    ensures { MovesOnAcked IsRunning to_go owes_ack acked }
 {}
 
 /// A statement that wants no room has no change to tell.

@@ -1,5 +1,4 @@
-use Rattle.std.proofs.Common.{false}
-use Rattle.giving_up.specs.declared.leaving.Leaving.TheVariants.{Failed}
+use Rattle.giving_up.specs.declared.leaving.Leaving.TheVariants.{Ended}
 use Rattle.giving_up.specs.Leaving.{IsLeaving}
 use Rattle.giving_up.proofs.Moving.{ended}
 use Rattle.giving_up.proofs.Closing.{may_reply, not_done}
@@ -13,6 +12,5 @@ end-requires-clause-not_done g c = not_done c.args.session c.args.lists.now.past
 
 pub returns-clause-steps : goal.returns-clause-steps
 returns-clause-steps g c =
-    ended IsLeaving c.args.session c.args.lists.now c.end.new.self c.args.kept c.args.given (Failed false) c.requires.may.same
-    c.requires.may.rows_alone c.requires.idle
-    c.end.ensures
+    ended IsLeaving c.args.session c.args.lists.now c.end.new.self c.args.kept c.args.given Ended c.requires.may.same
+    c.requires.may.rows_alone c.requires.idle c.end.ensures

@@ -2,7 +2,7 @@ use Rattle.std.proofs.Common.{refl, ap}
 use Rattle.inno_types.specs.declared.reply.Reply.TheVariants.{Fail}
 use Rattle.sql_lists.proofs.Moving.{moves_none}
 use Rattle.giving_up.proofs.Moving.{ended}
-use Rattle.statement.specs.declared.under_way.Statement.TheVariants.{Failed}
+use Rattle.statement.specs.declared.under_way.Statement.TheVariants.{Ended}
 use Rattle.statement.specs.Running.{IsRunning}
 use Rattle.statement.proofs.Looking.{refused_now}
 use Rattle.statement.proofs.under_way.refuse_at_once.Goals as goal
@@ -17,5 +17,5 @@ returns-in-Err-clause-steps g c = (moves_none c.args.session c.args.lists.now, (
 pub returns-in-Ok-clause-steps : goal.returns-in-Ok-clause-steps
 returns-in-Ok-clause-steps g c =
     let r = c.requires.running in
-    ended IsRunning c.args.session c.args.lists.now c.end.new.self (Fail c.args.error) (Fail c.in-Ok.copy) Failed (ap Fail c.in-Ok.ensures) r.1.rows_alone r.3
+    ended IsRunning c.args.session c.args.lists.now c.end.new.self (Fail c.args.error) (Fail c.in-Ok.copy) Ended (ap Fail c.in-Ok.ensures) r.1.rows_alone r.3
     c.end.ensures

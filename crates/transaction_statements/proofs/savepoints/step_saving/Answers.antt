@@ -12,7 +12,7 @@ end_savepoint-requires-clause-is_open g c = open_saving c.args.session c.args.li
 
 pub returns-in-Ok-clause-steps : goal.returns-in-Ok-clause-steps
 returns-in-Ok-clause-steps g c =
-    ends c.args.session c.args.lists.now c.end_savepoint.new.self statements.Failed Done c.in-Ok.ensures.ok c.requires.running.0.0.rows_alone
+    ends c.args.session c.args.lists.now c.end_savepoint.new.self statements.Ended Done c.in-Ok.ensures.ok c.requires.running.0.0.rows_alone
     c.requires.running.1
 
 pub returns-clause-steps : goal.returns-clause-steps

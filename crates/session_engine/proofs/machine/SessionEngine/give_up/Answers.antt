@@ -11,7 +11,7 @@ invariant_of-self g c =
     (gave_up_keeps engine.lists step.new.lists engine.seats c.args.s c.self.invariant joined c.in-Busy.statement step.result.0 step.result.1
     step.ensures.lacks
     (spelled_at engine.lists step.new.lists engine.seats c.args.s c.self.invariant joined c.in-Busy.statement (sym c.replace.ensures.was ∙ c.in-Busy.is))
-    step.ensures.steps)
+    step.ensures.step.steps)
 
 pub returns-clause-steps : goal.returns-clause-steps
 returns-clause-steps g c =
@@ -20,7 +20,7 @@ returns-clause-steps g c =
     let step = c.without_room-statement in
     rw (← c.self.view_is, c.replace-in-Busy.ensures.is, c.replace.ensures.is)
     (gave_up_steps engine.lists step.new.lists engine.seats c.args.s c.self.invariant joined c.in-Busy.statement step.result.0 step.result.1
-    step.ensures.lacks step.ensures.steps)
+    step.ensures.lacks step.ensures.step.steps)
 
 pub returns-clause-lacks : goal.returns-clause-lacks
 returns-clause-lacks g c =
@@ -29,7 +29,7 @@ returns-clause-lacks g c =
     let step = c.without_room-statement in
     rw (← c.self.view_is, c.replace-in-Busy.ensures.is, c.replace.ensures.is)
     (gave_up_lacks engine.lists step.new.lists engine.seats c.args.s c.self.invariant joined c.in-Busy.statement step.result.0 step.result.1
-    step.ensures.lacks (sym c.replace.ensures.was ∙ c.in-Busy.is) step.ensures.nears)
+    step.ensures.lacks (sym c.replace.ensures.was ∙ c.in-Busy.is) step.ensures.step.nears)
 
 pub returns-clause-busy : goal.returns-clause-busy
 returns-clause-busy g c =
