@@ -4,4 +4,5 @@ pub mod Untouched
 pub mod Causing
 pub mod Reporting
 pub mod Loading
+pub mod Unknown
 mod Taking

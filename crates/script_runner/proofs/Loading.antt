@@ -1,22 +1,24 @@
 -- What comes of a generated script: a limit of its own, or what comes of one that was read.
-use Rattle.std.proofs.Common.{◌≡◌, ℕ, ◌≤◌, Bool, true, false, if◌then◌else◌, Option, None, Some, List, refl, sym, subst, inl, arith}
-use Rattle.store_api.specs.declared.answers.MountBad.{MountBad}
+use Rattle.std.proofs.Common.{◌≡◌, ℕ, ◌≤◌, Bool, true, false, if◌then◌else◌, Option, None, Some, List, [], refl, sym, ap, subst, inl, arith}
 use Rattle.store_api.specs.Past.{Past}
 use Rattle.inno_model.specs.Recorded.{Recorded}
+use Rattle.inno_model.specs.Text.{items}
+use Rattle.script.specs.declared.script.Script.{Script}
 use Rattle.script.specs.declared.script.ScriptBad.{ScriptBad}
 use Rattle.script.specs.declared.script.ScriptBad.TheVariants as bad
-use Rattle.script.specs.declared.script.Limited.TheVariants as limited
 use Rattle.script.specs.Reading.{over, most_sessions, most_items}
+use Rattle.script.specs.declared.script.Limited.TheVariants as limited
 use Rattle.script_generator.specs.Generated.{passed}
 use Rattle.run_outcome.specs.declared.words.Asked.{Asked}
 use Rattle.run_outcome.specs.declared.outcome.Fault.{Fault}
-use Rattle.run_outcome.specs.declared.outcome.Fault.TheVariants.{Nothing, Usage, ScriptBad as BadScript, ScriptRead, OutputWrite, DiskFault, File, Limit}
+use Rattle.run_outcome.specs.declared.outcome.Fault.TheVariants.{Nothing, ScriptBad as BadScript, ScriptRead, OutputWrite, Limit}
 use Rattle.run_outcome.specs.declared.outcome.Fault.TheVariants.{NoMemory}
 use Rattle.run_outcome.specs.declared.reports.Report.TheVariants.{Totals}
 use Rattle.run_outcome.specs.Faults.{IsInputFault, IsOutputFault, IsPrinted}
-use Rattle.run_outcome.specs.Generating.{IsGenerateFault, script_fault}
-use Rattle.run_outcome.specs.Reports.{IsReported, totals_text}
-use Rattle.script_runner.specs.Run.{IsMountFault, IsMadeUp, IsLoadFault}
+use Rattle.run_outcome.specs.Generating.{IsGenerateFault}
+use Rattle.run_outcome.specs.Reports.{totals_text}
+use Rattle.script_play.proofs.Places.{follows_nothing, nobody_named}
+use Rattle.script_runner.specs.Run.{Prints, PlaysScript, IsMountFault, IsMadeUp, IsLoadFault}
 
 -- a limit of the script, and not of the rows in the files
 abbrev IsOfScript : Option ScriptBad → Type 0
@@ -44,17 +46,8 @@ made_by (Some other) f few is = absurd few
 pub made_up : (sessions transfers : ℕ) (f : Fault) → IsGenerateFault (passed sessions transfers) f → IsMadeUp f
 made_up sessions transfers f is = made_by (passed sessions transfers) f (one_of _ _) is
 
-pub made_not_usage : (f : Fault) → IsMadeUp f → f ≡ Usage → ⊥
-made_not_usage f is u = subst IsMadeUp u is
-
 pub made_not_read : (f : Fault) → IsMadeUp f → f ≡ ScriptRead → ⊥
 made_not_read f is u = subst IsMadeUp u is
-
-pub made_not_disk : (f : Fault) → IsMadeUp f → f ≡ DiskFault → ⊥
-made_not_disk f is u = subst IsMadeUp u is
-
-pub made_not_file : (f : Fault) (bad : MountBad) → IsMadeUp f → f ≡ File bad → ⊥
-made_not_file f bad is u = subst IsMadeUp u is
 
 -- ---- a script that was not made is not played
 
@@ -75,6 +68,21 @@ input_printed (Limit what found most) known bytes is = refl
 input_printed NoMemory known bytes is = inl refl
 input_printed other known bytes is = absurd is
 
-pub load_unprinted : (asked : Asked) (f : Fault) (known : Option (List ℕ)) (history : Recorded) → IsInputFault f
-    → IsReported (Totals asked) f known known history
-load_unprinted asked f known history is = λ keyed. input_printed f known (totals_text asked history) is
+pub load_unprinted : (asked : Asked) (f : Fault) (known : Option (List ℕ)) (faults faults' : ℕ) (history : Recorded) → IsInputFault f
+    → Prints (Totals asked) f known known faults faults' history
+load_unprinted asked f known faults faults' history is =
+    record {
+      printed = λ keyed. input_printed f known (totals_text asked history) is;
+      whole = λ e fails. absurd (subst IsInputFault e is);
+    }
+
+-- nothing is played of it
+pub load_unplayed : (script : Script) (f : Fault) (history : Recorded) → IsInputFault f → history.names ≡ [] → history.past ≡ []
+    → PlaysScript script f history
+load_unplayed script f history is names past =
+    record {
+      named = nobody_named script history.names names;
+      follows = follows_nothing script.items history.past (λ s. ap (items s) past);
+      played = λ none. absurd (subst IsInputFault none is);
+      answered = λ none. absurd (subst IsInputFault none is);
+    }

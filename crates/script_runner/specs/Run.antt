@@ -1,8 +1,17 @@
--- What a run has done, by its fault.
-use Rattle.std.specs.Prelude.{◌≡◌, ◌⊎◌, ℕ, ◌≤◌, List, [], ◌∷◌, Option, None, Some}
-use Rattle.inno_model.specs.declared.event.Event.{Event}
+-- What every run keeps, whatever its words ask for, and what its fault says.
+use Rattle.std.specs.Prelude.{◌≡◌, ◌⊎◌, ℕ, ◌≤◌, true, false, List, [], ◌∷◌, Option, None, Some}
+use Rattle.std.specs.List.{list_any}
+use Rattle.store_api.specs.declared.answers.MountBad.{MountBad}
 use Rattle.store_api.specs.Past.{Past, Now}
 use Rattle.store_api.specs.Causes.{Rose}
+use Rattle.sql_grammar.specs.Grammar.{Spells as SpellsStatement}
+use Rattle.inno_model.specs.declared.event.Event.{Event}
+use Rattle.inno_model.specs.Recorded.{Recorded}
+use Rattle.sql_history.specs.Legal.{IsLegal}
+use Rattle.sql_history.specs.Serial.{IsSetUp}
+use Rattle.sql_history.specs.Counts.{has_stopped}
+use Rattle.session_engine.specs.Places.{HasExactPlaces}
+use Rattle.law_histories.specs.Space.{ends_for_pages}
 use Rattle.file_zero.specs.Making.{IsNotMade}
 use Rattle.file_zero.specs.Refused.{IsRefused as AreRefused, HasTooMany}
 use Rattle.law_crashes.specs.Files.{LeavesFiles}
@@ -11,14 +20,44 @@ use Rattle.script.specs.declared.script.Script.{Script}
 use Rattle.script.specs.Script.{Spells, IsScript}
 use Rattle.run_outcome.specs.declared.outcome.Fault.{Fault}
 use Rattle.run_outcome.specs.declared.outcome.Fault.TheVariants.{Nothing, Usage, ScriptBad as BadScript, ScriptRead, OutputWrite, DiskFault, File, Limit}
+use Rattle.run_outcome.specs.declared.reports.Report.{Report}
+use Rattle.run_outcome.specs.Reports.{IsReported, IsReportedWhole}
 use Rattle.script.specs.declared.script.ScriptBad.{ScriptBad}
 use Rattle.script_generator.specs.Generated.{generated}
 use Rattle.run_outcome.specs.declared.words.Asked.{Asked}
 use Rattle.run_outcome.specs.declared.words.Way.{Way}
-use Rattle.run_outcome.specs.Words.{IsScriptCommand, IsDumpCommand, IsCheckCommand, IsLoadCommand, NoDump, NoCheck, NoGen, NoLoad}
+use Rattle.run_outcome.specs.Words.{NoDump, NoCheck, NoGen, NoLoad}
 use Rattle.run_outcome.specs.Generating.{script_fault}
-use Rattle.run_outcome.specs.Faults.{allowed, IsOutputFault, Refuses}
+use Rattle.run_outcome.specs.Faults.{allowed, IsOutputFault, Refuses, answers_no_memory}
 use Rattle.script_play.specs.Sessions.{AreNamed, FollowsScript, HasPlayed, HasAnswered}
+
+-- ---- every run. `disk` is what is known of the disk as the run begins, `disk'` as it ends.
+
+-- What a run records, and what its fault says of that.
+pub record IsRecorded (disk disk' : Past) (fault : Fault) (past : List Event) : Type 0 where
+  -- each entry might come when it came: so a reply is what its statement answers there
+  pub legal : IsLegal SpellsStatement past
+  -- the reply to a text that is no statement names its first bad byte
+  pub exact : HasExactPlaces past
+  -- the setup part has ended all its items when another session starts one
+  pub set_up : IsSetUp past
+  -- no store keeps pages so far, so none was wanting
+  pub for_pages : list_any ends_for_pages past ≡ false
+  -- only a disk that has failed stops the engine
+  pub stopped : has_stopped past ≡ true → Rose disk.faults disk'.faults
+  -- without a fault the engine has not stopped
+  pub served : fault ≡ Nothing → has_stopped past ≡ false
+  -- without a fault no session was answered NO MEMORY
+  pub replied : fault ≡ Nothing → list_any answers_no_memory past ≡ false
+
+-- What is printed of a history. `taken` is what the sink has taken before, `faults` how often it has failed.
+pub record Prints (report : Report) (fault : Fault) (taken taken' : Option (List ℕ)) (faults faults' : ℕ) (history : Recorded) : Type 0 where
+  -- all of the report, or the front of it that came before a fault of the disk or of the sink
+  pub printed : IsReported report fault taken taken' history
+  -- where the disk failed, all of it, unless the sink failed too
+  pub whole : fault ≡ DiskFault → (Rose faults faults' → ⊥) → IsReportedWhole report taken taken' history
+
+-- ---- faults
 
 -- the words or the script are why, and the disk is not met
 abbrev pub IsBeforeDisk : Fault → Type 0
@@ -32,14 +71,6 @@ abbrev pub SparesFiles : Fault → Type 0
 SparesFiles (File bad) = ⊥
 SparesFiles (Limit what found most) = ⊥
 SparesFiles other = Unit {0}
-
--- the words play sessions: those of a script, or of a generated one
-abbrev pub PlaysSessions : List (List ℕ) → Type 0
-PlaysSessions words = IsScriptCommand words ⊎ IsLoadCommand words
-
--- the words show what the files stand for
-abbrev pub ShowsFiles : List (List ℕ) → Type 0
-ShowsFiles words = IsDumpCommand words ⊎ IsCheckCommand words
 
 -- What is printed is the history: nothing else is asked for.
 abbrev pub PrintsHistory : List (List ℕ) → Type 0
@@ -96,3 +127,32 @@ IsLoadFault (Some why) old new fault = fault ≡ script_fault why
 abbrev pub KeepsFiles : Past → Past → List Event → Type 0
 KeepsFiles old new [] = LeavesFiles old new
 KeepsFiles old new (e ∷ past) = KeepsSince old new (e ∷ past)
+
+-- What becomes of files that stand for a database: every command but `init` keeps it.
+pub record KeepsDatabase (disk disk' : Past) (fault : Fault) (past : List Event) : Type 0 where
+  -- whatever a crash left at a moment of the run holds the first so many commits, with all that were acknowledged by then
+  pub crash : KeepsFiles disk disk' past
+  -- files that are refused are what they are told to be
+  pub refused : (bad : MountBad) → fault ≡ File bad → AreRefused disk disk' bad
+
+-- A fault is seen in what surrounds the run: the counts of failures of the source and of the sink, and the disk.
+pub record HasCause {D : Type 0} (given left : D) (disk disk' : Past) (source source' sink sink' : ℕ) (fault : Fault) : Type 0 where
+  -- the source has failed
+  pub script_read : fault ≡ ScriptRead → Rose source source'
+  -- the sink has failed
+  pub output_write : fault ≡ OutputWrite → Rose sink sink'
+  -- the disk has failed
+  pub disk_fault : fault ≡ DiskFault → Rose disk.faults disk'.faults
+  -- words and scripts are refused before the disk is met
+  pub before_disk : IsBeforeDisk fault → left ≡ given
+
+-- The sessions of a history are those of a script, and do what it says.
+pub record PlaysScript (script : Script) (fault : Fault) (history : Recorded) : Type 0 where
+  -- they have the script's names
+  pub named : AreNamed script history.names
+  -- each has started the first of its items, in their order
+  pub follows : FollowsScript script.items history.past
+  -- without a fault each has started all of them
+  pub played : fault ≡ Nothing → HasPlayed script history.names history.past
+  -- and each of them was answered
+  pub answered : fault ≡ Nothing → HasAnswered script history.past

@@ -1,37 +1,25 @@
 //! The program's top call: from its words, a source and a disk to the text that it prints. Here the moment is picked from which
 //! the clauses about crashes count: when the call began.
 
-ghost use Rattle.std.specs.Prelude.{◌≡◌, ◌⊎◌, ◌↔◌, [], Some, IfSome, List, ℕ, true, false};
-ghost use Rattle.std.specs.List.{list_any};
-ghost use Rattle.std.specs.Io.KnownBytes.{Appends};
-ghost use Rattle.store_api.specs.declared.answers.MountBad.{MountBad as MountBadValue};
+ghost use Rattle.std.specs.Prelude.{◌≡◌, ◌⊎◌, ◌↔◌, [], Some, IfSome, List, ℕ};
 ghost use Rattle.store_api.specs.Causes.{Rose};
 ghost use Rattle.store_api.specs.Past.{Now, Meanwhile};
-ghost use Rattle.sql_grammar.specs.Grammar.{Spells};
-ghost use Rattle.sql_history.specs.Legal.{IsLegal};
-ghost use Rattle.sql_history.specs.Serial.{IsSetUp};
-ghost use Rattle.session_engine.specs.Places.{HasExactPlaces};
-ghost use Rattle.sql_history.specs.Counts as counts;
-ghost use Rattle.inno_model.specs.Text.{text};
-ghost use Rattle.law_histories.specs.Space.{ends_for_pages};
 ghost use Rattle.inno_db.specs.Database.{Database};
 ghost use Rattle.law_crashes.specs.Files.{Files, LeavesFiles, IsAtRest};
 ghost use Rattle.file_zero.specs.Making.{AreEmpty, AreNew, AreBeingMade, IsPageAlone};
-ghost use Rattle.file_zero.specs.Refused.{IsRefused, HasTooMany};
+ghost use Rattle.file_zero.specs.Refused.{HasTooMany};
 ghost use Rattle.durable_engine.specs.Whole.{HoldsAll};
 ghost use Rattle.script.specs.Script.{IsScript, IsPlayable};
 ghost use Rattle.script_generator.specs.Generated.{passed};
-ghost use Rattle.run_outcome.specs.Words.{IsCommand, IsScriptCommand, IsInitCommand, IsDumpCommand, IsCheckCommand, IsGenCommand, IsLoadCommand, NoLoad, asked_in, way_in};
-ghost use Rattle.run_outcome.specs.Shown.{shown_text, counts_text};
-ghost use Rattle.run_outcome.specs.Reports.{IsReported, IsReportedWhole};
+ghost use Rattle.run_outcome.specs.Words.{IsCommand, IsScriptCommand, IsInitCommand, IsDumpCommand, IsCheckCommand, IsGenCommand, IsLoadCommand};
+ghost use Rattle.run_outcome.specs.Words.{NoInit, NoLoad, way_in};
+ghost use Rattle.run_outcome.specs.Shown.{shown_text};
 ghost use Rattle.run_outcome.specs.Generating.{generated_text, IsGenerateFault};
-ghost use Rattle.script_generator.specs.Dump.{text_of as dump_of};
-ghost use Rattle.run_outcome.specs.Faults.{allowed, fault_of, IsPlayedFault, IsPrinted, answers_no_memory};
-ghost use Rattle.script_play.specs.Sessions.{AreNamed, FollowsScript, HasPlayed, HasAnswered};
+ghost use Rattle.run_outcome.specs.Faults.{allowed, fault_of, IsPlayedFault, IsPrinted};
 ghost use Rattle.engine.specs.Opened.{IsOpened};
-ghost use Rattle.script_runner.specs.Run.{IsBeforeDisk, SparesFiles, Judges, Follows, Plays, KeepsFiles, script_of};
-ghost use Rattle.script_runner.specs.Run.{IsMountFault, IsMakeFault, IsMadeUp, IsLoadFault};
-ghost use Rattle.script_runner.specs.Run.{PrintsHistory, PlaysSessions, ShowsFiles};
+ghost use Rattle.script_runner.specs.Run.{IsRecorded, Prints, PrintsHistory, PlaysScript, KeepsDatabase, KeepsFiles, HasCause, script_of};
+ghost use Rattle.script_runner.specs.Run.{IsBeforeDisk, SparesFiles, Judges, Follows, Plays, IsMountFault, IsMakeFault, IsMadeUp, IsLoadFault};
+ghost use Rattle.script_runner.specs.Commands.{DoesInit, DoesScript, DoesDump, DoesCheck, DoesGen, DoesLoad, DoesNothing};
 
 use crate::ways::play_script;
 use durable_engine::{DurableEngine, Root};
@@ -71,95 +59,41 @@ where
     C: Clock + Sync,
     G: Gate + Sync,
     R: Threads + Wait + Timer + Sync,
-    // What was printed is the text of a legal history, all of it where the disk failed, unless the sink did. Where a text is no
-    // statement, its reply names the first bad byte.
-    ensures legal { IsLegal Spells result.history.past }
-    ensures exact { HasExactPlaces result.history.past }
-    // The setup part has ended all its items when another session starts one.
-    ensures set_up { IsSetUp result.history.past }
-    ensures printed { PrintsHistory words.now → IsPrinted result.fault (K.taken out.old) (K.taken out.new) (text result.history) }
-    ensures whole { PrintsHistory words.now → result.fault ≡ Fault.DiskFault → (Rose (K.faults out.old) (K.faults out.new) → ⊥)
-        → Appends (K.taken out.old) (K.taken out.new) (text result.history) }
+    // What is recorded is one legal history.
+    ensures recorded { IsRecorded (D.past disk) (D.past result.disk) result.fault result.history.past }
 
-    // Only a disk that has failed stops the engine, which is told; and no store keeps pages so far, so none was wanting.
-    ensures stopped { counts.has_stopped result.history.past ≡ true → Rose (D.past disk).faults (D.past result.disk).faults }
-    ensures served { result.fault ≡ Fault.Nothing → counts.has_stopped result.history.past ≡ false }
-    ensures for_pages { list_any ends_for_pages result.history.past ≡ false }
-
-    // Whatever a crash left at a moment since the call began holds the first so many commits of the history, with all that
-    // were acknowledged by then.
-    ensures crash { (IsInitCommand words.now → ⊥) → KeepsFiles (D.past disk) (D.past result.disk) result.history.past }
-
-    // Where no fault came, whatever a crash leaves from now on holds every commit of the history.
-    ensures durable { PlaysSessions words.now → result.fault ≡ Fault.Nothing
-        → HoldsAll (D.past disk) (D.past result.disk) result.history.past }
-
-    // Files that are made stand for a database without tables. While they are, a crash leaves no page 0, or such files.
-    ensures init { IsInitCommand words.now → result.history.past ≡ [] }
-    ensures init_fault { IsCommand words.now → IsInitCommand words.now → IsMakeFault (D.past disk) (D.past result.disk) result.fault }
-    ensures init_crash { IsInitCommand words.now → Now AreEmpty (D.past disk) → Meanwhile AreBeingMade (D.past disk) (D.past result.disk) }
-    ensures made { IsInitCommand words.now → result.fault ≡ Fault.Nothing → Now IsPageAlone (D.past result.disk) }
-    ensures new { IsInitCommand words.now → result.fault ≡ Fault.Nothing → Now IsAtRest (D.past disk) → Now AreNew (D.past result.disk) }
-
-    // A dump is the text of the database that the files stand for, whose history is empty; and a check counts in it.
-    ensures dumped { (db : Database) → IsDumpCommand words.now → Files (D.past disk) (D.past result.disk) db
-        → IsPrinted result.fault (K.taken out.old) (K.taken out.new) (dump_of db) }
-    ensures dump { IsDumpCommand words.now → result.history.past ≡ [] }
-    ensures checked { (db : Database) → IsCheckCommand words.now → Files (D.past disk) (D.past result.disk) db
-        → IsPrinted result.fault (K.taken out.old) (K.taken out.new) (counts_text db) }
-    ensures check { IsCheckCommand words.now → result.history.past ≡ [] }
-    ensures shown_fault { IsCommand words.now → ShowsFiles words.now → IsMountFault (D.past disk) (D.past result.disk) result.fault }
-
-    // A generated script is the one that the numbers define, unless it passes a limit. Neither the disk nor the source is met.
-    ensures generated { IsCommand words.now → IsGenCommand words.now
-        → IsPrinted result.fault (K.taken out.old) (K.taken out.new) (generated_text (asked_in 2 words.now)) }
-    ensures limited { IsCommand words.now → IsGenCommand words.now
-        → IsGenerateFault (passed (asked_in 2 words.now).sessions (asked_in 2 words.now).transfers) result.fault }
-    ensures unplayed { IsGenCommand words.now → result.history.past ≡ [] }
-    ensures gen_disk { IsGenCommand words.now → result.disk ≡ disk }
-    ensures gen_source { IsGenCommand words.now → script.new ≡ script.old }
-
-    // A load plays the generated script, each session on a thread, and prints what it has done.
-    ensures loaded { IsCommand words.now → IsLoadCommand words.now
-        → IsReported (Report.Totals (asked_in 3 words.now)) result.fault (K.taken out.old) (K.taken out.new) result.history }
-    ensures load_whole { IsCommand words.now → IsLoadCommand words.now → result.fault ≡ Fault.DiskFault
-        → (Rose (K.faults out.old) (K.faults out.new) → ⊥)
-        → IsReportedWhole (Report.Totals (asked_in 3 words.now)) (K.taken out.old) (K.taken out.new) result.history }
-    ensures load_named { IsCommand words.now → IsLoadCommand words.now → AreNamed (script_of (asked_in 3 words.now)) result.history.names }
-    ensures load_follows { IsCommand words.now → IsLoadCommand words.now
-        → FollowsScript (script_of (asked_in 3 words.now)).items result.history.past }
-    ensures load_played { IsCommand words.now → IsLoadCommand words.now → result.fault ≡ Fault.Nothing
-        → HasPlayed (script_of (asked_in 3 words.now)) result.history.names result.history.past
-        × HasAnswered (script_of (asked_in 3 words.now)) result.history.past }
-    ensures load_fault { IsCommand words.now → IsLoadCommand words.now
-        → IsLoadFault (passed (asked_in 3 words.now).sessions (asked_in 3 words.now).transfers) (D.past disk) (D.past result.disk) result.fault }
-    ensures load_source { IsLoadCommand words.now → script.new ≡ script.old }
+    // What was printed is its text, unless the words ask for something else.
+    ensures prints { PrintsHistory words.now
+        → Prints Report.Transcript result.fault (K.taken out.old) (K.taken out.new) (K.faults out.old) (K.faults out.new) result.history }
 
     // The sessions of the history are the script's, and do what it says, in which a tick may stand where they play in turn.
     ensures follows { NoLoad words.now
         → IfSome (S.left script.old) (λ bytes. Follows (way_in words.now) bytes result.history.names result.history.past) }
-    ensures played { IsScriptCommand words.now → result.fault ≡ Fault.Nothing
-        → IfSome (S.left script.old) (λ bytes. Plays (way_in words.now) bytes result.history.names result.history.past) }
 
-    // Where none came, no session was answered that memory was lacking.
-    ensures replied { result.fault ≡ Fault.Nothing → list_any answers_no_memory result.history.past ≡ false }
+    // Every command but `init` keeps the database that the files stand for, whatever a crash leaves of them.
+    ensures keeps { NoInit words.now → KeepsDatabase (D.past disk) (D.past result.disk) result.fault result.history.past }
 
     // Each fault has its cause.
     ensures usage { (result.fault ≡ Fault.Usage) ↔ (IsCommand words.now → ⊥) }
-    ensures judged { IsScriptCommand words.now → IfSome (S.left script.old) (Judges (way_in words.now) result.fault) }
-    ensures script_read { result.fault ≡ Fault.ScriptRead → Rose (S.faults script.old) (S.faults script.new) }
-    ensures output_write { result.fault ≡ Fault.OutputWrite → Rose (K.faults out.old) (K.faults out.new) }
-    ensures disk_fault { result.fault ≡ Fault.DiskFault → Rose (D.past disk).faults (D.past result.disk).faults }
-    ensures refused { (bad : MountBadValue) → (IsInitCommand words.now → ⊥) → result.fault ≡ Fault.File bad
-        → IsRefused (D.past disk) (D.past result.disk) bad }
-    ensures too_large { (bytes : List ℕ) (rows most : ℕ) → IsScriptCommand words.now → S.left script.old ≡ Some bytes
-        → IsScript (allowed (way_in words.now)) bytes
-        → result.fault ≡ Fault.Limit 5 rows most → (most ≡ 1000000) × Now (HasTooMany rows) (D.past result.disk) }
-    ensures before_disk { IsBeforeDisk result.fault → result.disk ≡ disk }
-    ensures complete { (bytes : List ℕ) → IsCommand words.now → IsScriptCommand words.now → S.left script.old ≡ Some bytes
-        → IsScript (allowed (way_in words.now)) bytes
-        → (Rose (S.faults script.old) (S.faults script.new) → ⊥) → (Rose (K.faults out.old) (K.faults out.new) → ⊥)
-        → (Rose (D.past disk).faults (D.past result.disk).faults → ⊥) → SparesFiles result.fault → (result.status ≡ 0) ⊎ (result.status ≡ 8) }
+    ensures caused { HasCause disk result.disk (D.past disk) (D.past result.disk)
+        (S.faults script.old) (S.faults script.new) (K.faults out.old) (K.faults out.new) result.fault }
+
+    // What each command does.
+    ensures unknown { (IsCommand words.now → ⊥)
+        → DoesNothing disk result.disk script.old script.new out.old out.new result.history.past }
+    ensures init { IsInitCommand words.now → DoesInit words.now (D.past disk) (D.past result.disk) result.fault result.history.past }
+    ensures script { IsScriptCommand words.now
+        → DoesScript words.now (S.left script.old) (S.faults script.old) (S.faults script.new) (K.faults out.old) (K.faults out.new)
+        (D.past disk) (D.past result.disk) result.fault result.status result.history }
+    ensures dump { IsDumpCommand words.now
+        → DoesDump words.now (K.taken out.old) (K.taken out.new) (D.past disk) (D.past result.disk) result.fault result.history.past }
+    ensures check { IsCheckCommand words.now
+        → DoesCheck words.now (K.taken out.old) (K.taken out.new) (D.past disk) (D.past result.disk) result.fault result.history.past }
+    ensures generate { IsGenCommand words.now
+        → DoesGen words.now disk result.disk script.old script.new (K.taken out.old) (K.taken out.new) result.fault result.history.past }
+    ensures load { IsLoadCommand words.now
+        → DoesLoad words.now script.old script.new (K.taken out.old) (K.taken out.new) (K.faults out.old) (K.faults out.new)
+        (D.past disk) (D.past result.disk) result.fault result.history }
 {
     match command_of(words) {
         Command::Unknown => untouched(alloc, disk, Fault::Usage),
@@ -192,30 +126,19 @@ where
     C: Clock + Sync,
     G: Gate + Sync,
     R: Threads + Wait + Timer + Sync,
-    ensures legal { IsLegal Spells result.history.past }
-    ensures exact { HasExactPlaces result.history.past }
-    ensures set_up { IsSetUp result.history.past }
-    ensures printed { IsPrinted result.fault (K.taken out.old) (K.taken out.new) (text result.history) }
-    ensures whole { result.fault ≡ Fault.DiskFault → (Rose (K.faults out.old) (K.faults out.new) → ⊥)
-        → Appends (K.taken out.old) (K.taken out.new) (text result.history) }
-    ensures stopped { counts.has_stopped result.history.past ≡ true → Rose (D.past disk).faults (D.past result.disk).faults }
-    ensures served { result.fault ≡ Fault.Nothing → counts.has_stopped result.history.past ≡ false }
-    ensures for_pages { list_any ends_for_pages result.history.past ≡ false }
-    ensures crash { KeepsFiles (D.past disk) (D.past result.disk) result.history.past }
+    ensures recorded { IsRecorded (D.past disk) (D.past result.disk) result.fault result.history.past }
+    ensures prints { Prints Report.Transcript result.fault (K.taken out.old) (K.taken out.new) (K.faults out.old) (K.faults out.new) result.history }
+    ensures keeps { KeepsDatabase (D.past disk) (D.past result.disk) result.fault result.history.past }
     ensures durable { result.fault ≡ Fault.Nothing → HoldsAll (D.past disk) (D.past result.disk) result.history.past }
     ensures follows { IfSome (S.left script.old) (λ bytes. Follows way bytes result.history.names result.history.past) }
     ensures played { result.fault ≡ Fault.Nothing
         → IfSome (S.left script.old) (λ bytes. Plays way bytes result.history.names result.history.past) }
-    ensures replied { result.fault ≡ Fault.Nothing → list_any answers_no_memory result.history.past ≡ false }
     ensures usage { result.fault ≡ Fault.Usage → ⊥ }
+    ensures caused { HasCause disk result.disk (D.past disk) (D.past result.disk)
+        (S.faults script.old) (S.faults script.new) (K.faults out.old) (K.faults out.new) result.fault }
     ensures judged { IfSome (S.left script.old) (Judges way result.fault) }
-    ensures script_read { result.fault ≡ Fault.ScriptRead → Rose (S.faults script.old) (S.faults script.new) }
-    ensures output_write { result.fault ≡ Fault.OutputWrite → Rose (K.faults out.old) (K.faults out.new) }
-    ensures disk_fault { result.fault ≡ Fault.DiskFault → Rose (D.past disk).faults (D.past result.disk).faults }
-    ensures refused { (bad : MountBadValue) → result.fault ≡ Fault.File bad → IsRefused (D.past disk) (D.past result.disk) bad }
     ensures too_large { (bytes : List ℕ) (rows most : ℕ) → S.left script.old ≡ Some bytes → IsScript (allowed way) bytes
         → result.fault ≡ Fault.Limit 5 rows most → (most ≡ 1000000) × Now (HasTooMany rows) (D.past result.disk) }
-    ensures before_disk { IsBeforeDisk result.fault → result.disk ≡ disk }
     ensures complete { (bytes : List ℕ) → S.left script.old ≡ Some bytes → IsScript (allowed way) bytes
         → (Rose (S.faults script.old) (S.faults script.new) → ⊥) → (Rose (K.faults out.old) (K.faults out.new) → ⊥)
         → (Rose (D.past disk).faults (D.past result.disk).faults → ⊥) → SparesFiles result.fault → (result.status ≡ 0) ⊎ (result.status ≡ 8) }
@@ -245,29 +168,17 @@ where
     C: Clock + Sync,
     G: Gate + Sync,
     R: Threads + Wait + Timer + Sync,
-    ensures legal { IsLegal Spells result.history.past }
-    ensures exact { HasExactPlaces result.history.past }
-    ensures set_up { IsSetUp result.history.past }
-    ensures printed { IsReported (Report.Totals asked) result.fault (K.taken out.old) (K.taken out.new) result.history }
-    ensures whole { result.fault ≡ Fault.DiskFault → (Rose (K.faults out.old) (K.faults out.new) → ⊥)
-        → IsReportedWhole (Report.Totals asked) (K.taken out.old) (K.taken out.new) result.history }
-    ensures stopped { counts.has_stopped result.history.past ≡ true → Rose (D.past disk).faults (D.past result.disk).faults }
-    ensures served { result.fault ≡ Fault.Nothing → counts.has_stopped result.history.past ≡ false }
-    ensures for_pages { list_any ends_for_pages result.history.past ≡ false }
-    ensures crash { KeepsFiles (D.past disk) (D.past result.disk) result.history.past }
+    ensures recorded { IsRecorded (D.past disk) (D.past result.disk) result.fault result.history.past }
+    ensures prints { Prints (Report.Totals asked) result.fault (K.taken out.old) (K.taken out.new) (K.faults out.old) (K.faults out.new) result.history }
+    ensures keeps { KeepsDatabase (D.past disk) (D.past result.disk) result.fault result.history.past }
     ensures durable { result.fault ≡ Fault.Nothing → HoldsAll (D.past disk) (D.past result.disk) result.history.past }
-    ensures named { AreNamed (script_of asked) result.history.names }
-    ensures follows { FollowsScript (script_of asked).items result.history.past }
-    ensures played { result.fault ≡ Fault.Nothing → HasPlayed (script_of asked) result.history.names result.history.past
-        × HasAnswered (script_of asked) result.history.past }
-    ensures replied { result.fault ≡ Fault.Nothing → list_any answers_no_memory result.history.past ≡ false }
-    ensures output_write { result.fault ≡ Fault.OutputWrite → Rose (K.faults out.old) (K.faults out.new) }
-    ensures causes { IsLoadFault (passed asked.sessions asked.transfers) (D.past disk) (D.past result.disk) result.fault }
+    ensures plays { PlaysScript (script_of asked) result.fault result.history }
     ensures usage { result.fault ≡ Fault.Usage → ⊥ }
     ensures script_read { result.fault ≡ Fault.ScriptRead → ⊥ }
+    ensures output_write { result.fault ≡ Fault.OutputWrite → Rose (K.faults out.old) (K.faults out.new) }
     ensures disk_fault { result.fault ≡ Fault.DiskFault → Rose (D.past disk).faults (D.past result.disk).faults }
-    ensures refused { (bad : MountBadValue) → result.fault ≡ Fault.File bad → IsRefused (D.past disk) (D.past result.disk) bad }
     ensures before_disk { IsBeforeDisk result.fault → result.disk ≡ disk }
+    ensures causes { IsLoadFault (passed asked.sessions asked.transfers) (D.past disk) (D.past result.disk) result.fault }
 {
     match generate_input(alloc, asked) {
         Ok(script) => {
@@ -366,21 +277,11 @@ where
     R: Threads + Wait + Timer + Sync,
     requires root { D.past disk ≡ B.root }
     requires playable { IsPlayable (allowed way) script.now }
-    ensures legal { IsLegal Spells result.history.past }
-    ensures exact { HasExactPlaces result.history.past }
-    ensures set_up { IsSetUp result.history.past }
-    ensures printed { IsReported report result.fault (K.taken out.old) (K.taken out.new) result.history }
-    ensures whole { result.fault ≡ Fault.DiskFault → (Rose (K.faults out.old) (K.faults out.new) → ⊥)
-        → IsReportedWhole report (K.taken out.old) (K.taken out.new) result.history }
-    ensures stopped { counts.has_stopped result.history.past ≡ true → Rose (D.past disk).faults (D.past result.disk).faults }
-    ensures served { result.fault ≡ Fault.Nothing → counts.has_stopped result.history.past ≡ false }
+    ensures recorded { IsRecorded (D.past disk) (D.past result.disk) result.fault result.history.past }
+    ensures prints { Prints report result.fault (K.taken out.old) (K.taken out.new) (K.faults out.old) (K.faults out.new) result.history }
     ensures crash { KeepsFiles (D.past disk) (D.past result.disk) result.history.past }
     ensures durable { result.fault ≡ Fault.Nothing → HoldsAll (D.past disk) (D.past result.disk) result.history.past }
-    ensures named { AreNamed script.now result.history.names }
-    ensures follows { FollowsScript script.now.items result.history.past }
-    ensures played { result.fault ≡ Fault.Nothing → HasPlayed script.now result.history.names result.history.past }
-    ensures answered { result.fault ≡ Fault.Nothing → HasAnswered script.now result.history.past }
-    ensures replied { result.fault ≡ Fault.Nothing → list_any answers_no_memory result.history.past ≡ false }
+    ensures plays { PlaysScript script.now result.fault result.history }
     ensures output_write { result.fault ≡ Fault.OutputWrite → Rose (K.faults out.old) (K.faults out.new) }
     ensures causes { IsMountFault (D.past disk) (D.past result.disk) result.fault }
 {
@@ -412,21 +313,11 @@ where
     R: Threads + Wait + Timer + Sync,
     requires playable { IsPlayable (allowed way) script.now }
     requires opened { IsOpened engine }
-    ensures legal { IsLegal Spells result.history.past }
-    ensures exact { HasExactPlaces result.history.past }
-    ensures set_up { IsSetUp result.history.past }
-    ensures printed { IsReported report result.fault (K.taken out.old) (K.taken out.new) result.history }
-    ensures whole { result.fault ≡ Fault.DiskFault → (Rose (K.faults out.old) (K.faults out.new) → ⊥)
-        → IsReportedWhole report (K.taken out.old) (K.taken out.new) result.history }
-    ensures stopped { counts.has_stopped result.history.past ≡ true → Rose B.root.faults (D.past result.disk).faults }
-    ensures served { result.fault ≡ Fault.Nothing → counts.has_stopped result.history.past ≡ false }
+    ensures recorded { IsRecorded B.root (D.past result.disk) result.fault result.history.past }
+    ensures prints { Prints report result.fault (K.taken out.old) (K.taken out.new) (K.faults out.old) (K.faults out.new) result.history }
     ensures crash { KeepsFiles B.root (D.past result.disk) result.history.past }
     ensures durable { result.fault ≡ Fault.Nothing → HoldsAll B.root (D.past result.disk) result.history.past }
-    ensures named { AreNamed script.now result.history.names }
-    ensures follows { FollowsScript script.now.items result.history.past }
-    ensures played { result.fault ≡ Fault.Nothing → HasPlayed script.now result.history.names result.history.past }
-    ensures answered { result.fault ≡ Fault.Nothing → HasAnswered script.now result.history.past }
-    ensures replied { result.fault ≡ Fault.Nothing → list_any answers_no_memory result.history.past ≡ false }
+    ensures plays { PlaysScript script.now result.fault result.history }
     ensures output_write { result.fault ≡ Fault.OutputWrite → Rose (K.faults out.old) (K.faults out.new) }
     ensures disk_fault { result.fault ≡ Fault.DiskFault → Rose B.root.faults (D.past result.disk).faults }
     ensures causes { IsPlayedFault result.fault }

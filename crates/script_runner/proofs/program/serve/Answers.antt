@@ -1,39 +1,35 @@
-use Rattle.std.proofs.Common.{ap, subst, sym}
-use Rattle.inno_model.specs.Text.{items}
-use Rattle.script_play.proofs.Places.{follows_nothing}
-use Rattle.script_play.proofs.Places.{nobody_named}
-use Rattle.script_runner.proofs.Causing.{mount_fault}
-use Rattle.script_runner.proofs.Reporting.{refused_reported, refused_whole}
-use Rattle.sql_history.specs.Serial.{IsSetUp}
-use Rattle.session_engine.specs.Places.{HasExactPlaces}
+use Rattle.std.proofs.Common.{sym, subst}
+use Rattle.store_api.specs.Past.{Past}
+use Rattle.script_runner.specs.Run.{IsRecorded}
+use Rattle.script_runner.proofs.Causing.{nothing_recorded, mount_fault}
+use Rattle.script_runner.proofs.Reporting.{refused_prints, refused_plays}
 use Rattle.script_runner.proofs.program.serve.Goals as goal
 
-pub returns-in-Err-clause-follows : goal.returns-in-Err-clause-follows
-returns-in-Err-clause-follows g c =
-    follows_nothing c.args.script.now.items c.without_engine.result.history.past (λ s. ap (items s) c.without_engine.ensures.past)
+pub returns-in-Ok-clause-recorded : goal.returns-in-Ok-clause-recorded
+returns-in-Ok-clause-recorded g c =
+    subst (λ (root : Past). IsRecorded root (g.D.Disk.past c.play_on.result.disk) c.play_on.result.fault c.play_on.result.history.past)
+    (sym c.requires.root) c.play_on.ensures.recorded
+
+pub returns-in-Err-clause-recorded : goal.returns-in-Err-clause-recorded
+returns-in-Err-clause-recorded g c =
+    nothing_recorded (g.D.Disk.past c.args.disk) (g.D.Disk.past c.without_engine.result.disk) c.without_engine.result.fault
+    c.without_engine.result.history.past c.without_engine.ensures.past
+
+pub returns-in-Err-clause-prints : goal.returns-in-Err-clause-prints
+returns-in-Err-clause-prints g c =
+    rw c.without_engine.ensures.fault
+    (rw c.fault_of.ensures
+    (refused_prints c.args.report c.in-Err.bad (g.K.Sink.taken c.args.out.now) (g.K.Sink.faults c.args.out.now) (g.K.Sink.faults c.args.out.now)
+    c.without_engine.result.history c.without_engine.ensures.names c.without_engine.ensures.past))
+
+pub returns-in-Err-clause-plays : goal.returns-in-Err-clause-plays
+returns-in-Err-clause-plays g c =
+    rw c.without_engine.ensures.fault
+    (rw c.fault_of.ensures
+    (refused_plays c.args.script.now c.in-Err.bad c.without_engine.result.history c.without_engine.ensures.names c.without_engine.ensures.past))
 
 pub returns-in-Err-clause-causes : goal.returns-in-Err-clause-causes
 returns-in-Err-clause-causes g c =
     rw c.without_engine.ensures.fault
     (rw c.without_engine.ensures.disk
     (rw c.fault_of.ensures (mount_fault (g.D.Disk.past c.args.disk) (g.D.Disk.past c.in-Err.disk) c.in-Err.bad c.in-Err.ensures.refused)))
-
-pub returns-in-Err-clause-named : goal.returns-in-Err-clause-named
-returns-in-Err-clause-named g c = nobody_named c.args.script.now c.without_engine.result.history.names c.without_engine.ensures.names
-
-pub returns-in-Err-clause-printed : goal.returns-in-Err-clause-printed
-returns-in-Err-clause-printed g c =
-    rw c.without_engine.ensures.fault
-    (rw c.fault_of.ensures
-    (refused_reported c.args.report c.in-Err.bad (g.K.Sink.taken c.args.out.now) c.without_engine.result.history c.without_engine.ensures.names))
-
-pub returns-in-Err-clause-whole : goal.returns-in-Err-clause-whole
-returns-in-Err-clause-whole g c = λ fault fails.
-    refused_whole c.args.report (g.K.Sink.taken c.args.out.now) c.without_engine.result.history c.without_engine.ensures.names
-    c.without_engine.ensures.past
-
-pub returns-in-Err-clause-exact : goal.returns-in-Err-clause-exact
-returns-in-Err-clause-exact g c = subst HasExactPlaces (sym c.without_engine.ensures.past) tt
-
-pub returns-in-Err-clause-set_up : goal.returns-in-Err-clause-set_up
-returns-in-Err-clause-set_up g c = subst IsSetUp (sym c.without_engine.ensures.past) tt
