@@ -9,7 +9,7 @@ returns c = both c.are_zeros.result c.are_zeros.ensures where
   both : (b : Bool) → MatchBool b (AreZeros c.split_at.result.1.now) (AreZeros c.split_at.result.1.now → ⊥)
       → MatchBool b (IsEmptyLeaf c.args.tree c.args.bytes.now) (IsEmptyLeaf c.args.tree c.args.bytes.now → ⊥)
   both true zeros = record {
-    kind = c.if-bytes-ne3.false;
+    kind = c.if-bytes-ne-LEAF.false;
     level = c.if-bytes-ne0.false;
     count = sym c.read_u16.ensures ∙ c.if-read_u16-ne0.false;
     index = sym c.read_u32-2.ensures ∙ c.if-read_u32-tree.false;
