@@ -4,8 +4,8 @@
 ghost use Rattle.std.specs.Prelude.{◌≡◌, ◌≤◌, ◌∷◌, [], IfOk};
 ghost use Rattle.tests_engine.specs.Tables.{table_named, HasBoth};
 
-use inno_types::{Bytes, Column, Columns, Key, Keys, Kind, Row, Schema, Value};
 use engine::{Opening, PutBad};
+use inno_types::{Bytes, Column, Columns, Key, Keys, Kind, Row, Schema, Value};
 use std::alloc::{AllocError, Global};
 use store_api::NoMemory;
 
