@@ -19,11 +19,11 @@ use Rattle.sql_history.specs.Counts.{rows_kept, most_rows}
 use Rattle.law_past_agreement.specs.Order.{created}
 use Rattle.shared_lists.specs.Tasks.{Idle}
 use Rattle.shared_lists.specs.State.{State, IsNow, Adds, Closes, Stays, task_of}
-use Rattle.sql_lists.specs.Kept.{AreStanding, OwesAck}
+use Rattle.sql_lists.specs.Kept.{AreStanding}
 use Rattle.sql_lists.specs.Tables.{MayMake, MakesNone}
 use Rattle.shared_lists.specs.Tables.{begun, created_by, table_made}
-use Rattle.sql_lists.specs.Going.{NearsAcked}
-use Rattle.sql_lists.specs.Steps.{Steps, GoesOnAcked, AsksToWrite, changes_rows, HasRowsAlone, plain_edge, open_txn, is_apart}
+use Rattle.giving_up.specs.Machines.{MovesOnAcked}
+use Rattle.sql_lists.specs.Steps.{Steps, AsksToWrite, changes_rows, HasRowsAlone, plain_edge, open_txn, is_apart}
 use Rattle.sql_lists.specs.declared.advance.Advance.TheVariants as advance
 use Rattle.sql_lists.proofs.Moving.{stays_none, moves_none, moves_stays, moves_adds, moves_closes, moves_made, moves_none_made, below_phase}
 use Rattle.create_statement.specs.declared.machine.CreateStatement.{CreateStatement}
@@ -192,29 +192,29 @@ module _ (s : ℕ) (old new : State) (statement : Stmt) where
 
 -- ---- the acknowledgement of a commit
 
-pub owes_it : (s : ℕ) (state : State) (m : CreateStatement) → owes_ack m ≡ true → IsRunning state s m → OwesAck s state.past
-owes_it s state (machine.Unacked statement l) owes r = record { owed = r.0.2; closed = r.0.1.closed }
-owes_it s state (machine.Committed statement) owes r = record { owed = r.0.1; closed = r.0.0.closed }
-owes_it s state m owes r = absurd (false≢true owes)
-
-pub goes_on_acked : (m : CreateStatement) → owes_ack m ≡ true → GoesOnAcked IsRunning m (acked m)
-goes_on_acked (machine.Unacked statement l) owes old new s moment r adds =
-    let spared = spares_ack s moment old.past in (
-      subst (λ h. IsToBegin s statement l h × IsEmptied s h × (awaits_ack (of_item s h) ≡ false)) (sym adds.past_is) (
-        to_begin_spared (events.Acked s moment) old.past s spared statement l r.0.0,
-        emptied_on (events.Acked s moment) old.past s spared r.0.1,
-        acked_now s statement old.past moment,
-      ),
-      adds.task_is ∙ r.1,
-    )
-goes_on_acked (machine.Committed statement) owes old new s moment r adds = (
-  subst (λ h. IsCommitted s statement h × (awaits_ack (of_item s h) ≡ false)) (sym adds.past_is)
-      (committed_spared (events.Acked s moment) old.past s (spares_ack s moment old.past) statement r.0.0, acked_now s statement old.past moment),
-  adds.task_is ∙ r.1,
-)
-goes_on_acked m owes old new s moment r adds = absurd (false≢true owes)
-
-pub acked_nears : (m : CreateStatement) → owes_ack m ≡ true → NearsAcked to_go m (acked m)
-acked_nears (machine.Unacked statement l) owes old new s = below_phase 5 4 _ _ _ _ _ _ (omega arith)
-acked_nears (machine.Committed statement) owes old new s = below_phase 3 2 _ _ _ _ _ _ (omega arith)
-acked_nears m owes old new s = absurd (false≢true owes)
+pub moves_on_acked : MovesOnAcked IsRunning to_go owes_ack acked
+moves_on_acked (machine.Unacked statement l) owes =
+    record {
+      owed = λ state s r. record { owed = r.0.2; closed = r.0.1.closed };
+      runs = λ old new s moment r adds.
+          let spared = spares_ack s moment old.past in (
+            subst (λ h. IsToBegin s statement l h × IsEmptied s h × (awaits_ack (of_item s h) ≡ false)) (sym adds.past_is) (
+              to_begin_spared (events.Acked s moment) old.past s spared statement l r.0.0,
+              emptied_on (events.Acked s moment) old.past s spared r.0.1,
+              acked_now s statement old.past moment,
+            ),
+            adds.task_is ∙ r.1,
+          );
+      nears = λ old new s. below_phase 5 4 _ _ _ _ _ _ (omega arith);
+    }
+moves_on_acked (machine.Committed statement) owes =
+    record {
+      owed = λ state s r. record { owed = r.0.1; closed = r.0.0.closed };
+      runs = λ old new s moment r adds. (
+        subst (λ h. IsCommitted s statement h × (awaits_ack (of_item s h) ≡ false)) (sym adds.past_is)
+            (committed_spared (events.Acked s moment) old.past s (spares_ack s moment old.past) statement r.0.0, acked_now s statement old.past moment),
+        adds.task_is ∙ r.1,
+      );
+      nears = λ old new s. below_phase 3 2 _ _ _ _ _ _ (omega arith);
+    }
+moves_on_acked m owes = absurd (false≢true owes)

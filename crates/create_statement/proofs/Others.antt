@@ -51,6 +51,7 @@ module _ (old new : State) (t s : ℕ) (differ : t ≢ s) (e : Event) (mine : Is
       at_past (λ h. IsCommitted s statement h × (awaits_ack (of_item s h) ≡ false))
       (committed_spared e old.past s spared statement r.0, ap awaits_ack entries ∙ r.1)
   adds_on machine.Failed r = at_past (IsGivingUp s) (gives_up_on e old.past s spared r)
+  adds_on machine.Ended r = absurd r
 
 -- the past is the same
 module _ (old new : State) (s : ℕ) (same_past : new.past ≡ old.past) where
@@ -64,6 +65,7 @@ module _ (old new : State) (s : ℕ) (same_past : new.past ≡ old.past) where
   same_on (machine.Committed statement) r = as_before (λ h. IsCommitted s statement h × (awaits_ack (of_item s h) ≡ true)) r
   same_on (machine.Ending statement) r = as_before (λ h. IsCommitted s statement h × (awaits_ack (of_item s h) ≡ false)) r
   same_on machine.Failed r = as_before (IsGivingUp s) r
+  same_on machine.Ended r = absurd r
 
 runs_on : StaysByOne IsRunning
 runs_on old new t s m differ (inl same) keeps same_task r = (same_on old new s same m r.0, same_task ∙ r.1)
@@ -84,3 +86,4 @@ has_item state s (machine.Closed statement l) r = asks_some s statement state.pa
 has_item state s (machine.Committed statement) r = asks_some s statement state.past r.0.0.at
 has_item state s (machine.Ending statement) r = asks_some s statement state.past r.0.0.at
 has_item state s machine.Failed r = λ none. (let x = r.0.item in cc)
+has_item state s machine.Ended r = absurd r.0

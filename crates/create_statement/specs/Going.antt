@@ -12,3 +12,4 @@ to_go s state (machine.Closed stmt level) = left 4 0 0 0
 to_go s state (machine.Committed stmt) = left 3 0 0 0
 to_go s state (machine.Ending stmt) = left 2 0 0 0
 to_go s state machine.Failed = left 0 0 0 0
+to_go s state machine.Ended = left 0 0 0 0

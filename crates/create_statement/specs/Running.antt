@@ -16,6 +16,7 @@ RunsBy state s (machine.Closed stmt level) = IsToBegin s stmt level state.past �
 RunsBy state s (machine.Committed stmt) = IsCommitted s stmt state.past × (awaits_ack (of_item s state.past) ≡ true)
 RunsBy state s (machine.Ending stmt) = IsCommitted s stmt state.past × (awaits_ack (of_item s state.past) ≡ false)
 RunsBy state s machine.Failed = IsGivingUp s state.past
+RunsBy state s machine.Ended = ⊥
 
 -- it is about to tell its table to the history, for which an engine that logs its changes needs room in its log
 abbrev pub wants_room : CreateStatement → Bool

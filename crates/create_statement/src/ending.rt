@@ -31,7 +31,7 @@ pub fn finish<L: SharedLists>(
 {
     lists.end_done(session, stmt.get());
     drop(stmt);
-    (CreateStatement::Failed, Advance::Done(Reply::Done))
+    (CreateStatement::Ended, Advance::Done(Reply::Done))
 }
 
 pub fn step_ending<L: SharedLists>(
@@ -59,5 +59,5 @@ pub fn step_failed<L: SharedLists>(
     ensures quiet { count_by changes_rows lists.new.past ≡ count_by changes_rows lists.old.past }
 {
     lists.end(session, Reply::NoMemory);
-    (CreateStatement::Failed, Advance::Done(Reply::NoMemory))
+    (CreateStatement::Ended, Advance::Done(Reply::NoMemory))
 }

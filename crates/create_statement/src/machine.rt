@@ -1,13 +1,12 @@
 //! A CREATE TABLE under way, its beginning and its steps.
 //! `statement` makes one and steps it; only here, in `asking` and in `ending` does its state change.
 
-ghost use Rattle.std.specs.Prelude.{◌≡◌, ◌<◌, ℕ, true, false, length, count_by};
+ghost use Rattle.std.specs.Prelude.{◌≡◌, ◌<◌, ℕ, false, length, count_by};
 ghost use Rattle.sql_history.specs.Legal.{IsCreation};
 ghost use Rattle.shared_lists.specs.Tasks.{Idle};
 ghost use Rattle.shared_lists.specs.State.{State, task_of};
-ghost use Rattle.sql_lists.specs.Kept.{OwesAck};
-ghost use Rattle.sql_lists.specs.Steps.{IsTaken, Steps, StaysRunning, GoesOnAcked, changes_rows};
-ghost use Rattle.sql_lists.specs.Going.{Nears, NearsAcked};
+ghost use Rattle.sql_lists.specs.Steps.{IsTaken, StaysRunning, changes_rows};
+ghost use Rattle.giving_up.specs.Machines.{MayStep, StepsAs, MovesOnAcked};
 ghost use Rattle.create_statement.specs.Running.{IsRunning, owes_ack, acked, wants_room, without_room};
 ghost use Rattle.create_statement.specs.Going.{to_go};
 
@@ -31,6 +30,8 @@ pub enum CreateStatement {
     Ending { stmt: Boxed<Stmt> },
     /// No memory was found, and no table is made.
     Failed,
+    /// Its item has ended.
+    Ended,
 }
 
 impl CreateStatement {
@@ -69,9 +70,7 @@ impl CreateStatement {
 
     /// A commit that is owed stands in the past, and its acknowledgement brings the statement nearer to its end.
     pub fn an_acknowledgement_moves_it_on()
-        ensures owed { (state : State) (s : ℕ) (m : CreateStatement) → owes_ack m ≡ true → IsRunning state s m → OwesAck s state.past }
-        ensures runs { (m : CreateStatement) → owes_ack m ≡ true → GoesOnAcked IsRunning m (acked m) }
-        ensures nears { (m : CreateStatement) → owes_ack m ≡ true → NearsAcked to_go m (acked m) }
+        ensures { MovesOnAcked IsRunning to_go owes_ack acked }
     {}
 
     /// Whether the statement is about to tell its table to the history. An engine that logs its changes takes room in
@@ -107,11 +106,8 @@ impl CreateStatement {
         session: u32,
         lists: &mut SqlLists<L>,
     ) -> (Self, Advance)
-        requires joined { session < length lists.old.names }
-        requires running { IsRunning lists.old session self }
-        requires acked { owes_ack self ≡ false }
-        ensures steps { Steps IsRunning session lists.old lists.new result.0 result.1 }
-        ensures nears { Nears to_go session lists.old self lists.new result.0 result.1 }
+        requires { MayStep IsRunning owes_ack session lists.old self }
+        ensures step { StepsAs IsRunning to_go session lists.old self lists.new result.0 result.1 }
         ensures quiet { wants_room self ≡ false → count_by changes_rows lists.new.past ≡ count_by changes_rows lists.old.past }
     {
         match self {
@@ -121,7 +117,9 @@ impl CreateStatement {
             ),
             CreateStatement::Ending { stmt } => step_ending(stmt, session, lists),
             CreateStatement::Failed => step_failed(session, lists),
-            CreateStatement::Unacked { .. } | CreateStatement::Committed { .. } => unreachable!(),
+            CreateStatement::Unacked { .. }
+            | CreateStatement::Committed { .. }
+            | CreateStatement::Ended => unreachable!(),
         }
     }
 

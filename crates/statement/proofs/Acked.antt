@@ -15,11 +15,8 @@ moves_on_acked (statements.Transaction m) owes =
     let goes = of_transaction.moves_on_acked m owes in
     record { owed = goes.owed; runs = goes.runs; nears = λ old new s. inr (refl, goes.nears old new s) }
 moves_on_acked (statements.Create m) owes =
-    record {
-      owed = λ state s runs. of_create.owes_it s state m owes runs;
-      runs = of_create.goes_on_acked m owes;
-      nears = λ old new s. inr (refl, of_create.acked_nears m owes old new s);
-    }
+    let goes = of_create.moves_on_acked m owes in
+    record { owed = goes.owed; runs = goes.runs; nears = λ old new s. inr (refl, goes.nears old new s) }
 moves_on_acked (statements.Read m) owes =
     let goes = of_read.moves_on_acked m owes in
     record { owed = goes.owed; runs = goes.runs; nears = λ old new s. inr (refl, goes.nears old new s) }

@@ -1,7 +1,7 @@
 use Rattle.create_statement.proofs.Creations.{quiet}
 use Rattle.create_statement.proofs.Stepping.{may_finish}
 use Rattle.inno_types.specs.declared.reply.Reply.TheVariants.{Done}
-use Rattle.create_statement.specs.declared.machine.CreateStatement.TheVariants.{Failed}
+use Rattle.create_statement.specs.declared.machine.CreateStatement.TheVariants.{Ended}
 use Rattle.create_statement.proofs.Moving.{ends}
 use Rattle.create_statement.proofs.ending.finish.Goals as goal
 
@@ -15,4 +15,4 @@ end_done-requires-clause-quiet g c =
 
 pub returns-clause-steps : goal.returns-clause-steps
 returns-clause-steps g c =
-    ends c.args.session c.args.lists.now c.end_done.new.self Failed Done c.end_done.ensures c.requires.finished.rows_alone c.requires.idle
+    ends c.args.session c.args.lists.now c.end_done.new.self Ended Done c.end_done.ensures c.requires.finished.rows_alone c.requires.idle

@@ -1,11 +1,5 @@
-use Rattle.create_statement.proofs.Moving.{owes_it, goes_on_acked, acked_nears}
+use Rattle.create_statement.proofs.Moving.{moves_on_acked}
 use Rattle.create_statement.proofs.machine.CreateStatement.an_acknowledgement_moves_it_on.Goals as goal
 
-pub returns-clause-owed : goal.returns-clause-owed
-returns-clause-owed c = λ state s m owes r. owes_it s state m owes r
-
-pub returns-clause-runs : goal.returns-clause-runs
-returns-clause-runs c = goes_on_acked
-
-pub returns-clause-nears : goal.returns-clause-nears
-returns-clause-nears c = acked_nears
+pub returns : goal.returns
+returns c = moves_on_acked
