@@ -98,6 +98,7 @@ of_creations state s (creations.Closed statement l) legal r = inl r.0.1.made
 of_creations state s (creations.Committed statement) legal r = created s state.past legal statement r.0.0
 of_creations state s (creations.Ending statement) legal r = created s state.past legal statement r.0.0
 of_creations state s creations.Failed legal r = inl r.0.made
+of_creations state s creations.Ended legal r = absurd r.0
 
 -- ---- a statement on rows that ends
 
