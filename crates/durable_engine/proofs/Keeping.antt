@@ -107,11 +107,6 @@ stopped_cause s (progress.Stopped cause) old new steps = steps.1.cause_stays
 stopped_cause s progress.NoMemory old new steps = steps.cause_stays
 stopped_cause s other old new steps = elim steps [ ]
 
-pub started_cause : {X Y : Type 0} (result : Result X Y) (s : ℕ) (item : Item) (old new : StoppedState) → OnOk result (StoppedStarts s item old new)
-    → OnErr result (StoppedSameState old new) → new.cause ≡ old.cause
-started_cause (Ok x) s item old new ok err = ok.cause_stays
-started_cause (Err x) s item old new ok err = err.cause_stays
-
 -- a commit is acknowledged
 pub acked_on : {D : Type 0} (s moment : ℕ) (before after : D) (old new : LoggedState) → Acknowledges s moment old.sessions new.sessions
     → new.seats ≡ old.seats → is_at_work (phase_at old.seats s) ≡ true
@@ -168,7 +163,3 @@ stops_of s answer old before new taken steps =
       taken = taken;
       steps = steps;
     }
-
--- an engine that has stopped, or stops, has no item that gives up waiting
-pub never_waits : (s : ℕ) (answer : Progress) (old new : StoppedState) (reply : _) → StoppedStepsBy s answer old new → answer ≡ progress.Done reply → ⊥
-never_waits s answer old new reply steps is = subst (λ a. StoppedStepsBy s a old new) is steps

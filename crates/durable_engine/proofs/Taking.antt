@@ -11,12 +11,6 @@ use Rattle.commit_log.specs.View.{IsReady}
 use Rattle.commit_log.specs.DraftsView.{DraftView, draft_of}
 use Rattle.durable_engine.specs.Entering.{MayEnter, TellsOne, TellNone}
 
--- there is room for the change that the entry tells
-pub ready_for : (s : ℕ) (drafts : List DraftView) (e : Event) (later : List Event) → MayEnter s (draft_of s drafts).ready (e ∷ later) → IsReady s e drafts
-ready_for s drafts (events.Changed t change) later may =
-    elim may.tells [ inl ready ↦ (ready.0, ready.1.0) | inr none ↦ absurd (false≢true (sym none.0)) ]
-ready_for s drafts e later may = tt
-
 none_after : (e : Event) (later : List Event) → begins_txn e ≡ false → TellsOne (e ∷ later) → TellNone later
 none_after (events.Begin s n level) later plain tells = absurd (false≢true (sym plain))
 none_after (events.Changed s change) later plain tells = tells.1

@@ -44,32 +44,6 @@ module _ {D : Type 0} where
         others y (λ same. absurd (omega (arith, same))) ∙ rest.unjoined y far;
   }
 
-  pub same_rests : (a b : State D) → AreAtRest a → SameState a b → AreAtRest b
-  same_rests a b rest same = record {
-    rests = λ y idle. ap (under_way y) same.past_stays ∙ rest.rests y (sym (same.phases_stay y) ∙ idle);
-    unjoined = λ y beyond. same.phases_stay y ∙ rest.unjoined y (subst (λ (l : List (List ℕ)). length l ≤ y) same.names_stay beyond);
-  }
-
-  joined_rests : (name : List ℕ) (a b : State D) → AreAtRest a → Joins name a b → AreAtRest b
-  joined_rests name a b rest j = record {
-    rests = λ y idle. ap (under_way y) j.past_stays ∙ rest.rests y (sym (j.phases_stay y) ∙ idle);
-    unjoined = λ y beyond.
-        let more : length b.names ≡ length a.names + 1 = ap (λ l. length l) j.names_are ∙ length-append a.names (name ∷ []) in
-        j.phases_stay y ∙ rest.unjoined y (omega (arith, more));
-  }
-
-  started_rests : (s : ℕ) (item : Item) (a b : State D) → AreAtRest a → s < length a.names → Starts s item a b → AreAtRest b
-  started_rests s item a b rest joined st = rests_on s a b rest joined st.names_stay st.others_stay (record {
-    others = λ y apart. ap (under_way y) st.past_is ∙ rw (ne_eqb s y (λ same. apart (sym same))) refl;
-    own = λ idle. absurd (no_idle (phase_at b.seats s) st.works idle);
-  })
-
-  pub leaving_rests : (s : ℕ) (a b : State D) → AreAtRest a → s < length a.names → Leaves s a b → AreAtRest b
-  leaving_rests s a b rest joined l = rests_on s a b rest joined l.names_stay l.others_stay (record {
-    others = λ y apart. ap (under_way y) l.past_stays;
-    own = λ idle. let leaving = l.leaving in absurd (cc);
-  })
-
   -- the entry by which an item ends
   ended_turns : (s j : ℕ) (reply : Reply) (a b : State D) (past : List Event) → b.past ≡ Ended s j reply ∷ past
       → ((y : ℕ) → under_way y past ≡ under_way y a.past) → Turns s a b
@@ -114,15 +88,4 @@ module _ {D : Type 0} where
   stepped_rests s (progress.Stopped cause) a b rest joined works h =
       rests_on s a b rest joined h.0.names_stay h.0.others_stay (halted_turns s a b (phase_at a.seats s) works h.2.past_is h.2.phase_is)
   stepped_rests s other a b rest joined works h = elim h [ ]
-
   -- ---- by a call's answer
-
-  pub join_rests : {A B : Type 0} (r : Result A B) (name : List ℕ) (a b : State D) → AreAtRest a → OnOk r (Joins name a b) → OnErr r (SameState a b)
-      → AreAtRest b
-  join_rests (Ok x) name a b rest ok err = joined_rests name a b rest ok
-  join_rests (Err x) name a b rest ok err = same_rests a b rest err
-
-  pub start_rests : {A B : Type 0} (r : Result A B) (s : ℕ) (item : Item) (a b : State D) → AreAtRest a → s < length a.names
-      → OnOk r (Starts s item a b) → OnErr r (SameState a b) → AreAtRest b
-  start_rests (Ok x) s item a b rest joined ok err = started_rests s item a b rest joined ok
-  start_rests (Err x) s item a b rest joined ok err = same_rests a b rest err
