@@ -31,22 +31,6 @@ put_rewrites page at bytes old new some puts = record {
   visited_is = puts.visited_is;
 }
 
-pub rewrites_then : (page : ℕ) (bytes : List ℕ) (change : List ℕ → List ℕ) (a b c : MtrState) → Rewrites page bytes a b
-    → Rewrites page (change (b.seen page)) b c → Rewrites page (change bytes) a c
-rewrites_then page bytes change a b c first next = record {
-  goes = goes_then a b c first.goes next.goes;
-  pages = λ told.
-      let before = first.pages (next.goes.told told) in
-      let sees = next.pages told in
-      record {
-        standing = sees.standing ∙ before.standing;
-        fault = sees.fault ∙ before.fault;
-        here = sees.here ∙ ap change before.here;
-        elsewhere = λ other ne. sees.elsewhere other ne ∙ before.elsewhere other ne;
-      };
-  visited_is = next.visited_is ∙ first.visited_is;
-}
-
 pub rewrites_touches : (page : ℕ) (bytes : List ℕ) (old new : MtrState) → Rewrites page bytes old new → Touches page old new
 rewrites_touches page bytes old new done = record {
   goes = done.goes;
@@ -54,15 +38,6 @@ rewrites_touches page bytes old new done = record {
   fault = λ told. (done.pages told).fault;
   elsewhere = λ told. (done.pages told).elsewhere;
   visits = visits_none (page ∷ []) old new done.visited_is;
-}
-
-pub touches_none : (page : ℕ) (s : MtrState) → Touches page s s
-touches_none page s = record {
-  goes = record { told = λ told. told; stays = λ told good. told; faults = omega arith; whole = refl };
-  standing = λ told. refl;
-  fault = λ told. refl;
-  elsewhere = λ told other ne. refl;
-  visits = visits_none (page ∷ []) s s refl;
 }
 
 pub touches_then : (page : ℕ) (a b c : MtrState) → Touches page a b → Touches page b c → Touches page a c
@@ -115,20 +90,6 @@ ends_committed page a b c d begun touched committed = record {
         spare = committed.spare;
       };
 }
-
--- why a change isn't made, where all is given up
-pub change_reason : (leaf : ℕ) (a b c d : MtrState) (why : SpaceBad) → GivesUp a b → Touches leaf b c → IsLeafReason leaf b c why → GivesUp c d
-    → why ≢ space.Visit Again → IsChangeReason a d why
-change_reason leaf a b c d space.Full begun touched reason given other = reason
-change_reason leaf a b c d (space.Visit Failed) begun touched rose given other =
-    let first = begun.goes.faults in
-    let last = given.goes.faults in
-    omega arith
-change_reason leaf a b c d (space.Visit Again) begun touched reason given other = absurd (other refl)
-change_reason leaf a b c d (space.Visit (Bad number rule)) begun touched bad given other = λ told.
-    let before = given.goes.told told in
-    sym (ap (λ (f : ℕ → _). f number) (begun.fault (touched.goes.told before))) ∙ bad before
-change_reason leaf a b c d space.NoMemory begun touched reason given other = tt
 
 -- a leaf that isn't at hand is left as it was
 pub put_off : (leaf : ℕ) (a b c : MtrState) → GivesUp a b → IsLeafReason leaf b c (space.Visit Again) → GivesUp a c × IsChangeReason a c (space.Visit Again)

@@ -20,22 +20,9 @@ module _ (tree : Tree) (number level : ℕ) (bytes image : List ℕ) (old first 
   one : Rewrites number (with_bytes 20 (drop 20 bytes) (old.seen number)) old first
   one = put_rewrites number 20 (drop 20 bytes) old first (λ told. (good told).some_number) put_moved
 
-  pub moved_on : GoesOn 0 old first
-  moved_on = rewrote_on number (with_bytes 20 (drop 20 bytes) (old.seen number)) old first one
-
-  pub root_within : IsWithin tree.root first
-  root_within told =
-      let is = good (one.goes.told told) in
-      subst (λ (l : List ℕ). tree.root < capacity_of (record first { seen = λ _. l }))
-      (sym ((one.pages told).elsewhere 0 (λ same. is.some_number (sym same)))) is.root_counted
-
   module _ (second : MtrState) (put_root : Puts tree.root 20 (drop 20 image) first second) where
     two : Rewrites tree.root (with_bytes 20 (drop 20 image) (first.seen tree.root)) first second
     two = put_rewrites tree.root 20 (drop 20 image) first second (λ told. (good (one.goes.told told)).some_root) put_root
-
-    pub both_on : GoesOn 0 old second
-    both_on = on_then 0 0 0 old first second (omega arith) moved_on
-        (rewrote_on tree.root (with_bytes 20 (drop 20 image) (first.seen tree.root)) first second two)
 
     pub raises : length bytes ≡ 4096 → length image ≡ 4096 → (HasTreeFields bytes → IsRaised tree.key_len number level bytes image) → IsTrue second.told
         → RaisesTree tree number old.seen second.seen

@@ -14,13 +14,6 @@ use Rattle.btree_grow.specs.Taken.{AreReserved, TakesPage}
 use Rattle.btree_grow.proofs.Going.{on_then, marked_on, made_on}
 
 module _ (page : ℕ) (a b : MtrState) (takes : Takes page a b) where
-  pub taken_within : IsWithin page b
-  taken_within told =
-      let marks = (takes.marks.pages told) in
-      let free = takes.was_free told in
-      let zero_same : b.seen 0 ≡ a.seen 0 = marks.seen.elsewhere 0 (λ is. omega (arith, is)) in
-      subst (λ (l : List ℕ). page < u32_at 44 l) (sym zero_same) free.within
-
   module _ (c : MtrState) (counts : IsTrue b.told → HasPageCount a.seen) (reserved : IsTrue a.told → AreReserved a.seen) (makes : Makes page b c) where
     pub taken : IsTrue c.told → TakesPage page a.seen c.seen
     taken told =

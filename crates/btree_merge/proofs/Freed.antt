@@ -12,11 +12,6 @@ use Rattle.btree_merge.specs.Going.{GoesOn}
 use Rattle.btree_merge.proofs.Going.{on_then, marked_on, made_on}
 
 module _ (page : ℕ) (a b : MtrState) (marks : Marks page 0 a b) where
-  pub still_within : IsWithin page a → IsWithin page b
-  still_within within told =
-      let zero_same : b.seen 0 ≡ a.seen 0 = (marks.pages told).seen.elsewhere 0 (λ is. omega (arith, is)) in
-      subst (λ (l : List ℕ). page < u32_at 44 l) (sym zero_same) (within (marks.goes.told told))
-
   module _ (c : MtrState) (beyond : IsTrue a.told → 20 < page) (small : IsTrue a.told → page < 65536) (makes : Makes page b c) where
     pub freed : IsTrue c.told → FreesPage page a.seen c.seen
     freed told =

@@ -156,19 +156,6 @@ rose_sooner : (a b c : ℕ) → b ≤ c → Rose a b → Rose a c
 rose_sooner a b c next rose = omega arith
 
 module _ {M : Type 0} (state : M → MtrState) where
-  by_cause : (m : M) (page : ℕ) (new : MtrState) (why : Visit) → Looks (state m).visited (state m) new → Explains page (state m) new why
-      → IsStop state (state m) new why
-  by_cause m page new Failed looks rose = rose
-  by_cause m page new Again looks shut = (m, page, shut.0)
-  by_cause m page new (Bad number rule) looks bad = λ told. inl (ap (state m).fault bad.0 ∙ bad.1 (looks.goes.told told))
-
-  -- a page that was asked for
-  pub stop_asked : {T : Type 0} (m : M) (page : ℕ) (new : MtrState) (result : Result T Visit) (why : Visit) → result ≡ Err why
-      → Asks page (state m) result new → IsStop state (state m) new why
-  stop_asked {T} m page new result why is asks =
-      let both : Looks (state m).visited (state m) new × Explains page (state m) new why = subst (λ (r : Result T Visit). Asks page (state m) r new) is asks in
-      by_cause m page new why both.0 both.1
-
   -- after calls that leave page 0
   pub stop_later : (n : ℕ) (a b c : MtrState) (why : Visit) → GoesOn n a b → (IsTrue b.told → b.seen 0 ≡ a.seen 0) → Goes b c → IsStop state b c why
       → IsStop state a c why
@@ -190,31 +177,3 @@ module _ {M : Type 0} (state : M → MtrState) where
   reason_later n a b c space.Full on zero goes none = none
   reason_later n a b c (space.Visit why) on zero goes stop = stop_later n a b c why on zero goes stop
   reason_later n a b c space.NoMemory on zero goes none = tt
-
-  pub stop_read : (n : ℕ) (a b c : MtrState) (why : Visit) → Reads n a b → Goes b c → IsStop state b c why → IsStop state a c why
-  stop_read n a b c why reads goes stop = stop_later n a b c why reads.on (λ told. ap (λ (f : ℕ → List ℕ). f 0) (reads.seen told)) goes stop
-
-  pub reason_read : (n : ℕ) (a b c : MtrState) (why : SpaceBad) → Reads n a b → Goes b c → IsMergeReason state b c why → IsMergeReason state a c why
-  reason_read n a b c why reads goes reason = reason_later n a b c why reads.on (λ told. ap (λ (f : ℕ → List ℕ). f 0) (reads.seen told)) goes reason
-
-  -- before calls that follow
-  pub stop_sooner : (a b c : MtrState) (why : Visit) → Goes b c → IsStop state a b why → IsStop state a c why
-  stop_sooner a b c Failed goes rose = rose_sooner a.faults b.faults c.faults goes.faults rose
-  stop_sooner a b c Again goes shut = shut
-  stop_sooner a b c (Bad number rule) goes bad = λ told. bad (goes.told told)
-
-  pub reason_sooner : (a b c : MtrState) (why : SpaceBad) → Goes b c → IsMergeReason state a b why → IsMergeReason state a c why
-  reason_sooner a b c space.Full goes none = none
-  reason_sooner a b c (space.Visit why) goes stop = stop_sooner a b c why goes stop
-  reason_sooner a b c space.NoMemory goes none = tt
-
-  -- a page isn't given back
-  stop_given : (old : MtrState) (m : M) (why : Visit) → IsReason map_pages Miscounts old (state m) why → IsStop state old (state m) why
-  stop_given old m Failed rose = rose
-  stop_given old m Again shut = (m, shut.0, shut.2)
-  stop_given old m (Bad page rule) bad = bad.1
-
-  pub reason_given : (old : MtrState) (m : M) (why : SpaceBad) → IsGiveReason old (state m) why → IsMergeReason state old (state m) why
-  reason_given old m space.Full none = none
-  reason_given old m (space.Visit why) reason = stop_given old m why reason
-  reason_given old m space.NoMemory few = tt

@@ -65,9 +65,6 @@ module _ (old other moved : List ℕ) (size : length old ≡ 4096) (other_size :
   rs_bytes : length rs * w ≡ count_of old * w
   rs_bytes = ap (λ k. k * w) rs_length
 
-  qs_bytes : length qs * w ≡ count_of other * record_len_of other
-  qs_bytes = (λ j. qs_length j * sym alike j)
-
   sum : (count_of old + count_of other) * w ≡ count_of old * w + length qs * w
   sum = let more = ap (λ k. k * w) qs_length in omega (arith, more)
 

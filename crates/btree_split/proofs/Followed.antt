@@ -40,22 +40,6 @@ room_told false bytes page same none = λ room. none (room_shown page bytes (sym
 
 -- ---- one page more
 
-pub ends_room : (pages : ℕ → List ℕ) (way : List ℕ) (page : ℕ) → HasRoom (pages page) → EndsFull pages (way ++ page ∷ []) (Some page) 0
-ends_room pages way page room = (way, [], refl, room, tt, refl)
-
-pub ends_full : (pages : ℕ → List ℕ) (way : List ℕ) (page : ℕ) (above : Option ℕ) (full : ℕ) → (HasRoom (pages page) → ⊥) → EndsFull pages way above full
-    → EndsFull pages (way ++ page ∷ []) above (full + 1)
-ends_full pages way page None full none ends =
-    (both (λ p. HasRoom (pages p) → ⊥) way (page ∷ []) ends.0 (none, tt), length-append way (page ∷ []) ∙ ap (λ k. k + 1) ends.1)
-ends_full pages way page (Some p) full none ends = (
-  ends.0,
-  ends.1 ++ page ∷ [],
-  ap (λ l. l ++ page ∷ []) ends.2 ∙ append_assoc ends.0 (p ∷ ends.1) (page ∷ []),
-  ends.3,
-  both (λ r. HasRoom (pages r) → ⊥) ends.1 (page ∷ []) ends.4 (none, tt),
-  length-append ends.1 (page ∷ []) ∙ ap (λ k. k + 1) ends.5,
-)
-
 way_more : (node : ℕ → Node) (key : List ℕ) (tops : List (List ℕ)) (way upper : List ℕ) (page : ℕ) → IsWayTo node key tops way → Holds node upper key page
     → IsWayTo node key (tops ++ upper ∷ []) (way ++ page ∷ [])
 way_more node key [] [] upper page leads holds = (holds, tt)

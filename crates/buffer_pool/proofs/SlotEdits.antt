@@ -80,9 +80,6 @@ kept_moved_by {slots} {slots'} {order} {order'} from page slot pool a b =
     let more = slice_set (swap slots from page) page slot in
     subst (λ xs. IsPool xs order') (sym a) (subst (IsPool more) (sym b) (kept-used more order page (kept-moved slots order from page slot pool)))
 
-pub kept_set_by : {slots slots' : List (Option FrameView)} {order : List ℕ} (page : ℕ) (slot : Option FrameView) → IsPool slots order → slots' ≡ slice_set slots page slot → IsPool slots' order
-kept_set_by {slots} {slots'} {order} page slot pool a = subst (λ xs. IsPool xs order) (sym a) (kept-set slots order page slot pool)
-
 -- how often an absent frame is fixed says nothing
 pub few_of : (slot : Option FrameView) (most : ℕ) → option_map_or (λ (frame : FrameView). frame.fixes) slot 0 < most → IfSome slot (λ frame. frame.fixes < most)
 few_of None most h = tt

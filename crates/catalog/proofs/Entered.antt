@@ -67,14 +67,6 @@ leaves_then s table which (first ∷ roots) root pages last is leaves leaf = (le
 fixed_out : (roots : List ℕ) (page : ℕ) → ((p : ℕ) → is_in p roots ≡ true → 21 ≤ p) → page < 21 → is_in page roots ≡ false
 fixed_out roots page above low = is_out (is_in page roots) (λ h. omega (arith, above page h))
 
--- there are roots, and so pages behind the fixed ones
-pub has_fixed : (n : ℕ) (roots : List ℕ) (old new : MtrState) → length roots ≡ 1 + n → ((p : ℕ) → is_in p roots ≡ true → 21 ≤ p) → Reserves roots [] old new → IsWithin 20 new
-has_fixed n [] old new count above reserves = absurd (omega (arith, count))
-has_fixed n (root ∷ roots) old new count above reserves = λ told.
-    let pages = reserves.pages told in
-    let here = in_head root roots in
-    omega (arith, above root here, (pages.were_free root here).within, pages.counted)
-
 module _ (s : Schema) (table : ℕ) (roots : List ℕ) (old between mid new : MtrState) (makeable : is_makeable s ≡ true) (inside : table < 16) (looked : Consults asked_pages old between)
     (room : IsTrue old.told → HasRoom s.name old.seen) (number : IsTrue between.told → (n : ℕ) → n < 16 → IsFilled n old.seen → table ≡ n) (made : MakesRoots s table (1 + length s.keys) roots between mid) (put' : PutsEntry s table roots mid new) where
   abbrev entry : List ℕ

@@ -44,13 +44,6 @@ take_reason old new space.Full reason = λ told.
 take_reason old new (space.Visit why) reason = visit_reason map_pages map_asked old new why reason
 take_reason old new space.NoMemory reason = tt
 
-pub fresh_reason : (page : ℕ) (old mid new : MtrState) (why : SpaceBad) → new ≡ mid → (IsTrue mid.told → (page < 65536) × IsFree old page) → IsFreshReason page mid why → IsCreateReason 1 old new why
-fresh_reason page old mid new space.Full same free reason = absurd reason
-fresh_reason page old mid new (space.Visit Failed) same free reason = absurd reason
-fresh_reason page old mid new (space.Visit Again) same free reason = (page, inr (λ told. free (subst (λ (s : MtrState). IsTrue s.told) same told)), subst (IsShut page) (sym same) reason)
-fresh_reason page old mid new (space.Visit (Bad number rule)) same free reason = absurd reason
-fresh_reason page old mid new space.NoMemory same free reason = tt
-
 -- ---- after pages were taken
 
 rose_later : (a b c : ℕ) → a ≤ b → Rose b c → Rose a c
@@ -88,11 +81,6 @@ module _ (roots written : List ℕ) (old mid new : MtrState) (taken : Reserves r
       omega (arith, reason told, pages.free, ap (free_among mid.seen 0) pages.counted, enough)
   create_reason_later less need (space.Visit why) enough reason = visit_reason_later why reason
   create_reason_later less need space.NoMemory enough reason = tt
-
-pub put_reason : (old new : MtrState) (why : SpaceBad) → IsPutReason old new why → IsCreateReason 0 old new why
-put_reason old new space.Full reason = absurd reason
-put_reason old new (space.Visit why) reason = visit_reason asked_pages (λ page h. h) old new why reason
-put_reason old new space.NoMemory reason = tt
 
 -- ---- what is left
 

@@ -22,12 +22,6 @@ module _ (root : ℕ) (old first : MtrState) (takes : taking.Takes root old firs
   pub taken : Reserves (root ∷ []) [] old first
   taken = reserves_taken root old first takes counts
 
-  pub within_first : IsWithin root first
-  within_first = λ told. omega (arith, (takes.was_free told).within, (taken.pages told).counted)
-
-  pub free_root : IsTrue first.told → (root < 65536) × IsFree old root
-  free_root told = ((taken.pages told).inside root (in_head root []), takes.was_free told)
-
   pub claim_first : claim map_pages first.visited ≡ claim map_pages old.visited
   claim_first = claim_left map_pages old first distinct_map_pages takes.marks.visits
 

@@ -30,16 +30,6 @@ no_roots count page held in_use begins beyond = λ fields.
     let shown = shows_entry count page fields.0 in_use fields.1 in
     beyond (subst (λ (h : Held). All (λ root. root < count) h.roots) (one_entry (drop 33 page) shown.0 held shown.1.entry begins) shown.1.roots)
 
-has_head : (count : ℕ) (page : List ℕ) (shown : Option Held) → Shows count page shown → (kind_of page ≡ 2) × (slice_index page 32 ≤ 1)
-has_head count page None unused = (unused.kind, omega (arith, unused.in_use))
-has_head count page (Some held) holds = (holds.head.kind, omega (arith, holds.head.in_use))
-
-pub no_kind : (count : ℕ) (page : List ℕ) → (kind_of page ≡ 2 → ⊥) → IsNoTable count page Shape
-no_kind count page other = λ fields. other (has_head count page fields.0 fields.1).0
-
-pub no_mark : (count : ℕ) (page : List ℕ) → (slice_index page 32 ≤ 1 → ⊥) → IsNoTable count page Shape
-no_mark count page other = λ fields. other (has_head count page fields.0 fields.1).1
-
 -- ---- bytes that show a page
 
 head_behind : (mark : ℕ) (a b : List ℕ) → drop 20 a ≡ drop 20 b → IsCatalogPage mark a → IsCatalogPage mark b

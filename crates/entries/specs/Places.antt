@@ -20,8 +20,3 @@ pub record IsFoundAt (key : List ℕ) (pairs : List Pair) (at : ℕ) : Type 0 wh
   pub stands : StandsAt key pairs at
   pub in_range : at < length pairs
   pub there : is_some (value_of key pairs) ≡ true
-
-pub record IsMissedAt (key : List ℕ) (pairs : List Pair) (at : ℕ) : Type 0 where
-  pub gap : IsGapAt key pairs at
-  pub in_range : at ≤ length pairs
-  pub absent : value_of key pairs ≡ None

@@ -17,16 +17,6 @@ use Rattle.file_zero.specs.Reading.{IsRead, SaysHeader, HasGroups, IsFound}
 use Rattle.file_zero.specs.Refused.{IsRefused, IsTooMany, IsOther, IsMissing, IsFirstPage, HasNoFirstPage, IsFailure, IsLeft}
 use Rattle.store_api.proofs.Looks.{Now-stays}
 
-pub refused_later : (old mid new : Past) (why : MountBad) → old.faults ≤ mid.faults → IsRefused mid new why → IsRefused old new why
-refused_later old mid new Disk le rose = omega (arith, le, rose)
-refused_later old mid new NotInitialised le why = why
-refused_later old mid new (Version found) le why = why
-refused_later old mid new (Damaged area place stored computed) le why = why
-refused_later old mid new NoMemory le why = why
-refused_later old mid new (Malformed page rule) le why = why
-refused_later old mid new (NotEmpty bytes) le why = why
-refused_later old mid new (TooLarge rows) le why = why
-
 -- page 0 is another thing
 pub other_refused : (old new : Past) (page : List ℕ) (why : MountBad) → Now (λ s. IsPageIn s.pages.seen s.double.seen 0 (Some page)) new → IsOther page why
     → IsRefused old new why

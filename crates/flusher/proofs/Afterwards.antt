@@ -4,18 +4,6 @@ use Rattle.store_api.specs.Past.{Past}
 use Rattle.redo_log.specs.Elsewhere.{LeavesBeside}
 use Rattle.doublewrite.specs.Places.{Leads, LeavesPages}
 
-pub leads_none : (past : Past) → Leads LeavesPages past past
-leads_none past = record { later = omega arith; now = λ s ticks is. (s, is, refl) }
-
--- a call of the log
-pub log_leads : (old new : Past) → LeavesBeside old new → Leads LeavesPages old new
-log_leads old new leaves = record {
-  later = leaves.later;
-  now = λ s ticks is.
-      let before = leaves.each new.moment s ticks leaves.later (omega arith) is in
-      (before.0, before.1, before.2.pages);
-}
-
 pub leads_join : (old mid new : Past) → Leads LeavesPages old mid → Leads LeavesPages mid new → Leads LeavesPages old new
 leads_join old mid new first next = record {
   later = omega (arith, first.later, next.later);

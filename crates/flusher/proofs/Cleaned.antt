@@ -18,12 +18,6 @@ use Rattle.flusher.specs.Cleaning.{is_among, cleaned, CleansBy, Cleans, CleansOn
 abbrev content_if : Content → Bool → Content
 content_if content test = if is_changed content && test then Clean else content
 
-content_none : (content : Content) → content_if content false ≡ content
-content_none Empty = refl
-content_none New = refl
-content_none Clean = refl
-content_none Dirty = refl
-
 content_twice : (content : Content) (a b : Bool) → content_if (content_if content a) b ≡ content_if content (b || a)
 content_twice Empty a b = refl
 content_twice New a b = refl
@@ -32,9 +26,6 @@ content_twice Dirty true true = refl
 content_twice Dirty true false = refl
 content_twice Dirty false true = refl
 content_twice Dirty false false = refl
-
-content_unchanged : (content : Content) (test : Bool) → is_changed content ≡ false → content_if content test ≡ content
-content_unchanged content test is = ap (λ (b : Bool). if b && test then Clean else content) is
 
 page_still : (content : Content) (test : Bool) → is_page (content_if content test) ≡ is_page content
 page_still Empty test = refl
@@ -57,27 +48,7 @@ changed_left Clean test = refl
 changed_left Dirty true = refl
 changed_left Dirty false = refl
 
-bare_unchanged : (content : Content) → is_page content ≡ false → is_changed content ≡ false
-bare_unchanged Empty is = refl
-bare_unchanged New is = refl
-bare_unchanged Clean is = refl
-bare_unchanged Dirty is = cc
-
 -- ---- a slot
-
-slot_none : (test : ℕ → Bool) (slot : Option FrameView) → ((lsn : ℕ) → test lsn ≡ false) → option_map (cleaned test) slot ≡ slot
-slot_none test None never = refl
-slot_none test (Some frame) never =
-    let same : content_if frame.content (test (lsn_of frame.bytes)) ≡ frame.content = ap (content_if frame.content)
-    (never (lsn_of frame.bytes)) ∙ content_none frame.content in
-    ap (λ (content : Content). Some (marked content frame.fixes frame)) same
-
-slot_bare : (test : ℕ → Bool) (slot : Option FrameView) → option_map_or holds_page slot false ≡ false
-    → option_map (cleaned test) slot ≡ slot
-slot_bare test None bare = refl
-slot_bare test (Some frame) bare =
-    ap (λ (content : Content). Some (marked content frame.fixes frame))
-    (content_unchanged frame.content (test (lsn_of frame.bytes)) (bare_unchanged frame.content bare))
 
 slot_twice : (a b : ℕ → Bool) (slot : Option FrameView)
     → option_map (cleaned b) (option_map (cleaned a) slot) ≡ option_map (cleaned (λ lsn. b lsn || a lsn)) slot
@@ -85,16 +56,7 @@ slot_twice a b None = refl
 slot_twice a b (Some frame) =
     ap (λ (content : Content). Some (marked content frame.fixes frame)) (content_twice frame.content (a (lsn_of frame.bytes)) (b (lsn_of frame.bytes)))
 
-slot_here : (test : Bool) (lsn : ℕ) (slot : Option FrameView) → test ≡ true
-    → option_map (placed lsn) slot ≡ option_map (cleaned (λ at. test && at == lsn)) slot
-slot_here test lsn None is = refl
-slot_here test lsn (Some frame) is =
-    ap (λ (b : Bool). Some (marked (content_if frame.content (b && lsn_of frame.bytes == lsn)) frame.fixes frame)) (sym is)
-
 -- ---- a pool
-
-pub cleans_none : (batch : BatchView) (pool : PoolView) → Cleans batch 0 pool pool
-cleans_none batch pool = record { order = refl; slots = refl; frames = λ page. sym (slot_none (λ lsn. false) (slot_of pool page) (λ lsn. refl)) }
 
 pub cleans_more : (batch : BatchView) (k : ℕ) (a b c : PoolView) → Cleans batch k a b → CleansOne (page_at batch k) b c
     → Cleans batch (suc k) a c
@@ -104,51 +66,6 @@ cleans_more batch k a b c first next = record {
   frames = λ page.
       let one : ℕ → Bool = λ lsn. number_at batch k == page && lsn == lsn_of (page_at batch k) in
       next.frames page ∙ (ap (option_map (cleaned one)) (first.frames page) ∙ slot_twice (is_among batch k page) one (slot_of a page));
-}
-
--- the page isn't in the pool
-pub cleans_absent : (bytes : List ℕ) (pool : PoolView) → is_pooled pool (number_of bytes) ≡ false → CleansOne bytes pool pool
-cleans_absent bytes pool bare = record {
-  order = refl;
-  slots = refl;
-  frames = λ page.
-      let test : ℕ → Bool = λ lsn. number_of bytes == page && lsn == lsn_of bytes in
-      ⊎_elim
-      (λ (here : ((number_of bytes == page) ≡ true) × (number_of bytes ≡ page)). sym
-      (slot_bare test (slot_of pool page) (subst (λ (n : ℕ). is_pooled pool n ≡ false) here.1 bare)))
-      (λ (other : ((number_of bytes == page) ≡ false) × (number_of bytes ≢ page)).
-      sym (slot_none test (slot_of pool page) (λ lsn. ap (λ (b : Bool). b && lsn == lsn_of bytes) other.0)))
-      (eqb_tells (number_of bytes) page);
-}
-
-slots_here : (slots : List (Option FrameView)) (page : ℕ) (edit : FrameView → FrameView)
-    → slice_index_or (slice_set slots page (option_map edit (slice_index_or slots page None))) page None ≡ option_map edit (slice_index_or slots page None)
-slots_here slots page edit = ⊎_elim
-    (λ (within : page < length slots). get_or-set_same slots page (option_map edit (slice_index_or slots page None)) None within)
-    (λ (past : length slots ≤ page).
-    let gone : slice_index_or slots page None ≡ None = get_or_past slots page None past in
-    get_or_past (slice_set slots page (option_map edit (slice_index_or slots page None))) page None
-    (omega (arith, past, length-set slots page (option_map edit (slice_index_or slots page None))))
-    ∙ sym (ap (option_map edit) gone))
-    (cases_lt page (length slots))
-
--- the page is in the pool, which is told that it was placed
-pub cleans_one : (bytes : List ℕ) (pool : PoolView) → CleansOne bytes pool (at_slot (number_of bytes) (placed (lsn_of bytes)) pool)
-cleans_one bytes pool = record {
-  order = refl;
-  slots = length-set pool.slots (number_of bytes) (option_map (placed (lsn_of bytes)) (slot_of pool (number_of bytes)));
-  frames = λ page.
-      let test : ℕ → Bool = λ lsn. number_of bytes == page && lsn == lsn_of bytes in
-      let new = slice_set pool.slots (number_of bytes) (option_map (placed (lsn_of bytes)) (slot_of pool (number_of bytes))) in
-      ⊎_elim
-      (λ (here : ((number_of bytes == page) ≡ true) × (number_of bytes ≡ page)).
-      subst (λ (n : ℕ). slice_index_or new n None ≡ option_map (cleaned (λ lsn. number_of bytes == n && lsn == lsn_of bytes)) (slot_of pool n)) here.1
-      (slots_here pool.slots (number_of bytes) (placed (lsn_of bytes))
-      ∙ slot_here (number_of bytes == number_of bytes) (lsn_of bytes) (slot_of pool (number_of bytes)) (eq-eqb (number_of bytes) (number_of bytes) refl)))
-      (λ (other : ((number_of bytes == page) ≡ false) × (number_of bytes ≢ page)).
-      get_or-set_other pool.slots (number_of bytes) page (option_map (placed (lsn_of bytes)) (slot_of pool (number_of bytes))) None (λ same. other.1 (sym same))
-      ∙ sym (slot_none test (slot_of pool page) (λ lsn. ap (λ (b : Bool). b && lsn == lsn_of bytes) other.0)))
-      (eqb_tells (number_of bytes) page);
 }
 
 -- ---- what stays

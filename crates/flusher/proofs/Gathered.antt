@@ -20,21 +20,6 @@ use Rattle.flusher.proofs.Counting.{count_less}
 
 -- ---- changed pages of a pool
 
-changed_page : (content : Content) → is_changed content ≡ true → is_page content ≡ true
-changed_page Empty is = cc
-changed_page New is = cc
-changed_page Clean is = cc
-changed_page Dirty is = refl
-
-slot_dirty : (slot : Option FrameView) → option_map_or (λ (frame : FrameView). is_changed frame.content) slot false ≡ true
-    → option_map_or holds_page slot false ≡ true
-slot_dirty None is = cc
-slot_dirty (Some frame) is = changed_page frame.content is
-
--- a changed page is in the pool
-pub dirty_pooled : (pool : PoolView) (page : ℕ) → is_dirty pool page ≡ true → is_pooled pool page ≡ true
-dirty_pooled pool page is = slot_dirty (slot_of pool page) is
-
 -- and one of its pages
 pub dirty_past : (pool : PoolView) (page : ℕ) → length pool.slots ≤ page → is_dirty pool page ≡ false
 dirty_past pool page past = ap (λ (slot : Option FrameView). option_map_or (λ (frame : FrameView). is_changed frame.content) slot false)
@@ -48,32 +33,9 @@ dirty_within pool page is = ⊎_elim
 
 -- ---- one page more
 
-pub gathers_none : (pool : PoolView) (batch : BatchView) → batch.count ≡ 0 → Gathers 0 pool batch
-gathers_none pool batch none = record {
-  below = λ k in_k. absurd (omega (arith, none, in_k));
-  dirty = λ k in_k. absurd (omega (arith, none, in_k));
-  sealed = λ k in_k. absurd (omega (arith, none, in_k));
-  none = λ is page in_page. absurd (omega (arith, in_page));
-}
-
-pub gathers_past : (page : ℕ) (pool : PoolView) (batch : BatchView) → Gathers page pool batch → is_dirty pool page ≡ false
-    → Gathers (suc page) pool batch
-gathers_past page pool batch so_far clean = record {
-  below = λ k in_k. let low = so_far.below k in_k in omega (arith, low);
-  dirty = so_far.dirty;
-  sealed = so_far.sealed;
-  none = λ is q in_q. ⊎_elim
-      (λ (before : q < page). so_far.none is q before)
-      (λ (from : page ≤ q). let same : page ≡ q = omega (arith, from, in_q) in subst (λ (n : ℕ). is_dirty pool n ≡ false) same clean)
-      (cases_lt q page);
-}
-
 module _ (page : ℕ) (pool : PoolView) (old new : BatchView) (bytes : List ℕ) (so_far : Gathers page pool old) (count : new.count ≡ old.count + 1)
     (earlier : (k : ℕ) → k < old.count → page_at new k ≡ page_at old k) (last : page_at new old.count ≡ bytes)
     (is_sealed : IsSealed page (bytes_of pool page) bytes) (is_changed : is_dirty pool page ≡ true) where
-  number_last : number_at new old.count ≡ page
-  number_last = ap number_of last ∙ is_sealed.number_is
-
   module _ (P : ℕ → List ℕ → Type 0) (all : (k : ℕ) → k < old.count → P (number_at old k) (page_at old k)) (here : P page bytes) where
     each : (k : ℕ) → k < new.count → P (number_at new k) (page_at new k)
     each k in_k = ⊎_elim

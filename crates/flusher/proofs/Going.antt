@@ -42,18 +42,3 @@ placed_nears staged (Some next) old_pool new_pool within goes same =
     let count : next.batch.count ≡ staged.batch.count = ap (λ (b : BatchView). b.count) batch in
     let left : next.batch.count - next.placed < staged.batch.count - staged.placed = omega (arith, within, goes.1, count) in
     inr (waiting, inl left)
-
--- a page that waited is changed still
-pub changed_still : (old new : Option StagedView) (old_pool new_pool : PoolView) → Settles (finished old new) old_pool new_pool → (page : ℕ)
-    → waits old old_pool page ≡ true → is_dirty new_pool page ≡ true
-changed_still None new old_pool new_pool same page is = ap (λ (p : PoolView). is_dirty p page) same ∙ and_left (is_dirty old_pool page) (not false) is where
-  and_left : (a b : Bool) → (a && b) ≡ true → a ≡ true
-  and_left true b h = refl
-  and_left false b h = cc
-changed_still (Some staged) None old_pool new_pool cleans page is = waits_as_before staged old_pool new_pool page cleans ∙ is
-changed_still (Some staged) (Some next) old_pool new_pool same page is =
-    ap (λ (p : PoolView). is_dirty p page) same ∙ and_left (is_dirty old_pool page)
-    (not (is_among staged.batch staged.batch.count page (lsn_of (bytes_of old_pool page)))) is where
-      and_left : (a b : Bool) → (a && b) ≡ true → a ≡ true
-      and_left true b h = refl
-      and_left false b h = cc

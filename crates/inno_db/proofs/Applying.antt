@@ -34,13 +34,6 @@ get_put_other db table row place apart =
     get-insert place_cmp_total db.rows (table, key_in db.schemas table row) row place
     ∙ ap (λ b. cond b (Some row) (get db.rows place)) apart
 
--- a key that was removed has no row
-pub get_removed : (db : Database) (table : ℕ) (key : Value) → get (apply_one db (Remove table key)).rows (table, key) ≡ None
-get_removed db table key =
-    let place : Place = (table, key) in
-    get-remove place_cmp_total db.rows place place
-    ∙ ap (λ o. cond (is_eq o) None (get db.rows place)) (tied_itself place_cmp_total place)
-
 pub get_removed_other : (db : Database) (table : ℕ) (key : Value) (place : Place) → eq_by_cmp place_cmp place (table, key) ≡ false → get (apply_one db (Remove table key)).rows place ≡ get db.rows place
 get_removed_other db table key place apart =
     get-remove place_cmp_total db.rows (table, key) place ∙ ap (λ b. cond b None (get db.rows place)) apart
@@ -135,7 +128,3 @@ pub rows_of-all_elsewhere : (table : ℕ) (db : Database) (changes : List Change
 rows_of-all_elsewhere table db [] h = refl
 rows_of-all_elsewhere table db (change ∷ changes) h =
     rows_of-all_elsewhere table (apply_one db change) changes h.1 ∙ rows_of-elsewhere table db change h.0
-
--- no change takes a schema away or alters one
-pub schemas_of-rows : (db : Database) (table : ℕ) (row : List Value) → (apply_one db (Put table row)).schemas ≡ db.schemas
-schemas_of-rows db table row = refl

@@ -21,6 +21,3 @@ keeps_trans x a b c p q = record {
 
 pub grows_self : (x : ℕ) (a : Board) → Grows x a a
 grows_self x a = λ y _. keeps_self y a
-
-pub grows_trans : (x : ℕ) (a b c : Board) → Grows x a b → Grows x b c → Grows x a c
-grows_trans x a b c p q = λ y apart. keeps_trans y a b c (p y apart) (q y apart)

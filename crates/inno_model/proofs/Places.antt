@@ -22,19 +22,6 @@ pub places_none : (x : ℕ) (past : List Event) → calls_of x past ≡ [] → p
 places_none x [] quiet = refl
 places_none x (e ∷ past) quiet = passed (is_call x e) e (calls_of x past) (length past) (places_of x past) [] quiet (places_none x past)
 
-fall_from : (m n : ℕ) (ps : List ℕ) → m ≤ n → AreFalling m ps → AreFalling n ps
-fall_from m n [] le h = tt
-fall_from m n (p ∷ ps) le h = (let b = h.0 in omega arith, h.1)
-
-fall_on : (b : Bool) (n : ℕ) (ps : List ℕ) → AreFalling n ps → AreFalling (suc n) (cond b (n ∷ ps) ps)
-fall_on true n ps h = (omega arith, h)
-fall_on false n ps h = fall_from n (suc n) ps (omega arith) h
-
--- Each place stands once.
-pub places_fall : (x : ℕ) (past : List Event) → AreFalling (length past) (places_of x past)
-places_fall x [] = tt
-places_fall x (e ∷ past) = fall_on (is_call x e) (length past) (places_of x past) (places_fall x past)
-
 pub kept_calls : (x : ℕ) (a b : Board) → Keeps x a b → calls_of x b.past ≡ calls_of x a.past
 kept_calls x a b k = ap (calls_of x) k.past ∙ (calls_of-append x k.newer a.past ∙ ap (λ l. l ++ calls_of x a.past) k.quiet)
 

@@ -21,11 +21,6 @@ abbrev pub places_of : ℕ → List Event → List ℕ
 places_of x [] = []
 places_of x (e ∷ past) = if is_call x e then length past ∷ places_of x past else places_of x past
 
--- each place is below the bound and the places before it, so none stands twice
-abbrev pub AreFalling : ℕ → List ℕ → Type 0
-AreFalling bound [] = Unit {0}
-AreFalling bound (place ∷ places) = (place < bound) × AreFalling place places
-
 -- how far the session is; one that hasn't joined is idle
 abbrev pub phase_of : Board → ℕ → Phase
 phase_of b x = slice_index_or b.phases x Idle

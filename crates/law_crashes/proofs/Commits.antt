@@ -33,10 +33,6 @@ one_more : (b : Bool) (n : ℕ) → n ≤ (if b then n else n + 1)
 one_more true n = omega arith
 one_more false n = omega arith
 
-pub logged_rises : (e : Event) (past : List Event) → logged past ≤ logged (e ∷ past)
-logged_rises (Committed s) past = one_more (is_none (own s past)) (logged past)
-logged_rises e past = omega arith
-
 -- ---- what they change
 
 pub all_committed : (n : ℕ) (past : List Event) → commits past ≤ n → committed n past ≡ committed (commits past) past
@@ -146,11 +142,3 @@ acked_fits m k (Acked s moment ∷ past) le =
 acked_fits m k (e ∷ past) le = acked_fits m k past le
 
 -- ---- a group that spells a session's changes
-
-pub none_spelled : (os : List Change) → length (records_of os) ≡ 0 → is_none os ≡ true
-none_spelled [] is = refl
-none_spelled (o ∷ os) is = absurd (omega (arith, is, length-append (records_of os) (record_of o ∷ [])))
-
-pub some_spelled : (os : List Change) → (length (records_of os) ≡ 0 → ⊥) → is_none os ≡ false
-some_spelled [] some = absurd (some refl)
-some_spelled (o ∷ os) some = refl

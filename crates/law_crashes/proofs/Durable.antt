@@ -225,30 +225,6 @@ module _ (run first block : ℕ) (base : List Group) (rows : All HasRowsOnly bas
     keeps = keeps;
   }
 
-  -- what a crash leaves before the first write
-  holds_opened : (s : State) (image : Image) (m : ℕ) → IsFirst run first block base s → IsImage s image → HoldsSome m (opened base) image
-  holds_opened s image m is left =
-      let here = at_rest s.double s.pages s (record { log = is.log; double_is = refl; pages_is = refl }) in
-      let header = header_left run first s.double s.pages s image is.header refl refl left in
-      let honest = honest_at_rest s image (record { log = is.log.rests; double = is.header.double_rests; pages = is.header.pages_rest }) left in
-      prefix_stands log.run first base (opened base) log.flushed image (subst (λ (n : ℕ). SaysRun n first image.pages image.double) (sym same_run) header)
-      rows refl
-      (holds_prefix first (base ++ []) log s.log here.logged image.log left.log honest.log) (omega (arith, same_flushed, some, next))
-      (omega (arith, same_flushed, some, next)) m
-
-  -- Such files stand for the database, so nothing that is said of a root is said in vain.
-  pub files_first : (root : Past) (s : State) → ((m : ℕ) (t : State) → root.state_at m ≡ Some t → IsImage t (seen_image t)) → Ticks root.moment
-      → root.state_at root.moment ≡ Some s → IsFirst run first block base s
-      → Files root root (changed no_db (changes_in base))
-  files_first root s law ticks is files = record {
-    state = s;
-    ticks = ticks;
-    tells = λ m low high. let here : root.moment ≡ m = omega (arith, low, high) in (s, ap root.state_at (sym here) ∙ is);
-    told = is;
-    rests = record { log = files.log.rests; double = files.header.double_rests; pages = files.header.pages_rest };
-    stands = (holds_opened s (seen_image s) 0 files (law root.moment s is)).stands;
-  }
-
 -- what the disk tells, if it does
 nothing : Contents
 nothing = record { seen = []; synced = []; writes = [] }
@@ -256,28 +232,3 @@ nothing = record { seen = []; synced = []; writes = [] }
 abbrev told : Option State → State
 told (Some s) = s
 told None = record { log = nothing; double = nothing; pages = nothing }
-
--- a mount that calls the disk for nothing
-pub durable_first : (run first block : ℕ) (base : List Group) → All HasRowsOnly base → (log : LogView) → log.run ≡ run → log.next ≡ first + length base
-    → log.flushed ≡ log.next - 1 → 0 < log.next
-    → ((scan_first : ℕ) (groups : List Group) (c : Contents) → log.next ≡ scan_first + length groups → GoesOnAt run scan_first block groups c → IsLogged
-    scan_first groups log c)
-    → (root now : Past) → now ≡ root → ((m : ℕ) (s : State) → root.state_at m ≡ Some s → IsImage s (seen_image s)) → Now (IsFirst run first block base) root
-    → (due : ℕ → ℕ) → ((s : ℕ) → log.next ≤ due s + 1) → IsDurable root now (opened base) log due
-durable_first run first block base rows log same_run next same_flushed some stands root now same law files due dues =
-    let at : State = told (root.state_at root.moment) in
-    let is_at : (s : State) → root.state_at root.moment ≡ Some s → told (root.state_at root.moment) ≡ s = λ s is. ap told is in
-    subst (λ (p : Past). IsDurable root p (opened base) log due) (sym same)
-    (durable_mount run first block base rows log same_run next same_flushed some stands root root at.double at.pages due
-    (λ s ticks is. record {
-      log = (files s ticks is).log;
-      double_is = ap (λ (t : State). t.double) (sym (is_at s is));
-      pages_is = ap (λ (t : State). t.pages)
-          (sym (is_at s is));
-    })
-    (λ db rooted. subst (λ (t : State). HasHeader run first t.double t.pages) (sym (is_at rooted.state rooted.told))
-    (files rooted.state rooted.ticks rooted.told).header)
-    dues
-    (keeps_first root (changed no_db (changes_in base)) law
-    (λ db rooted st image ticks is left. (holds_opened run first block base rows log same_run next same_flushed some stands st image root.moment
-    (files st ticks is) left).stands)))

@@ -117,24 +117,6 @@ keeps_calls P root mid now past so_far calls holds =
 
 -- ---- a mount
 
--- The database that was read from the files: it is the one that they stand for, and a crash before any write leaves it.
-pub keeps_first : (root : Past) (first : Database) → ((m : ℕ) (s : State) → root.state_at m ≡ Some s → IsImage s (seen_image s))
-    → ((db : Database) → Files root root db → (st : State) (image : Image) → Ticks root.moment → root.state_at root.moment ≡ Some st → IsImage st image →
-    StandsFor image first)
-    → KeepsSince root root (Opened first ∷ [])
-keeps_first root first law stands =
-    record {
-      later = omega arith;
-      kept = λ m ticks le. refl;
-      timed = omega arith;
-      opens =
-          λ db files. one_db (seen_image files.state) first db
-          (stands db files files.state (seen_image files.state) files.ticks files.told (law root.moment files.state files.told)) files.stands;
-      each = λ db files m st image low high is left honest.
-          let same : m ≡ root.moment = omega (arith, low, high) in
-          record { n = 0; some = omega arith; all_acked = omega arith; stands = stands db files st image files.ticks (sym (ap root.state_at same) ∙ is) left };
-    }
-
 -- The same where the calls that read it have left the files as they were.
 pub keeps_read : (root mid : Past) (first : Database) → ((m : ℕ) (s : State) → mid.state_at m ≡ Some s → IsImage s (seen_image s)) → LeavesFiles root mid
     → ((db : Database) → Files root mid db → (st : State) → mid.state_at mid.moment ≡ Some st → IsAtRest st ×
@@ -170,14 +152,3 @@ leaves_opened root now first keeps = record {
       λ db files m st image low high is left honest. subst (StandsFor image) (keeps.opens db files)
       (keeps.each db files m st image low high is left honest).stands;
 }
-
--- The same after calls that leave what the files stand for as it is.
-pub keeps_mount : (root now : Past) (first : Database) → ((m : ℕ) (s : State) → root.state_at m ≡ Some s → IsImage s (seen_image s))
-    → ((db : Database) → Files root root db → (st : State) (image : Image) → Ticks root.moment → root.state_at root.moment ≡ Some st → IsImage st image →
-    StandsFor image first)
-    → Meanwhile (λ st. (image : Image) → IsImage st image → IsHonest st image → StandsFor image first) root now
-    → KeepsSince root now (Opened first ∷ [])
-keeps_mount root now first law stands calls =
-    keeps_calls (λ st. (image : Image) → IsImage st image → IsHonest st image → StandsFor image first) root root now (Opened first ∷ [])
-    (keeps_first root first law stands) calls
-    (λ db files st image same left honest m. record { n = 0; some = omega arith; all_acked = omega arith; stands = same image left honest })

@@ -147,13 +147,6 @@ wholes_fit columns (Some type) e f k = ap (λ (x : Bool × Bool). x.0) (pairs_fi
 
 -- ---- assignments
 
-module _ {X : Type 0} (k : Set → X) (same : (a b : Set) → set_tree a ≡ set_tree b → k a ≡ k b) where
-  pub each_same : (xs ys : List Set) → map set_tree xs ≡ map set_tree ys → map k xs ≡ map k ys
-  each_same [] [] e = refl
-  each_same [] (y ∷ ys) e = absurd (cc)
-  each_same (x ∷ xs) [] e = absurd (cc)
-  each_same (x ∷ xs) (y ∷ ys) e = let here = same x y (cc) in let rest = each_same xs ys (cc) in cc
-
 column_same : (a b : Set) → set_tree a ≡ set_tree b → a.column ≡ b.column
 column_same a b e = ap (λ (t : List ℕ × ExprTree). t.0) e
 

@@ -41,41 +41,6 @@ through columns row (filters.Not' p f) = ap not_of (through columns row f)
 through columns row (filters.And' p f q g) = let x = through columns row f in let y = through columns row g in cc
 through columns row (filters.Or' p f q g) = let x = through columns row f in let y = through columns row g in cc
 
-matches_same : (columns : List Column) (row : List Value) (f g : Option Filter) → where_tree f ≡ where_tree g → matches columns f row ≡ matches columns g row
-matches_same columns row None None e = refl
-matches_same columns row None (Some g) e = absurd (cc)
-matches_same columns row (Some f) None e = absurd (cc)
-matches_same columns row (Some f) (Some g) e =
-    let same : filter_tree f ≡ filter_tree g = cc in
-    ap is_true (through columns row f ∙ (ap (λ (t : FilterTree). folded t columns row) same ∙ sym (through columns row g)))
-
-passed_same : (some other : List Value → Bool) → ((row : List Value) → some row ≡ other row) → (o : Option (List Value)) → passed other o ≡ passed some o
-passed_same some other same None = refl
-passed_same some other same (Some row) = ap (λ b. if b then Some row else None) (sym (same row))
-
-unmet_same : (table : ℕ) (some other : List Value → Bool) (db : Database) (changes : List Change) → ((row : List Value) → some row ≡ other row)
-    → IsUnmet table some db changes → IsUnmet table other db changes
-unmet_same table some other db changes same unmet key touched = (
-  passed_same some other same (get db.rows (table, key)) ∙ (unmet key touched).0,
-  passed_same some other same (get (changed db changes).rows (table, key)) ∙ (unmet key touched).1,
-)
-
-search_same : (name also : List ℕ) (f g : Option Filter) (db : Database) (changes : List Change) → name ≡ also → where_tree f ≡ where_tree g
-    → IsBesideSearch name f db changes → IsBesideSearch also g db changes
-search_same name also f g db changes named same beside table schema at is =
-    unmet_same table (matches schema.columns f) (matches schema.columns g) db changes (λ row. matches_same schema.columns row f g same)
-    (subst (λ (n : List ℕ). IsBesideSearch n f db changes) named beside table schema at is)
-
-pub beside_same : (a b : Stmt) → tree_of a ≡ tree_of b → (db : Database) (changes : List Change) → IsBesideStatement a db changes
-    → IsBesideStatement b db changes
-beside_same (stmt.Select s t f l) (stmt.Select v u g m) e db changes beside = search_same t u f g db changes (cc) (cc) beside
-beside_same (stmt.Select s t f l) b e db changes beside = absurd (cc)
-beside_same (stmt.Update t xs f) (stmt.Update u ys g) e db changes beside = search_same t u f g db changes (cc) (cc) beside
-beside_same (stmt.Update t xs f) b e db changes beside = absurd (cc)
-beside_same (stmt.Delete t f) (stmt.Delete u g) e db changes beside = search_same t u f g db changes (cc) (cc) beside
-beside_same (stmt.Delete t f) b e db changes beside = absurd (cc)
-beside_same a b e db changes beside = subst (λ (x : Stmt). IsBesideStatement x db changes) (plain_same a b e) beside
-
 lock_same : (l : Level) (s v : _) (t u : List ℕ) (f g : Option Filter) (m n : Option Mode) → m ≡ n
     → sight_of l false (stmt.Select s t f m) ≡ sight_of l false (stmt.Select v u g n)
 lock_same l s v t u f g None None e = refl

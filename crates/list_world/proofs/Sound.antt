@@ -249,21 +249,6 @@ sound_begun room rows tables indexes slots begun sessions s old new sound there 
 
 -- ---- the calls of the engine
 
--- the history has taken more room
-pub sound_room : (room rows tables indexes : ℕ) (slots : List (Option Kept)) (begun : ℕ) (sessions : List Session) (room' : ℕ)
-    → IsSound room rows tables indexes slots begun sessions
-    → room ≤ room' → IsSound room' rows tables indexes slots begun sessions
-sound_room room rows tables indexes slots begun sessions room' sound more = record {
-  few = sound.few;
-  enough = omega (arith, sound.enough, more);
-  small = sound.small;
-  counted = sound.counted;
-  apart = sound.apart;
-  are_begun = sound.are_begun;
-  promised = sound.promised;
-  numbered = sound.numbered;
-}
-
 -- there is a table more
 pub sound_tables : (room rows tables indexes : ℕ) (slots : List (Option Kept)) (begun : ℕ) (sessions : List Session) (tables' indexes' : ℕ)
     → IsSound room rows tables indexes slots begun sessions

@@ -20,9 +20,6 @@ module _ (run : ℕ) (area : List ℕ) (len : ℕ) where
   passed_none = record { good = λ k below. absurd (omega arith); total_is = refl; few = omega arith; none = λ m below. absurd (omega arith) }
 
   module _ (total n : ℕ) (so_far : PassedBy run area len total n) where
-    pub has_them : total ≡ len → HasPayloads run n area len
-    has_them is = record { good = so_far.good; long = sym so_far.total_is ∙ is }
-
     none_yet : (total ≡ len → ⊥) → (m : ℕ) → m < n + 1 → length (payloads m area) ≡ len → ⊥
     none_yet other = below_more (λ (m : ℕ). length (payloads m area) ≡ len → ⊥) n so_far.none (λ is. other (so_far.total_is ∙ is))
 
@@ -71,9 +68,6 @@ module _ (run first : ℕ) (area stream : List ℕ) (groups : List Group) (paylo
           ∙ take_at (stream_of groups) held.rest (length (payloads n area)) (sym (has.long ∙ len_is))
     ];
   }
-
-  pub ends_nowhere : ((n : ℕ) → HasPayloads run n area len → ⊥) → (n : ℕ) → EndsAt run n area groups → ⊥
-  ends_nowhere none n ends = none n (record { good = ends.good; long = ap length ends.stored ∙ sym len_is })
 
 pub IfSome-weaker : {X : Type 0} (o : Option X) (P Q : X → Type 0) → ((x : X) → P x → Q x) → IfSome o P → IfSome o Q
 IfSome-weaker (Some x) P Q weaker is = weaker x is

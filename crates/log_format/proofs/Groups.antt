@@ -23,15 +23,6 @@ pub length-body : (g : Group) → length (body g) ≡ 10 + length (flat_map reco
 unfolding body
 length-body g = simp (length-append, length-u64, length-u16) (omega arith)
 
--- a group keeps its size under another LSN
-pub IsGroup-at : (g : Group) (lsn : ℕ) → lsn < 2 ^ 64 → IsGroup g → IsGroup (record { lsn = lsn; records = g.records })
-IsGroup-at g lsn fits is = record {
-  lsn = fits;
-  count = is.count;
-  size = omega (arith, is.size, length-body g, length-body (record { lsn = lsn; records = g.records }));
-  each = is.each;
-}
-
 -- the first four bytes say how long the group is
 length_read : (g : Group) (more : List ℕ) → IsGroup g → from_be_bytes w32 (take 4 (group_bytes g ++ more)) ≡ length (body g)
 unfolding group_bytes

@@ -250,6 +250,3 @@ one_visited page items count e within unknown is unread =
           ∙ sym (ap (λ b. cond b (pages_of es) (pages_of es ++ page ∷ [])) unknown);
       copies = λ q. copy_of-push es e q ∙ ap (first_of (copy_of es q)) (own_unread e q unread) ∙ first-none (copy_of es q);
     })
-
-pub none_visited : (page : ℕ) (es : List Entry) → is_in page (pages_of es) ≡ true → IsVisited page es es
-none_visited page es known = record { pages = sym (ap (λ b. cond b (pages_of es) (pages_of es ++ page ∷ [])) known); copies = λ q. refl }

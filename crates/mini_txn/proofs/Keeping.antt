@@ -68,9 +68,6 @@ pub record IsAlike (old new : Option FrameView) : Type 0 where
 pub alike_same : (slot new : Option FrameView) → new ≡ slot → IsAlike slot new
 alike_same slot new is = record { standing = ap stands is; shown = ap shown_in is }
 
-pub alike_then : (a b c : Option FrameView) → IsAlike a b → IsAlike b c → IsAlike a c
-alike_then a b c first next = record { standing = next.standing ∙ first.standing; shown = next.shown ∙ first.shown }
-
 bare_stands : (slot : Option FrameView) → holds slot ≡ false → stands slot ≡ false
 bare_stands None h = refl
 bare_stands (Some frame) h = go frame.content h where
@@ -113,31 +110,6 @@ keeps_then a b c first next = record {
 }
 
 -- ---- fixing
-
-pub fixed_alike : (slot : Option FrameView) → IsAlike slot (option_map fixed slot)
-fixed_alike None = record { standing = refl; shown = refl }
-fixed_alike (Some frame) = record { standing = refl; shown = refl }
-
-pub fixed_held : (slot : Option FrameView) → IsHeld (option_map fixed slot)
-fixed_held None h = cc
-fixed_held (Some frame) h = omega arith
-
-pub hold_fixes : (pool : PoolView) (page : ℕ) → FixesPage page pool (with_used page (at_slot page fixed pool))
-hold_fixes pool page =
-    let new = at_slot page fixed pool in
-    let here = edit_here pool.slots page fixed in
-    let alike : (q : ℕ) → IsAlike (slot_of pool q) (slot_of new q) = λ q. elim (cases_eq q page) [
-      | inl same ↦ subst (λ (n : ℕ). IsAlike (slot_of pool n) (slot_of new n)) (sym same)
-          (subst (IsAlike (slot_of pool page)) (sym here) (fixed_alike (slot_of pool page)))
-      | inr apart ↦ alike_same (slot_of pool q) (slot_of new q) (edit_elsewhere pool.slots page q (option_map fixed (slot_of pool page)) apart)
-    ] in
-    record {
-      slots = length-set pool.slots page (option_map fixed (slot_of pool page));
-      standing = λ q. (alike q).standing;
-      pages = λ q. (alike q).shown;
-      here = subst IsHeld (sym here) (fixed_held (slot_of pool page));
-      elsewhere = λ q apart. edit_elsewhere pool.slots page q (option_map fixed (slot_of pool page)) apart;
-    }
 
 pub held_fixes : (pool : PoolView) (page : ℕ) → (is_pooled pool page ≡ true → 0 < fixes_of pool page) → FixesPage page pool pool
 held_fixes pool page held = record { slots = refl; standing = λ q. refl; pages = λ q. refl; here = held; elsewhere = λ q apart. refl }
@@ -182,46 +154,6 @@ all_fixed old page new all first = record {
 
 -- ---- giving a frame back
 
-unfixed_new : (frame : FrameView) → holds_page frame ≡ true → is_written frame.content ≡ false → 0 < frame.fixes
-    → IsAlike (Some frame) (Some (unfixed frame)) × IsHeld (Some (unfixed frame))
-unfixed_new frame there new fixed = go frame.content there new where
-  go : (content : Content) → is_page content ≡ true → is_written content ≡ false
-      → IsAlike (Some (marked content frame.fixes frame)) (Some (marked (content_after content frame.fixes) (frame.fixes - 1) frame))
-      × IsHeld (Some (marked (content_after content frame.fixes) (frame.fixes - 1) frame))
-  go Empty a b = cc
-  go Clean a b = cc
-  go Dirty a b = cc
-  go New a b = last (frame.fixes == 1) refl where
-    last : (d : Bool) → (frame.fixes == 1) ≡ d
-        → IsAlike (Some (marked New frame.fixes frame)) (Some (marked (cond d Empty New) (frame.fixes - 1) frame))
-        × IsHeld (Some (marked (cond d Empty New) (frame.fixes - 1) frame))
-    last true is = (record { standing = refl; shown = refl }, λ h. absurd cc)
-    last false is =
-        let more : frame.fixes ≡ 1 → ⊥ = eqb-false frame.fixes 1 is in
-        (record { standing = refl; shown = refl }, λ h. omega (arith, fixed, more))
-
-pub unfixed_alike : (slot : Option FrameView) → holds slot ≡ true → stands slot ≡ false → 0 < fixes_in slot → IsAlike slot (option_map unfixed slot)
-    × IsHeld (option_map unfixed slot)
-unfixed_alike None there new held = absurd cc
-unfixed_alike (Some frame) there new held = unfixed_new frame there new held
-
--- one slot is changed
-pub keeps_edit : (pool : PoolView) (page : ℕ) (edit : FrameView → FrameView) → IsResident pool
-    → IsAlike (slot_of pool page) (option_map edit (slot_of pool page)) → IsHeld (option_map edit (slot_of pool page))
-    → KeepsPages pool (at_slot page edit pool)
-keeps_edit pool page edit resident alike held =
-    let new = at_slot page edit pool in
-    let here = edit_here pool.slots page edit in
-    keeps_by pool new (length-set pool.slots page (option_map edit (slot_of pool page)))
-    (λ q. elim (cases_eq q page) [
-      | inl same ↦ subst (λ (n : ℕ). IsHeld (slot_of new n)) (sym same) (subst IsHeld (sym here) held)
-      | inr apart ↦ subst IsHeld (sym (edit_elsewhere pool.slots page q (option_map edit (slot_of pool page)) apart)) (resident q)
-    ])
-    (λ q. elim (cases_eq q page) [
-      | inl same ↦ subst (λ (n : ℕ). IsAlike (slot_of pool n) (slot_of new n)) (sym same) (subst (IsAlike (slot_of pool page)) (sym here) alike)
-      | inr apart ↦ alike_same (slot_of pool q) (slot_of new q) (edit_elsewhere pool.slots page q (option_map edit (slot_of pool page)) apart)
-    ])
-
 -- ---- taking a frame
 
 and_left : (a b : Bool) → (a && b) ≡ true → a ≡ true
@@ -241,9 +173,6 @@ idle_bare (Some frame) held h = go (holds_page frame) refl where
 module _ (slots : Slots) (from page : ℕ) (slot : Option FrameView) (hf : from < length slots) (hp : page < length slots) where
   swapped : slice_set (slice_set slots from (slice_index_or slots page None)) page (slice_index_or slots from None) ≡ swap slots from page
   swapped = swap_is slots from page None hf hp
-
-  moved_slots : Slots
-  moved_slots = slice_set (swap slots from page) page slot
 
   pub moved_here : slice_index_or (slice_set (swap slots from page) page slot) page None ≡ slot
   moved_here = get_or-set_same (swap slots from page) page slot None (omega (arith, hp, length-swap slots from page))

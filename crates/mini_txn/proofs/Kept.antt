@@ -52,9 +52,6 @@ module _ (records : List Record) (count : ℕ) (bytes : List ℕ) (capacity : �
   pub kept_again : AreKept (kept count bytes) count bytes capacity
   kept_again = subst (λ (l : List Record). AreKept l count bytes capacity) (sym kept_is) are
 
-  pub count_fits : count < 65536
-  count_fits = omega (arith, are.number, are.few, are.fits)
-
   pub spelled : IsSpelled records count bytes
   spelled = record {
     are = record { count = omega (arith, are.few, are.fits); each = each_record records are.each };

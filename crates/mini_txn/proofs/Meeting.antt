@@ -284,22 +284,6 @@ module _
     go (inl same) = inl (sym same.0, same.1)
     go (inr stamped) = inr stamped
 
-  pub commit_mini : IsMini new_pool [] [] told
-  commit_mini = record {
-    resident = λ q there. subst (λ (n : ℕ). 0 < n) (sym (places.fixes q)) (is.resident q (sym (places.pooled q) ∙ there));
-    readable = λ q known none. cc;
-    edits = λ q. refl;
-    told_so = λ tells.
-        let so = is.told_so tells in
-        let long = places.slots in
-        let same : standing_in new_pool 0 ≡ seen_in pool dealt 0 = places.seen so.framed 0 in
-        record {
-          framed = λ q some. cc;
-          seen = subst (λ (l : List ℕ). u32_at 44 l ≤ length new_pool.slots) (sym same) (omega (arith, so.seen, long));
-          standing = subst (λ (l : List ℕ). u32_at 44 l ≤ length new_pool.slots) (sym same) (omega (arith, so.seen, long));
-        };
-  }
-
   pub commit_commits : Commits (state_of (mini pool log dealt records told)) (state_of (mini new_pool new_log [] [] told))
   commit_commits = record {
     goes = record { told = λ t. t; stays = λ t good. t; faults = omega arith; whole = refl };

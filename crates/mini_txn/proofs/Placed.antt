@@ -228,10 +228,6 @@ in_last (x ∷ front) e = go (x.page == e.page) (in_last front e) where
   go true k = refl
   go false k = k
 
--- the last page dealt with is fixed, and so are the others once it is placed
-pub last_held : (pool : PoolView) (front : List Entry) (e : Entry) → AreHeld pool (front ++ e ∷ []) → is_pooled pool e.page ≡ true → 0 < fixes_of pool e.page
-last_held pool front e held there = held e.page (in_last front e) there
-
 pub others_held : (lsn : ℕ) (pool new : PoolView) (front : List Entry) (e : Entry) → AreHeld pool (front ++ e ∷ [])
     → Places lsn pool (front ++ e ∷ []) new front → AreHeld new front
 others_held lsn pool new front e held places = λ q known there.

@@ -92,7 +92,3 @@ claim_all pages (p ∷ asked) v distinct among = claim_all pages asked (visit p 
 pub claim_least : (pages v : List ℕ) → length v ≤ claim pages v
 claim_least [] v = omega arith
 claim_least (q ∷ pages) v = omega (arith, claim_least pages v)
-
--- there is a place for each page that is counted
-pub claim_place : (pages : List ℕ) (p : ℕ) (v : List ℕ) → AreDistinct pages → is_in p pages ≡ true → length (visit p v) ≤ claim pages v
-claim_place pages p v distinct known = omega (arith, claim_least pages (visit p v), claim_visit pages p v distinct known)

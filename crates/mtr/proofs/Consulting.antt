@@ -78,12 +78,6 @@ pub consults_asked : {T : Type 0} (pages : List ℕ) (page : ℕ) (old new : Mtr
 consults_asked pages page old new (Ok shown) known asks = consults_shown pages page old new known asks
 consults_asked pages page old new (Err why) known asks = consults_refused pages old new asks.0
 
--- there is a place for each of the pages, as long as they are counted
-pub place_left : (pages : List ℕ) (page : ℕ) (old new : MtrState) → AreDistinct pages → is_in page pages ≡ true → claim pages old.visited ≤ 24 → Visits pages old new → length (visit page new.visited) ≤ 24
-place_left pages page old new distinct known few visits =
-    let same : claim pages new.visited ≡ claim pages old.visited = ap (claim pages) visits.visited_is ∙ claim_all pages visits.asked old.visited distinct visits.known in
-    omega (arith, few, same, claim_place pages page new.visited distinct known)
-
 pub claim_left : (pages : List ℕ) (old new : MtrState) → AreDistinct pages → Visits pages old new → claim pages new.visited ≡ claim pages old.visited
 claim_left pages old new distinct visits = ap (claim pages) visits.visited_is ∙ claim_all pages visits.asked old.visited distinct visits.known
 

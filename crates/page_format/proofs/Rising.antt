@@ -7,10 +7,6 @@ use Rattle.std.proofs.Math.Nat.{mul-le-mul_right}
 use Rattle.page_format.specs.Words.{pieces}
 use Rattle.page_format.specs.Shape.{AreRising}
 
--- where two records are left, they fit
-pub room_for_two : (left width len : ℕ) → 2 ≤ left → left * width ≤ len → width + width ≤ len
-room_for_two left width len two fits = let more : 2 * width ≤ left * width = mul-le-mul_right width two in omega (arith, more, fits)
-
 pub room_behind : (left width len : ℕ) → 1 ≤ left → left * width ≤ len → (left - 1) * width ≤ len - width
 room_behind (suc left) width len one fits = let less : suc left - 1 ≡ left = omega arith in rw less (omega (arith, fits))
 room_behind zero width len one fits = absurd (omega (arith, one))
@@ -20,9 +16,6 @@ pub record Tells (width count : ℕ) (records : List ℕ) (left : ℕ) (rest : L
   pub whole : AreRising (pieces width left rest) → AreRising (pieces width count records)
   pub part : AreRising (pieces width count records) → AreRising (pieces width left rest)
   pub room : left * width ≤ length rest
-
-pub Tells-start : (width count : ℕ) (records : List ℕ) → count * width ≤ length records → Tells width count records count records
-Tells-start width count records room = record { whole = λ r. r; part = λ r. r; room = room }
 
 step : (width count : ℕ) (records : List ℕ) (left : ℕ) (rest others : List ℕ) → Tells width count records (suc (suc left)) rest → others ≡ drop width rest → slice_cmp nat_cmp (take width rest) (take width others) ≡ Less → (suc left) * width ≤ length others
     → Tells width count records (suc left) others
@@ -47,8 +40,3 @@ pub falls : (width count : ℕ) (records : List ℕ) (left : ℕ) (rest others :
 falls width count records zero rest others two tells is other r = absurd (omega (arith, two))
 falls width count records (suc zero) rest others two tells is other r = absurd (omega (arith, two))
 falls width count records (suc (suc left)) rest others two tells is other r = other (rw is ((tells.part r).0))
-
-pub one_rises : (width count : ℕ) (records : List ℕ) (left : ℕ) (rest : List ℕ) → left ≤ 1 → Tells width count records left rest → AreRising (pieces width count records)
-one_rises width count records zero rest one tells = tells.whole tt
-one_rises width count records (suc zero) rest one tells = tells.whole tt
-one_rises width count records (suc (suc left)) rest one tells = absurd (omega (arith, one))

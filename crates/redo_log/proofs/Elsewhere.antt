@@ -48,24 +48,3 @@ leaves_one step old mid new so_far goes = record {
 -- a call of the log's area
 pub leaves_call : (step : Contents → Contents → Type 0) (old new : Past) → Goes (Within Log step) old new → LeavesBeside old new
 leaves_call step old new goes = leaves_one step old old new (leaves_none old) goes
-
--- some calls, and then others
-pub leaves_join : (old mid new : Past) → LeavesBeside old mid → LeavesBeside mid new → LeavesBeside old new
-leaves_join old mid new first second = record {
-  later = omega (arith, first.later, second.later);
-  kept = λ m ticks le. second.kept m ticks (omega (arith, first.later, le)) ∙ first.kept m (omega (arith, second.later, ticks)) le;
-  each = λ m s ticks low high is.
-      ⊎_elim
-      (λ (late : mid.moment < m).
-      let after = second.each m s ticks (omega (arith, late)) high is in
-      let before = first.each mid.moment after.0 (omega (arith, second.later, ticks)) first.later (omega arith) after.1 in (
-        before.0,
-        before.1,
-        record {
-          double = after.2.double ∙ before.2.double;
-          pages = after.2.pages ∙ before.2.pages;
-        },
-      ))
-      (λ (early : m ≤ mid.moment). first.each m s (omega (arith, second.later, ticks)) low early (sym (second.kept m ticks early) ∙ is))
-      (cases_lt mid.moment m);
-}

@@ -64,13 +64,6 @@ has_numbers need more room pending block next few some enough = omega (arith, fe
 pub has_room : (need room pending block next : ℕ) → pending ≤ room → need ≤ spare_of room pending block next → pending + need ≤ room
 has_room need room pending block next waits enough = omega (arith, waits, enough)
 
-pub numbers_more : (more block next count n : ℕ) → max more 512 ≤ numbers_left (block + count) next → 512 * n ≤ 512 * count + more → block + count ≤ 2 ^ 54
-    → block + n ≤ 2 ^ 54
-numbers_more more block next count n enough is low = omega (arith, enough, is, low)
-
-pub next_more : (more block next : ℕ) → max more 512 ≤ numbers_left block next → next < 2 ^ 64 → next + 1 < 2 ^ 64
-next_more more block next enough fits = omega (arith, enough, fits)
-
 -- the spare is less by no more than the group's blocks alone
 pub spare_after : (need room pending block next n want later : ℕ) → need ≡ 512 * n → 1 ≤ n → want ≤ pending + need → later ≤ block + n
     → spare_of room pending block next ≤ spare_of (max room want) want later (next + 1) + need

@@ -66,13 +66,3 @@ none_free count found old counted looked first next value free is = λ told page
     differ (mark_of old.seen page) is_free.unmarked (here page (omega arith) (omega (arith, is_free.within, value (next.goes.told told))))
 
 -- ---- reasons
-
-pub give_reason_later : (old between new : MtrState) (why : SpaceBad) → Consults map_pages old between → Goes between new → IsGiveReason between new why → IsGiveReason old new why
-give_reason_later old between new Full looked goes reason = reason
-give_reason_later old between new (Visit visit) looked goes reason = reason_later map_pages Miscounts old between new visit looked goes reason
-give_reason_later old between new NoMemory looked goes reason = omega (arith, looked.spare, reason)
-
-pub take_reason_later : (old between new : MtrState) (why : SpaceBad) → Consults map_pages old between → Goes between new → IsGiveReason between new why → IsTakeReason old new why
-take_reason_later old between new Full looked goes reason = absurd reason
-take_reason_later old between new (Visit visit) looked goes reason = reason_later map_pages Miscounts old between new visit looked goes reason
-take_reason_later old between new NoMemory looked goes reason = omega (arith, looked.spare, reason)

@@ -33,21 +33,10 @@ and_true : (p : Bool) → p ≡ (p && true)
 and_true true = refl
 and_true false = refl
 
--- a <= b and a < b, as the tests of their order say it
-reverse_gt : (o : Ordering) → is_gt o ≡ true → is_gt (ordering_reverse o) ≡ false
-reverse_gt Less e = absurd cc
-reverse_gt Equal e = absurd cc
-reverse_gt Greater e = refl
-
 ge_back : (o : Ordering) → is_ge o ≡ true → is_gt (ordering_reverse o) ≡ false
 ge_back Less e = absurd cc
 ge_back Equal e = refl
 ge_back Greater e = refl
-
-ge_le_back : (o : Ordering) → is_ge o ≡ true → is_le (ordering_reverse o) ≡ true
-ge_le_back Less e = absurd cc
-ge_le_back Equal e = refl
-ge_le_back Greater e = refl
 
 gt_less : (o : Ordering) → is_gt o ≡ true → ordering_reverse o ≡ Less
 gt_less Less e = absurd cc

@@ -201,11 +201,6 @@ module _ (schema : Schema) (names : Option (List (List ℕ))) (column : Column) 
       → HoldsKeys schema names tuples plan
   holds_keys tuples plan covers = λ fits row new of_columns made same. covers (fitting tuples fits) row of_columns (meets tuples row new made same)
 
-pub whole_holds : (schema : Schema) (names : Option (List (List ℕ))) (tuples : List (List Literal)) (plan : Plan) → plan ≡ whole_index
-    → HoldsKeys schema names tuples plan
-whole_holds schema names tuples plan is = λ fits row new of_columns made same.
-    subst (λ (p : Plan). is_within p.range (index_key schema p.which row) ≡ true) (sym is) refl
-
 -- the tests of a plain key
 pub plain_parts : (columns : List Column) (place : ℕ) (column : Column) → is_plain_key columns place column ≡ true
     → (column.not_null ≡ true) × (column_place columns column.name ≡ Some place)

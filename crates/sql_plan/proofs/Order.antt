@@ -58,11 +58,6 @@ lt_less Less e = refl
 lt_less Equal e = absurd cc
 lt_less Greater e = absurd cc
 
-turned_le_ge : (o : Ordering) → is_le o ≡ true → is_ge (ordering_reverse o) ≡ true
-turned_le_ge Less e = refl
-turned_le_ge Equal e = refl
-turned_le_ge Greater e = absurd cc
-
 less_not_ge : (o : Ordering) → o ≡ Less → is_ge o ≡ false
 less_not_ge o e = ap is_ge e
 
@@ -80,11 +75,6 @@ within_ge_lt l v h low high =
 pub within_gt_lt : (l v h : Value) → is_gt (value_cmp v l) ≡ true → is_lt (value_cmp v h) ≡ true → is_ge (value_cmp l h) ≡ false
 within_gt_lt l v h low high =
     less_not_ge (value_cmp l h) (value_total.trans l v h (reversed l v ∙ turned_gt (value_cmp v l) low) (lt_less (value_cmp v h) high))
-
-greater_back : (o : Ordering) → ordering_reverse o ≡ Less → is_ge o ≡ true
-greater_back Less e = absurd cc
-greater_back Equal e = absurd cc
-greater_back Greater e = refl
 
 -- from h >= v > l turned round: l < v <= h
 pub within_gt_le : (l v h : Value) → is_gt (value_cmp v l) ≡ true → is_le (value_cmp v h) ≡ true → is_ge (value_cmp l h) ≡ false

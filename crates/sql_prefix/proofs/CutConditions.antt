@@ -22,9 +22,6 @@ use Rattle.sql_prefix.proofs.Ends as ends
 abbrev pub Ending : ℕ → List Token → Type 0
 Ending n f = End f
 
-zero_literal : Literal
-zero_literal = plain_number (48 ∷ [])
-
 -- ---- operands and ranges
 
 oper_cut : {xs ys us : List Token} {o : Operand} → Oper xs o ys → Under xs us → Cut Oper (Just (Zero ∷ [])) ys us

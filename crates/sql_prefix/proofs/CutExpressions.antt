@@ -90,9 +90,6 @@ expression_cut (grammar.brackets e) (keep cuts.opens u) = in_brackets (expressio
 
 -- ---- name "=" expr
 
-set_zero : List ℕ → Set
-set_zero name = record { column = name; value = expr.Literal (plain_number (48 ∷ [])) }
-
 assigned_from_name : {ys us : List Token} (name : List ℕ) → ((zs : List Token) → Name (us ++ zs) name zs) → ((d : ℕ) → level d us ≡ d) → Cut Assignment Ending ys us
 assigned_from_name name n l =
     inside (Compare Equal ∷ Zero ∷ []) 0 ends.equals_zero l (record { column = name; value = expr.Literal (plain_number (48 ∷ [])) }) (λ zs. grammar.assign (n (Compare Equal ∷ Zero ∷ zs)) (grammar.term (grammar.factor (grammar.of_literal grammar.number))))

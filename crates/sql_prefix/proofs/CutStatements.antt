@@ -281,9 +281,6 @@ all_tuples_done : {us : List Token} → Cut (Commas Tuple) cuts.InTuple [] us �
 all_tuples_done (inside f n e l a r) = done f [] n (ends.last (tuple_end n f e)) l a (r [])
 all_tuples_done (beyond _ cut l a r) = done [] [] 0 (ends.last ends.nothing) l a (r [])
 
-one_tuple : List (List Literal)
-one_tuple = (plain_number (48 ∷ []) ∷ []) ∷ []
-
 zero_listed : Listed Tuples ((plain_number (48 ∷ []) ∷ []) ∷ [])
 zero_listed = listed grammar.values (grammar.last (grammar.tuple (grammar.last grammar.number)))
 
@@ -334,9 +331,6 @@ sets_done (beyond vs u l a r) rest = done_after {First = λ ps qs. Commas Assign
 
 data Updates : List Token → List ℕ × (List Set × Option Filter) → Type 0 where
   updates : {xs ys : List Token} {name : List ℕ} {a : List Set × Option Filter} → Name xs name (Key word.Set ∷ ys) → Sets ys a → Updates xs (name, a)
-
-x_set : List Set
-x_set = record { column = 120 ∷ []; value = expr.Literal (plain_number (48 ∷ [])) } ∷ []
 
 x_sets : Sets (X ∷ Compare Equal ∷ Zero ∷ []) (record { column = 120 ∷ []; value = expr.Literal (plain_number (48 ∷ [])) } ∷ [], None)
 x_sets = sets (grammar.last (grammar.assign grammar.bare (grammar.term (grammar.factor (grammar.of_literal grammar.number))))) grammar.each

@@ -245,19 +245,6 @@ by_either bytes first second b w p q e d h = ((λ f. let a = h.0 f in (a.1, a.4)
 
 -- ---- texts with an end
 
--- where something is left, no tokens are the bytes
-pub unread_cuts_nothing : (text bytes e : List ℕ) (unread : ℕ) (us : List Token) → text ≡ ended bytes e
-    → ((others : List Token) → AreTokens text others → (unread ≡ 0) × (others ≡ us)) → 0 < unread → Decides false (IsCutOff bytes e)
-unread_cuts_nothing text bytes e unread us same only le =
-    ((λ f. absurd (cc)), (λ c. absurd (omega (arith, (only c.tokens (subst (λ (z : List ℕ). AreTokens z c.tokens) (sym same) c.lexed)).0, le))))
-
-pub read_cuts : (text bytes e : List ℕ) (unread : ℕ) (us : List Token) (b : Bool) → text ≡ ended bytes e
-    → ((others : List Token) → AreTokens text others → (unread ≡ 0) × (others ≡ us)) → AreTokens text us → Decides b (IsFront us) → Decides b (IsCutOff bytes e)
-read_cuts text bytes e unread us b same only whole f = (
-  (λ g. record { tokens = us; lexed = subst (λ (z : List ℕ). AreTokens z us) same whole; begun = f.0 g }),
-  (λ c. f.1 (subst (λ (z : List Token). IsFront z) (only c.tokens (subst (λ (z : List ℕ). AreTokens z c.tokens) (sym same) c.lexed)).1 c.begun)),
-)
-
 -- ---- loops
 
 -- the first items fail
@@ -303,10 +290,6 @@ end_search bytes low high le b =
     let next : high ≡ low + 1 = omega (arith, b.apart, le) in
     record { within = omega (arith, b.apart, b.within); begins = b.begins; longest = λ l g. b.fails (subst (λ (n : ℕ). Begins (take n bytes)) (sym next) g) }
 
-pub whole_text : (bytes : List ℕ) → Begins bytes → IsLongestPrefix bytes (length bytes)
-whole_text bytes g =
-    record { within = omega arith; begins = subst (λ (z : List ℕ). Begins z) (sym (take-length bytes)) g; longest = λ l f. absurd (omega arith) }
-
 -- ---- the same of a result
 
 pub tried_ok : {A : Type 0} {E : Type 0} (P : A → Type 0) (xs : List A) → ((x : A) → Contains xs x) → (r : Result Bool E) → IfOk r (λ b. Decides b (Any P xs))
@@ -325,27 +308,5 @@ pub by_either_ok : {E : Type 0} (bytes : List ℕ) (first second : List Word) (b
 by_either_ok bytes first second b (Ok w) p q e d h = by_either bytes first second b w p q e d h
 by_either_ok bytes first second b (Err x) p q e d h = tt
 
-pub read_cuts_ok : {E : Type 0} (text bytes e : List ℕ) (unread : ℕ) (us : List Token) (r : Result Bool E) → text ≡ ended bytes e
-    → ((others : List Token) → AreTokens text others → (unread ≡ 0) × (others ≡ us)) → AreTokens text us → IfOk r (λ b. Decides b (IsFront us))
-    → IfOk r (λ b. Decides b (IsCutOff bytes e))
-read_cuts_ok text bytes e unread us (Ok b) same only whole f = read_cuts text bytes e unread us b same only whole f
-read_cuts_ok text bytes e unread us (Err x) same only whole f = tt
-
--- no place of a word, or one
-pub no_place : (bytes word : List ℕ) (n : ℕ) → length word ≤ n → ((k : ℕ) → k < n → GoesOnAt bytes word (k + 1) → ⊥) → Decides false (GoesOn bytes word)
-no_place bytes word n le none = (
-  (λ f. absurd (cc)),
-  (λ g. let k = g.0 - 1 in let same : g.0 ≡ k + 1 = omega (arith, g.1) in absurd
-      (none k (omega (arith, g.1, g.2)) (subst (λ (z : ℕ). GoesOnAt bytes word z) same g.3))),
-)
-
 pub one_place : (bytes word : List ℕ) (n : ℕ) → n < length word → GoesOnAt bytes word (n + 1) → Decides true (GoesOn bytes word)
 one_place bytes word n le g = ((λ f. (n + 1, omega arith, omega (arith, le), g)), (λ h. refl))
-
-pub no_more_places : (bytes word : List ℕ) (n : ℕ) → (GoesOnAt bytes word (n + 1) → ⊥) → ((k : ℕ) → k < n → GoesOnAt bytes word (k + 1) → ⊥) → (k : ℕ)
-    → k < n + 1 → GoesOnAt bytes word (k + 1) → ⊥
-no_more_places bytes word n h none k le g = by_case (k == n) refl
-  where
-    by_case : (t : Bool) → (k == n) ≡ t → ⊥
-    by_case true e = h (subst (λ (z : ℕ). GoesOnAt bytes word (z + 1)) (eqb-true k n e) g)
-    by_case false e = none k (grind (arith, le)) g

@@ -69,9 +69,6 @@ owes_own session work is = omega (arith, owed_open session.work work is)
 pub owes_end : (session : Session) (work : Work) → session.work ≡ Some work → work.can_end ≡ true → 0 < owed_of session
 owes_end session work is ends = omega (arith, rw ends at (owed_open session.work work is))
 
-pub owes_to_change : (session : Session) (work : Work) → session.work ≡ Some work → session.can_change ≡ true → work.own + 2 ≤ owed_of session
-owes_to_change session work is can = omega (arith, owed_open session.work work is, ap (bit 2) can)
-
 pub owes_count : (session : Session) (work : Work) → session.work ≡ Some work → work.own + bit 2 session.can_change ≤ owed_of session
 owes_count session work is = omega (arith, owed_open session.work work is)
 
