@@ -3,7 +3,7 @@ use Rattle.std.proofs.Common.{◌≡◌, ℕ, suc, ◌≤◌, Bool, true, false,
 use Rattle.std.proofs.lemmas.List.Elements.{filter-append}
 use Rattle.inno_model.specs.declared.event.Event.{Event}
 use Rattle.inno_model.specs.declared.board.Board.{Board}
-use Rattle.inno_model.specs.Boards.{is_call, calls_of, places_of, AreFalling, Keeps}
+use Rattle.inno_model.specs.Boards.{is_call, calls_of, places_of, Keeps}
 
 pub calls_of-append : (x : ℕ) (a b : List Event) → calls_of x (a ++ b) ≡ calls_of x a ++ calls_of x b
 calls_of-append x a b = filter-append (is_call x) a b

@@ -25,7 +25,7 @@ use Rattle.law_crashes.specs.Since.{KeepsSince, all_groups, HasHeader, IsDurable
 use Rattle.law_crashes.proofs.AtRest.{honest_at_rest, header_left}
 use Rattle.law_crashes.proofs.Commits.{logged_by_each}
 use Rattle.law_crashes.proofs.Prefix.{prefix_stands}
-use Rattle.law_crashes.proofs.Keeps.{files_before, keeps_entry, keeps_ack, keeps_calls, keeps_first}
+use Rattle.law_crashes.proofs.Keeps.{files_before, keeps_entry, keeps_ack, keeps_calls}
 
 -- ---- a running engine
 

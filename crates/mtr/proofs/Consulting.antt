@@ -6,7 +6,7 @@ use Rattle.store_api.specs.declared.visits.Visit.{Visit}
 use Rattle.store_api.specs.declared.visits.Visit.TheVariants.{Failed, Again, Bad}
 use Rattle.mtr.specs.Seen.{MtrState, is_in, visit, visit_all, claim, AreAmong, AreDistinct, Visits, IsShut}
 use Rattle.mtr.specs.Calls.{Goes, Puts, SamePages, Looks, Explains, Asks, Consults, IsReason}
-use Rattle.mtr.proofs.Claims.{claim_all, claim_place}
+use Rattle.mtr.proofs.Claims.{claim_all}
 
 rose_later : (a b c : ℕ) → a ≤ b → Rose b c → Rose a c
 rose_later a b c first rose = omega arith
