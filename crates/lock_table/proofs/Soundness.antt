@@ -1,5 +1,5 @@
 -- The facts of the lists, kept by each change of them.
-use Rattle.std.proofs.Common.{◌≡◌, ℕ, Bool, true, false, cond, List, [], ◌∷◌, ◌++◌, refl, sym, ap, subst, ◌∙◌, append_assoc, append-nil}
+use Rattle.std.proofs.Common.{◌≡◌, ℕ, ◌+◌, ◌≤◌, Bool, true, false, cond, length, arith, List, [], ◌∷◌, ◌++◌, refl, sym, ap, subst, ◌∙◌, append_assoc, append-nil}
 use Rattle.std.proofs.lemmas.List.Folds.{list_any-append}
 use Rattle.std.proofs.lemmas.Bool.{eq-eqb}
 use Rattle.std.specs.Prelude.{◌==◌, ◌&&◌, ◌||◌, not, filter, Option, is_some}
@@ -21,20 +21,34 @@ use Rattle.lock_rules.specs.Conflicts.{conflicts, kind_of, kind_at, kinds_confli
 use Rattle.lock_rules.specs.Rules.{FitsItsRule, number_of}
 use Rattle.lock_rules.proofs.Booleans.{and_false, or_true, or_false, or_false-left, or_false-right, split}
 use Rattle.lock_rules.proofs.Beside.{conflicts-back, spot_refl, txn_sym}
-use Rattle.lock_table.specs.Queue.{serve, is_blocked, is_waiting, AreSingle, AreBlocked, AreApart, AreSound, stands_beside}
-use Rattle.lock_table.specs.Records.{moved, left_by, copies, as_gap, becomes_gap}
+use Rattle.lock_table.specs.Queue.{serve, without, is_blocked, is_covered, is_waiting, AreSingle, AreBlocked, AreApart, AreSound, stands_beside}
+use Rattle.lock_table.specs.Records.{moved, moved_on, left_by, uncovered, own_copies, copies, as_gap, becomes_gap}
+use Rattle.lock_table.specs.View.{after_insertion}
+use Rattle.lock_table.proofs.Stronger.{any_way}
 use Rattle.lock_table.proofs.Places.{all_weaker, all_true, all_append, all_push, all_filter}
 
 -- a property of all locks, along each change
 module _ (R : Lock → Type 0) where
+  -- those on other spots may get it from another one
+  pub all_moved_to : (Q : Lock → Type 0) (by : Option ℕ) (gone next : Spot) → ((w : Lock) → R (as_gap (number_of RecordWent) next w))
+      → ((w : Lock) → Q w → same_spot w.spot gone ≡ false → R w) → (done ws : List Lock) → AllByRecursion R done → AllByRecursion Q ws → AllByRecursion R (moved_on by gone next done ws)
+  all_moved_to Q by gone next gaps stays done [] all others = all
+  all_moved_to Q by gone next gaps stays done (w ∷ ws) all others =
+      any_way by gone next (AllByRecursion R) done ws w
+      (all_moved_to Q by gone next gaps stays (done ++ as_gap (number_of RecordWent) next w ∷ []) ws (all_push R done (as_gap (number_of RecordWent) next w) all (gaps w)) others.1)
+      (all_moved_to Q by gone next gaps stays done ws all others.1)
+      (λ elsewhere. all_moved_to Q by gone next gaps stays (done ++ w ∷ []) ws (all_push R done w all (stays w others.0 elsewhere)) others.1)
+
   pub all_moved : (by : Option ℕ) (gone next : Spot) → ((w : Lock) → R (as_gap (number_of RecordWent) next w)) → (ws : List Lock) → AllByRecursion R ws → AllByRecursion R (moved by gone next ws)
-  all_moved by gone next gaps [] all = tt
-  all_moved by gone next gaps (w ∷ ws) all = go (same_spot w.spot gone) (becomes_gap by w) (all_moved by gone next gaps ws all.1) where
-    go : (b d : Bool) → AllByRecursion R (moved by gone next ws)
-        → AllByRecursion R (cond b (cond d (as_gap (number_of RecordWent) next w ∷ moved by gone next ws) (moved by gone next ws)) (w ∷ moved by gone next ws))
-    go true true rest = (gaps w, rest)
-    go true false rest = rest
-    go false d rest = (all.0, rest)
+  all_moved by gone next gaps ws all = all_moved_to R by gone next gaps (λ w is _. is) [] ws tt all
+
+  pub all_uncovered : (held ws : List Lock) → AllByRecursion R ws → AllByRecursion R (uncovered held ws)
+  all_uncovered held [] all = tt
+  all_uncovered held (w ∷ ws) all =
+      elim (is_covered held w) as (λ b. AllByRecursion R (cond b (uncovered held ws) (w ∷ uncovered (held ++ w ∷ []) ws))) [
+        | true ↦ all_uncovered held ws all.1
+        | false ↦ (all.0, all_uncovered (held ++ w ∷ []) ws all.1)
+      ]
 
   pub all_left : (by : Option ℕ) (gone next : Spot) → ((w : Lock) → R (as_gap (number_of RecordWent) next w)) → (ws : List Lock) → AllByRecursion R (left_by by gone next ws)
   all_left by gone next gaps [] = tt
@@ -43,12 +57,15 @@ module _ (R : Lock → Type 0) where
     go true rest = (gaps w, rest)
     go false rest = rest
 
-  pub all_copies : (txn : ℕ) (new next : Spot) → ((w : Lock) → R (as_gap (number_of CopiedOnInsert) new w)) → (ws : List Lock) → AllByRecursion R (copies txn new next ws)
-  all_copies txn new next gaps [] = tt
-  all_copies txn new next gaps (w ∷ ws) = go _ (all_copies txn new next gaps ws) where
-    go : (b : Bool) → AllByRecursion R (copies txn new next ws) → AllByRecursion R (cond b (as_gap (number_of CopiedOnInsert) new w ∷ copies txn new next ws) (copies txn new next ws))
+  all_own : (txn : ℕ) (new next : Spot) → ((w : Lock) → R (as_gap (number_of CopiedOnInsert) new w)) → (ws : List Lock) → AllByRecursion R (own_copies txn new next ws)
+  all_own txn new next gaps [] = tt
+  all_own txn new next gaps (w ∷ ws) = go _ (all_own txn new next gaps ws) where
+    go : (b : Bool) → AllByRecursion R (own_copies txn new next ws) → AllByRecursion R (cond b (as_gap (number_of CopiedOnInsert) new w ∷ own_copies txn new next ws) (own_copies txn new next ws))
     go true rest = (gaps w, rest)
     go false rest = rest
+
+  pub all_copies : (txn : ℕ) (new next : Spot) → ((w : Lock) → R (as_gap (number_of CopiedOnInsert) new w)) → (ws : List Lock) → AllByRecursion R (copies txn new next ws)
+  all_copies txn new next gaps ws = all_uncovered ws (own_copies txn new next ws) (all_own txn new next gaps ws)
 
   pub all_served : (held earlier queue : List Lock) → AllByRecursion R held → AllByRecursion R earlier → AllByRecursion R queue
       → AllByRecursion R (serve held earlier queue).granted × AllByRecursion R (serve held earlier queue).waiting
@@ -274,13 +291,20 @@ module _ (granted waiting : List Lock) (sound : AreSound granted waiting) where
   requests_left test queue is = subst AreRequests (sym is) (single_filter test waiting sound.single, all_filter FitsItsRule test waiting sound.waiting_fit)
 
   -- a record goes
-  pub locks_moved : (by : Option ℕ) (gone next : Spot) (held held' : List Lock) → held ≡ moved by gone next granted → held' ≡ held ++ left_by by gone next waiting → AreLocks held'
+  pub locks_moved : (by : Option ℕ) (gone next : Spot) (held held' : List Lock) → held ≡ moved by gone next granted → held' ≡ held ++ uncovered held (left_by by gone next waiting) → AreLocks held'
   locks_moved by gone next held held' is is' =
-      subst AreLocks (sym (is' ∙ ap (λ ws. ws ++ left_by by gone next waiting) is)) (
-        apart_gaps (moved by gone next granted) (left_by by gone next waiting) (apart_moved by gone next granted sound.apart) (λ R gaps. all_left R by gone next (λ w. gaps (number_of RecordWent) next w) waiting),
-        all_append FitsItsRule (moved by gone next granted) (left_by by gone next waiting)
-            (all_moved FitsItsRule by gone next (went_fits next) granted sound.granted_fit) (all_left FitsItsRule by gone next (went_fits next) waiting),
-      )
+      subst AreLocks (sym (is' ∙ ap (λ ws. ws ++ uncovered ws (left_by by gone next waiting)) is)) (
+        apart_gaps now gaps_left (apart_moved by gone next granted sound.apart)
+            (λ R gaps. all_uncovered R now (left_by by gone next waiting) (all_left R by gone next (λ w. gaps (number_of RecordWent) next w) waiting)),
+        all_append FitsItsRule now gaps_left
+            (all_moved FitsItsRule by gone next (went_fits next) granted sound.granted_fit)
+            (all_uncovered FitsItsRule now (left_by by gone next waiting) (all_left FitsItsRule by gone next (went_fits next) waiting)),
+      ) where
+        now : List Lock
+        now = moved by gone next granted
+
+        gaps_left : List Lock
+        gaps_left = uncovered now (left_by by gone next waiting)
 
   -- a record is inserted
   pub sound_copied : (txn : ℕ) (new next : Spot) → AreSound (granted ++ copies txn new next granted) waiting
@@ -312,3 +336,30 @@ module _ (granted waiting : List Lock) (sound : AreSound granted waiting) where
       granted_fit = all_push FitsItsRule granted asked sound.granted_fit fits;
       waiting_fit = sound.waiting_fit;
     }
+
+-- who waits is one of these, and goes with its request
+pub fewer_without : (txn : ℕ) (ws : List Lock) → is_waiting txn ws ≡ true → length (without txn ws) + 1 ≤ length ws
+fewer_without txn [] none = cc
+fewer_without txn (w ∷ ws) there = go (w.txn == txn) there where
+  fewer : (ws : List Lock) → length (without txn ws) ≤ length ws
+  fewer [] = omega arith
+  fewer (w ∷ ws) = some (w.txn == txn) (fewer ws) where
+    some : (b : Bool) → length (without txn ws) ≤ length ws → length (cond (not b) (w ∷ without txn ws) (without txn ws)) ≤ length (w ∷ ws)
+    some true le = omega (arith, le)
+    some false le = omega (arith, le)
+
+  go : (b : Bool) → (b || is_waiting txn ws) ≡ true → length (cond (not b) (w ∷ without txn ws) (without txn ws)) + 1 ≤ length (w ∷ ws)
+  go true is = let le = fewer ws in omega (arith, le)
+  go false is = let le = fewer_without txn ws is in omega (arith, le)
+
+-- the locks of a record that is new: its inserter's own
+pub sound_inserted : (granted waiting : List Lock) (next : Spot) (asked : Lock) → AreSound granted waiting → FitsItsRule asked
+    → is_blocked (granted ++ copies asked.txn asked.spot next granted) waiting asked ≡ false → AreSound (after_insertion next asked granted) waiting
+sound_inserted granted waiting next asked sound fits free =
+    let here = sound_copied granted waiting sound asked.txn asked.spot next in
+    elim (is_covered held asked || is_intent asked.kind) as (λ b. AreSound (cond b held (held ++ asked ∷ [])) waiting) [
+      | true ↦ here
+      | false ↦ sound_granted held waiting here asked fits free
+    ] where
+      held : List Lock
+      held = granted ++ copies asked.txn asked.spot next granted
