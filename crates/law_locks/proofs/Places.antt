@@ -16,13 +16,13 @@ use Rattle.lock_rules.specs.Spots.{same_spot}
 use Rattle.lock_rules.specs.Conflicts.{conflicts, kind_of, kinds_conflict, same_lock}
 use Rattle.lock_rules.specs.Coverage.{stands_in, without_record}
 use Rattle.lock_rules.specs.Rules.{number_of}
-use Rattle.lock_rules.proofs.Booleans.{and_false, first, or_false, or_false-left, or_false-right, or_left, or_right, true_false, split}
+use Rattle.lock_rules.proofs.Booleans.{and_false, or_false, or_left, or_right, true_false, split}
 use Rattle.lock_rules.proofs.Beside.{spot_refl, spot_same, key_refl}
 use Rattle.lock_table.specs.Queue.{serve, without, without_lock, is_blocked, is_covered}
-use Rattle.lock_table.specs.Records.{as_gap, uncovered, own_copies, copies, moved, left_by, elsewhere, after_removal, after_end}
+use Rattle.lock_table.specs.Records.{uncovered, copies, moved, left_by, elsewhere, after_removal, after_end}
 use Rattle.lock_table.specs.Coverage.{IsInsertion}
 use Rattle.lock_table.specs.View.{Table, HasPlaces, IsAnswered, IsGranted, must_wait}
-use Rattle.lock_table.proofs.Soundness.{all_left, all_copies, all_moved_to, all_uncovered, all_served}
+use Rattle.lock_table.proofs.Soundness.{all_left, all_copies, all_moved_to, all_uncovered, all_served, copies_free}
 use Rattle.law_locks.specs.Stand.{LocksStand, AllStand, Removes}
 use Rattle.law_locks.proofs.Spots.{stays, new_not}
 
@@ -129,39 +129,20 @@ module _ (records : List (List ℕ)) (new_key : List ℕ) (new next : Spot) (ins
       ∙ ap (λ b. b && kinds_conflict (kind_of lock) lock.mode (kind_of asked) asked.mode) (and_false (not (lock.txn == asked.txn)))))
       (none_on_new locks all.1 asked at)
 
-  -- the copies are the inserter's own
-  free_copies : (txn : ℕ) (locks : List Lock) (asked : Lock) → asked.txn ≡ txn → list_any (λ lock. conflicts lock asked) (own_copies txn new next locks) ≡ false
-  free_copies txn [] asked own = refl
-  free_copies txn (lock ∷ locks) asked own =
-      let rest = free_copies txn locks asked own in
-      split (lock.txn == txn && same_spot lock.spot next && locks_gap lock.kind)
-      (λ copied. subst (λ b. list_any (λ held. conflicts held asked)
-      (cond b (as_gap (number_of CopiedOnInsert) new lock ∷ own_copies txn new next locks) (own_copies txn new next locks)) ≡ false)
-      (sym copied)
-      (or_false (conflicts (as_gap (number_of CopiedOnInsert) new lock) asked) _
-      (ap (λ b. not b && same_spot new asked.spot && kinds_conflict Gap lock.mode (kind_of asked) asked.mode)
-      (eq-eqb lock.txn asked.txn (eqb-true lock.txn txn (first (lock.txn == txn) _ (first (lock.txn == txn && same_spot lock.spot next) _ copied)) ∙ sym
-      own)))
-      rest))
-      (λ not_copied. subst (λ b. list_any (λ held. conflicts held asked)
-      (cond b (as_gap (number_of CopiedOnInsert) new lock ∷ own_copies txn new next locks) (own_copies txn new next locks)) ≡ false) (sym not_copied) rest)
-
-  free_uncovered : (p : Lock → Bool) (held ws : List Lock) → list_any p ws ≡ false → list_any p (uncovered held ws) ≡ false
-  free_uncovered p held [] none = refl
-  free_uncovered p held (w ∷ ws) none =
-      elim (is_covered held w) as (λ b. list_any p (cond b (uncovered held ws) (w ∷ uncovered (held ++ w ∷ []) ws)) ≡ false) [
-        | true ↦ free_uncovered p held ws (or_false-right (p w) _ none)
-        | false ↦ or_false (p w) _ (or_false-left (p w) _ none) (free_uncovered p (held ++ w ∷ []) ws (or_false-right (p w) _ none))
-      ]
-
   -- so the inserter's lock of it is granted at once
   pub new_is_free : (txn : ℕ) (granted waiting : List Lock) (asked : Lock) → AllStand new.index records granted waiting → asked.txn ≡ txn
       → asked.spot ≡ new → is_blocked (granted ++ copies txn new next granted) waiting asked ≡ false
   new_is_free txn granted waiting asked all own at =
       or_false _ _
       (list_any-append (λ lock. conflicts lock asked) granted (copies txn new next granted) ∙ or_false _ _ (none_on_new granted all.granted_stand asked at)
-      (free_uncovered (λ lock. conflicts lock asked) granted (own_copies txn new next granted) (free_copies txn granted asked own)))
+      (copies_free txn new next granted asked own))
       (none_on_new waiting all.waiting_stand asked at)
+
+  pub new_needs_no_wait : (table : Table) (asked : Lock) → AllStand new.index records table.granted table.waiting → asked.spot ≡ new → must_wait table asked ≡ false
+  new_needs_no_wait table asked all at =
+      ap (λ b. not (is_covered table.granted asked) && b)
+      (or_false _ _ (none_on_new table.granted all.granted_stand asked at) (none_on_new table.waiting all.waiting_stand asked at))
+      ∙ and_false (not (is_covered table.granted asked))
 
 need_not : (table : Table) (asked : Lock) → is_blocked table.granted table.waiting asked ≡ false → must_wait table asked ≡ false
 need_not table asked free = ap (λ b. not (is_covered table.granted asked) && b) free ∙ and_false (not (is_covered table.granted asked))

@@ -1,7 +1,7 @@
 -- The facts of the lists, kept by each change of them.
 use Rattle.std.proofs.Common.{◌≡◌, ℕ, ◌+◌, ◌≤◌, Bool, true, false, cond, length, arith, List, [], ◌∷◌, ◌++◌, refl, sym, ap, subst, ◌∙◌, append_assoc, append-nil}
 use Rattle.std.proofs.lemmas.List.Folds.{list_any-append}
-use Rattle.std.proofs.lemmas.Bool.{eq-eqb}
+use Rattle.std.proofs.lemmas.Bool.{eq-eqb, eqb-true}
 use Rattle.std.specs.Prelude.{◌==◌, ◌&&◌, ◌||◌, not, filter, Option, is_some}
 use Rattle.std.specs.List.{list_any, AllByRecursion}
 use Rattle.inno_types.specs.declared.lock.LockKind.{LockKind}
@@ -15,15 +15,15 @@ use Rattle.inno_types.specs.declared.lock.Lock.{Lock}
 use Rattle.inno_types.specs.declared.stmt.Bound.TheVariants.{Open}
 use Rattle.lock_rules.specs.declared.rule.Rule.TheVariants.{RecordWent, CopiedOnInsert}
 use Rattle.lock_rules.specs.declared.rule.Place.TheVariants.{New}
-use Rattle.lock_rules.specs.Kinds.{is_intent, same_mode, same_level}
+use Rattle.lock_rules.specs.Kinds.{is_intent, locks_gap, same_mode, same_level}
 use Rattle.lock_rules.specs.Spots.{same_spot}
-use Rattle.lock_rules.specs.Conflicts.{conflicts, kind_of, kind_at, kinds_conflict}
+use Rattle.lock_rules.specs.Conflicts.{conflicts, covers, kind_of, kind_at, kinds_conflict}
 use Rattle.lock_rules.specs.Rules.{FitsItsRule, number_of}
-use Rattle.lock_rules.proofs.Booleans.{and_false, or_true, or_false, or_false-left, or_false-right, split}
+use Rattle.lock_rules.proofs.Booleans.{first, and_false, or_true, or_false, or_false-left, or_false-right, split}
 use Rattle.lock_rules.proofs.Beside.{conflicts-back, spot_refl, txn_sym}
 use Rattle.lock_table.specs.Queue.{serve, without, is_blocked, is_covered, is_waiting, AreSingle, AreBlocked, AreApart, AreSound, stands_beside}
 use Rattle.lock_table.specs.Records.{moved, moved_on, left_by, uncovered, own_copies, copies, as_gap, becomes_gap}
-use Rattle.lock_table.specs.View.{after_insertion}
+use Rattle.lock_table.specs.View.{Table, after_insertion, must_wait}
 use Rattle.lock_table.proofs.Stronger.{any_way}
 use Rattle.lock_table.proofs.Places.{all_weaker, all_true, all_append, all_push, all_filter}
 
@@ -95,7 +95,7 @@ own_beside : (w : Lock) → stands_beside w w ≡ true
 own_beside w =
     ap (λ b. is_intent w.kind || not (not b && same_spot w.spot w.spot && kinds_conflict (kind_of w) w.mode (kind_of w) w.mode)) (eq-eqb w.txn w.txn refl) ∙ or_true (is_intent w.kind)
 
-mode_refl : (mode : Mode) → same_mode mode mode ≡ true
+pub mode_refl : (mode : Mode) → same_mode mode mode ≡ true
 mode_refl S = refl
 mode_refl X = refl
 
@@ -111,7 +111,7 @@ four false b c d p q r s = cc
 four true false c d p q r s = cc
 four true true false d p q r s = cc
 
-item_refl : (item : ℕ) (level : Level) → ((item == item) && same_level level level) ≡ true
+pub item_refl : (item : ℕ) (level : Level) → ((item == item) && same_level level level) ≡ true
 item_refl item level = ap (λ b. b && same_level level level) (eq-eqb item item refl) ∙ level_refl level
 
 -- a gap lock by the two rules on records that go and appear fits its rule
@@ -137,7 +137,7 @@ single_less : (xs : List Lock) (y : Lock) (zs : List Lock) → AreSingle (xs ++ 
 single_less [] y zs single = single.1
 single_less (x ∷ xs) y zs single = (waiting_less x.txn xs y zs single.0, single_less xs y zs single.1)
 
-waiting_filter : (txn : ℕ) (test : Lock → Bool) (ws : List Lock) → is_waiting txn ws ≡ false → is_waiting txn (filter test ws) ≡ false
+pub waiting_filter : (txn : ℕ) (test : Lock → Bool) (ws : List Lock) → is_waiting txn ws ≡ false → is_waiting txn (filter test ws) ≡ false
 waiting_filter txn test [] none = refl
 waiting_filter txn test (w ∷ ws) none = go (test w) (waiting_filter txn test ws (or_false-right (w.txn == txn) _ none)) where
   go : (b : Bool) → is_waiting txn (filter test ws) ≡ false → is_waiting txn (cond b (w ∷ filter test ws) (filter test ws)) ≡ false
@@ -337,29 +337,66 @@ module _ (granted waiting : List Lock) (sound : AreSound granted waiting) where
       waiting_fit = sound.waiting_fit;
     }
 
+pub upto_without : (txn : ℕ) (ws : List Lock) → length (without txn ws) ≤ length ws
+upto_without txn [] = omega arith
+upto_without txn (w ∷ ws) = go (w.txn == txn) (upto_without txn ws) where
+  go : (b : Bool) → length (without txn ws) ≤ length ws → length (cond (not b) (w ∷ without txn ws) (without txn ws)) ≤ length (w ∷ ws)
+  go true le = omega (arith, le)
+  go false le = omega (arith, le)
+
 -- who waits is one of these, and goes with its request
 pub fewer_without : (txn : ℕ) (ws : List Lock) → is_waiting txn ws ≡ true → length (without txn ws) + 1 ≤ length ws
-fewer_without txn [] none = cc
-fewer_without txn (w ∷ ws) there = go (w.txn == txn) there where
-  fewer : (ws : List Lock) → length (without txn ws) ≤ length ws
-  fewer [] = omega arith
-  fewer (w ∷ ws) = some (w.txn == txn) (fewer ws) where
-    some : (b : Bool) → length (without txn ws) ≤ length ws → length (cond (not b) (w ∷ without txn ws) (without txn ws)) ≤ length (w ∷ ws)
-    some true le = omega (arith, le)
-    some false le = omega (arith, le)
+fewer_without txn [] there = cc
+fewer_without txn (w ∷ ws) there = go (w.txn == txn) (λ rest. fewer_without txn ws rest) there where
+  go : (b : Bool) → (is_waiting txn ws ≡ true → length (without txn ws) + 1 ≤ length ws) → (b || is_waiting txn ws) ≡ true
+      → length (cond (not b) (w ∷ without txn ws) (without txn ws)) + 1 ≤ length (w ∷ ws)
+  go true fewer is = omega (arith, upto_without txn ws)
+  go false fewer is = let le = fewer is in omega (arith, le)
 
-  go : (b : Bool) → (b || is_waiting txn ws) ≡ true → length (cond (not b) (w ∷ without txn ws) (without txn ws)) + 1 ≤ length (w ∷ ws)
-  go true is = let le = fewer ws in omega (arith, le)
-  go false is = let le = fewer_without txn ws is in omega (arith, le)
+-- the copies of the inserter's locks are its own
+own_free : (txn : ℕ) (new next : Spot) (locks : List Lock) (asked : Lock) → asked.txn ≡ txn → list_any (λ lock. conflicts lock asked) (own_copies txn new next locks) ≡ false
+own_free txn new next [] asked own = refl
+own_free txn new next (lock ∷ locks) asked own =
+    let rest = own_free txn new next locks asked own in
+    split (lock.txn == txn && same_spot lock.spot next && locks_gap lock.kind)
+    (λ copied. subst (λ b. list_any (λ held. conflicts held asked) (cond b (as_gap (number_of CopiedOnInsert) new lock ∷ own_copies txn new next locks) (own_copies txn new next locks)) ≡ false)
+    (sym copied)
+    (or_false (conflicts (as_gap (number_of CopiedOnInsert) new lock) asked) _
+    (ap (λ b. not b && same_spot new asked.spot && kinds_conflict Gap lock.mode (kind_of asked) asked.mode)
+    (eq-eqb lock.txn asked.txn (eqb-true lock.txn txn (first (lock.txn == txn) _ (first (lock.txn == txn && same_spot lock.spot next) _ copied)) ∙ sym own)))
+    rest))
+    (λ not_copied. subst (λ b. list_any (λ held. conflicts held asked)
+    (cond b (as_gap (number_of CopiedOnInsert) new lock ∷ own_copies txn new next locks) (own_copies txn new next locks)) ≡ false) (sym not_copied) rest)
+
+free_uncovered : (p : Lock → Bool) (held ws : List Lock) → list_any p ws ≡ false → list_any p (uncovered held ws) ≡ false
+free_uncovered p held [] none = refl
+free_uncovered p held (w ∷ ws) none =
+    elim (is_covered held w) as (λ b. list_any p (cond b (uncovered held ws) (w ∷ uncovered (held ++ w ∷ []) ws)) ≡ false) [
+      | true ↦ free_uncovered p held ws (or_false-right (p w) _ none)
+      | false ↦ or_false (p w) _ (or_false-left (p w) _ none) (free_uncovered p (held ++ w ∷ []) ws (or_false-right (p w) _ none))
+    ]
+
+pub copies_free : (txn : ℕ) (new next : Spot) (locks : List Lock) (asked : Lock) → asked.txn ≡ txn → list_any (λ lock. conflicts lock asked) (copies txn new next locks) ≡ false
+copies_free txn new next locks asked own = free_uncovered (λ lock. conflicts lock asked) locks (own_copies txn new next locks) (own_free txn new next locks asked own)
 
 -- the locks of a record that is new: its inserter's own
-pub sound_inserted : (granted waiting : List Lock) (next : Spot) (asked : Lock) → AreSound granted waiting → FitsItsRule asked
-    → is_blocked (granted ++ copies asked.txn asked.spot next granted) waiting asked ≡ false → AreSound (after_insertion next asked granted) waiting
-sound_inserted granted waiting next asked sound fits free =
-    let here = sound_copied granted waiting sound asked.txn asked.spot next in
-    elim (is_covered held asked || is_intent asked.kind) as (λ b. AreSound (cond b held (held ++ asked ∷ [])) waiting) [
-      | true ↦ here
-      | false ↦ sound_granted held waiting here asked fits free
-    ] where
+pub sound_inserted : (t : Table) (next : Spot) (asked : Lock) → AreSound t.granted t.waiting → FitsItsRule asked → must_wait t asked ≡ false
+    → AreSound (after_insertion next asked t.granted) t.waiting
+sound_inserted t next asked sound fits free =
+    let here = sound_copied t.granted t.waiting sound asked.txn asked.spot next in
+    split (is_covered held asked || is_intent asked.kind)
+    (λ nothing. subst (λ b. AreSound (cond b held (held ++ asked ∷ [])) t.waiting) (sym nothing) here)
+    (λ more. subst (λ b. AreSound (cond b held (held ++ asked ∷ [])) t.waiting) (sym more)
+    (sound_granted held t.waiting here asked fits
+    (let unblocked : is_blocked t.granted t.waiting asked ≡ false = ap (λ b. not b && is_blocked t.granted t.waiting asked)
+    (sym (or_false-left (is_covered t.granted asked) (is_covered added asked)
+    (sym (list_any-append (λ lock. covers lock asked) t.granted added) ∙ or_false-left (is_covered held asked) _ more))) ∙ free in
+    or_false _ _
+    (list_any-append (λ lock. conflicts lock asked) t.granted added
+    ∙ or_false _ _ (or_false-left _ _ unblocked) (copies_free asked.txn asked.spot next t.granted asked refl))
+    (or_false-right (list_any (λ lock. conflicts lock asked) t.granted) _ unblocked)))) where
+      added : List Lock
+      added = copies asked.txn asked.spot next t.granted
+
       held : List Lock
-      held = granted ++ copies asked.txn asked.spot next granted
+      held = t.granted ++ added

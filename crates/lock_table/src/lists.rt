@@ -8,6 +8,7 @@ ghost use Rattle.lock_rules.specs.Conflicts.{conflicts, same_lock};
 ghost use Rattle.lock_table.specs.Keys.{IsShort};
 ghost use Rattle.lock_table.specs.Queue as queue;
 ghost use Rattle.lock_table.specs.Records as records;
+ghost use Rattle.lock_table.specs.View.{granted_with};
 
 use crate::kept::KeptLock;
 use inno_types::{Edge, Edges, Lock, LockKind, Spot};
@@ -228,6 +229,18 @@ fn add_gap(granted: &mut Vec<KeptLock>, gap: KeptLock)
 {
     if !is_covered(granted, &gap) {
         granted.push_reserved(gap);
+    }
+}
+
+/// Grants the lock, unless a granted lock covers it or it is an intention.
+pub fn add_lock(granted: &mut Vec<KeptLock>, lock: KeptLock)
+    requires { length granted.old.items < vec_capacity granted.old }
+    ensures items { granted.new.items ≡ granted_with granted.old.items lock }
+    ensures few { length granted.new.items ≤ length granted.old.items + 1 }
+    ensures capacity { vec_capacity granted.new ≡ vec_capacity granted.old }
+{
+    if !is_covered(granted, &lock) && !is_intent(lock.kind()) {
+        granted.push_reserved(lock);
     }
 }
 

@@ -1,17 +1,17 @@
 //! The table of all locks. Each call that changes it says what its two lists are afterwards.
 //! Its lists are changed by these calls alone. Outside this crate `deadlock` and tests make them, and so far no engine.
 
-ghost use Rattle.std.specs.Prelude.{◌≡◌, ℕ, ◌+◌, ◌≤◌, ◌∷◌, ◌++◌, [], false, true, not, length, map, vec_capacity, OnOk, OnErr, IfOk};
+ghost use Rattle.std.specs.Prelude.{◌≡◌, ℕ, if◌then◌else◌, ◌+◌, ◌≤◌, ◌∷◌, ◌++◌, [], false, true, not, length, map, vec_capacity, OnOk, OnErr, IfOk};
 ghost use Rattle.lock_rules.specs.Rules.{FitsItsRule};
 ghost use Rattle.lock_table.specs.Keys.{IsShort};
 ghost use Rattle.lock_table.specs.Queue.{AreSound, blockers, edge_to, edges_of, is_blocked, is_covered, is_waiting, serve, without, without_lock};
-ghost use Rattle.lock_table.specs.Records.{after_removal, copies, own_gaps};
+ghost use Rattle.lock_table.specs.Records.{after_removal, own_gaps};
 ghost use Rattle.lock_table.specs.Room.{HasRooms, KeepsRooms};
 ghost use Rattle.lock_table.specs.View.{with_lists, without_request, without_transaction, wait_of, others, after_insertion, must_wait, HasPlaces, IsAskedFor, IsAnswered};
 
 use crate::kept::KeptLock;
 use crate::lists::{
-    copy_gaps, edges_of, edges_to, give_back, is_among, is_blocked, is_covered, is_intent,
+    add_lock, copy_gaps, edges_of, edges_to, give_back, is_among, is_blocked, is_intent,
     is_waiting, keep_others, leave_gaps, move_locks, own_gaps, serve, stands,
 };
 use crate::room::{CycleRoom, widen};
@@ -140,9 +140,7 @@ impl LockTable {
     pub fn withdraw(&mut self, txn: u64)
         ensures { self.new ≡ without_request txn self.old }
     {
-        if is_waiting(&self.waiting, txn) {
-            self.withdrawn.push_reserved(txn);
-        }
+        note(&mut self.withdrawn, &self.waiting, txn);
         keep_others(&mut self.waiting, txn);
         serve(&mut self.granted, &mut self.waiting);
     }
@@ -171,15 +169,12 @@ impl LockTable {
         requires fits { FitsItsRule lock.now }
         requires rule { IsAskedFor lock.now.reason.rule }
         requires short { IsShort lock.now.spot.key }
-        requires free { is_blocked (self.old.granted ++ copies lock.now.txn lock.now.spot next.now self.old.granted) self.old.waiting lock.now ≡ false }
+        requires free { must_wait self.old lock.now ≡ false }
         requires room { HasPlaces (own_gaps lock.now.txn next.now self.old.granted + 1) self.old }
         ensures { self.new ≡ record self.old { granted = after_insertion next.now lock.now self.old.granted } }
     {
         copy_gaps(&mut self.granted, lock.txn, &lock.spot, next);
-        let own = KeptLock::new(lock);
-        if !is_covered(&self.granted, &own) && !is_intent(own.kind()) {
-            self.granted.push_reserved(own);
-        }
+        add_lock(&mut self.granted, KeptLock::new(lock));
     }
 
     /// A record goes by the rollback of a transaction, or by purge: locks on it become gap locks on the next record or
@@ -285,4 +280,15 @@ fn forget(txns: &mut Vec<u64>, txn: u64)
     ensures capacity { vec_capacity txns.new ≡ vec_capacity txns.old }
 {
     txns.retain(|other| *other != txn);
+}
+
+/// Adds the transaction, if it has a request.
+fn note(withdrawn: &mut Vec<u64>, waiting: &[KeptLock], txn: u64)
+    requires { length withdrawn.old.items + length waiting.now ≤ vec_capacity withdrawn.old }
+    ensures items { withdrawn.new.items ≡ (if is_waiting txn waiting.now then withdrawn.old.items ++ txn ∷ [] else withdrawn.old.items) }
+    ensures room { length withdrawn.new.items + length (without txn waiting.now) ≤ vec_capacity withdrawn.new }
+{
+    if is_waiting(waiting, txn) {
+        withdrawn.push_reserved(txn);
+    }
 }

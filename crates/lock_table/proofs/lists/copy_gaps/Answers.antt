@@ -1,7 +1,7 @@
-use Rattle.std.proofs.Common.{sym, ap, subst, ◌∙◌, ◌++◌, ◌∷◌, [], arith, ◌+◌, ◌<◌, length, vec_capacity}
-use Rattle.lock_table.specs.Records.{as_gap, uncovered}
+use Rattle.std.proofs.Common.{sym, ap, subst, ◌∙◌, ◌++◌, ◌∷◌, [], arith, ◌+◌, ◌<◌, length, length-append, drop, vec_capacity}
+use Rattle.lock_table.specs.Records.{as_gap, uncovered, own_copies}
 use Rattle.lock_table.proofs.Walk.{IsCopied}
-use Rattle.lock_table.proofs.Copying.{copied_one, skipped_one}
+use Rattle.lock_table.proofs.Copying.{copied_one, skipped_one, length-copies}
 use Rattle.lock_table.proofs.lists.copy_gaps.Goals as goal
 use Rattle.lock_table.proofs.lists.copy_gaps.Goals.{then-is_own_gap, else-is_own_gap}
 
@@ -27,3 +27,17 @@ loop-i-preserved c =
           (skipped_one a.txn a.new.now a.next.now old.items now.items c.loop-i.i (vec_capacity old) (vec_capacity now) c.loop-i.invariant
           within lock c.index-lock.ensures (sym c.is_own_gap.ensures ∙ w.if-is_own_gap.false))
     ]
+
+pub returns-clause-few : goal.returns-clause-few
+returns-clause-few c =
+    let a = c.args in
+    let so_far = c.loop-i.invariant in
+    let rest = uncovered c.loop-i.granted.items (own_copies a.txn a.new.now a.next.now (drop c.loop-i.i a.granted.now.items)) in
+    omega (
+      arith,
+      ap length so_far.items,
+      length-append a.granted.now.items so_far.done,
+      ap length so_far.same,
+      length-append so_far.done rest,
+      length-copies a.txn a.new.now a.next.now a.granted.now.items,
+    )
