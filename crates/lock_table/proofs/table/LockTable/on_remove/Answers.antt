@@ -1,3 +1,4 @@
+use Rattle.std.proofs.Common.{arith}
 use Rattle.lock_table.proofs.Soundness.{served_as, locks_moved, requests_left}
 use Rattle.lock_table.proofs.table.LockTable.on_remove.Goals as goal
 
@@ -7,4 +8,5 @@ invariant_of-self c =
       served_as _ _ _ _ (locks_moved _ _ sound c.args.by c.args.gone.now c.args.next.now _ _ c.move_locks.ensures.items c.leave_gaps.ensures.granted)
           (requests_left _ _ sound _ _ c.leave_gaps.ensures.waiting) c.serve.ensures.granted c.serve.ensures.waiting,
       c.serve.ensures.room,
+      omega (arith, c.leave_gaps.ensures.fewer, c.serve.ensures.fewer, c.self.invariant.2),
     )
