@@ -26,8 +26,12 @@ module _ (by : Option ℕ) (gone next : Spot) where
     pub room_left : (i : ℕ) → length ws ≤ i → now ++ uncovered now (left_by by gone next (drop i ws)) ≡ old ++ uncovered old (left_by by gone next ws) → length now + length (elsewhere gone ws) ≤ capacity
     room_left i past same =
         omega (
-          arith, ap length same, length-append now (uncovered now (left_by by gone next (drop i ws))), length-append old (uncovered old (left_by by gone next ws)),
-          length-uncovered old (left_by by gone next ws), left_and_stay ws,
+          arith,
+          ap length same,
+          length-append now (uncovered now (left_by by gone next (drop i ws))),
+          length-append old (uncovered old (left_by by gone next ws)),
+          length-uncovered old (left_by by gone next ws),
+          left_and_stay ws,
         )
 
     module _ (i : ℕ) (w : Lock) (lt : i < length ws) (is : w ≡ get_or ws i w) (here : same_spot w.spot gone ≡ true) (gap : becomes_gap by w ≡ true)
@@ -49,8 +53,13 @@ module _ (by : Option ℕ) (gone next : Spot) where
           let first : uncovered now (left_by by gone next (drop i ws)) ≡ one ∷ uncovered (now ++ one ∷ []) behind
           = ap (uncovered now) first_one ∙ ap (λ b. cond b (uncovered now behind) (one ∷ uncovered (now ++ one ∷ []) behind)) free in
           omega (
-            arith, ap length same, ap length first, length-append now (uncovered now (left_by by gone next (drop i ws))), length-append old (uncovered old (left_by by gone next ws)),
-            length-uncovered old (left_by by gone next ws), left_and_stay ws,
+            arith,
+            ap length same,
+            ap length first,
+            length-append now (uncovered now (left_by by gone next (drop i ws))),
+            length-append old (uncovered old (left_by by gone next ws)),
+            length-uncovered old (left_by by gone next ws),
+            left_and_stay ws,
           )
 
       -- and behind it

@@ -21,9 +21,9 @@ use Rattle.lock_rules.specs.Conflicts.{conflicts, covers, kind_of, kind_at, kind
 use Rattle.lock_rules.specs.Rules.{FitsItsRule, number_of}
 use Rattle.lock_rules.proofs.Booleans.{first, and_false, or_true, or_false, or_false-left, or_false-right, split}
 use Rattle.lock_rules.proofs.Beside.{conflicts-back, spot_refl, txn_sym}
-use Rattle.lock_table.specs.Queue.{serve, without, is_blocked, is_covered, is_waiting, AreSingle, AreBlocked, AreApart, AreSound, stands_beside}
+use Rattle.lock_table.specs.Queue.{serve, without, is_blocked, is_covered, is_waiting, is_among, AreOthers, AreSingle, AreBlocked, AreApart, AreSound, stands_beside}
 use Rattle.lock_table.specs.Records.{moved, moved_on, left_by, uncovered, own_copies, copies, as_gap, becomes_gap}
-use Rattle.lock_table.specs.View.{Table, after_insertion, must_wait}
+use Rattle.lock_table.specs.View.{Table, after_insertion, must_wait, others}
 use Rattle.lock_table.proofs.Stronger.{any_way}
 use Rattle.lock_table.proofs.Places.{all_weaker, all_true, all_append, all_push, all_filter}
 
@@ -400,3 +400,61 @@ sound_inserted t next asked sound fits free =
 
       held : List Lock
       held = t.granted ++ added
+
+-- ---- whose requests were taken back
+
+all_waiting : (R : Lock → Type 0) (held earlier queue : List Lock) → AllByRecursion R earlier → AllByRecursion R queue → AllByRecursion R (serve held earlier queue).waiting
+all_waiting R held earlier [] some all = some
+all_waiting R held earlier (asked ∷ queue) some all =
+    elim (is_blocked held earlier asked) as (λ d. AllByRecursion R (cond d (serve held (earlier ++ asked ∷ []) queue) (serve (held ++ asked ∷ []) earlier queue)).waiting) [
+      | true ↦ all_waiting R held (earlier ++ asked ∷ []) queue (all_push R earlier asked some all.0) all.1
+      | false ↦ all_waiting R (held ++ asked ∷ []) earlier queue some all.1
+    ]
+
+module _ (txns : List ℕ) where
+  pub others_served : (held queue waiting : List Lock) → AreOthers txns queue → waiting ≡ (serve held [] queue).waiting → AreOthers txns waiting
+  others_served held queue waiting all is = subst (AreOthers txns) (sym is) (all_waiting (λ asked. is_among asked.txn txns ≡ false) held [] queue tt all)
+
+  pub others_left : (test : Lock → Bool) (queue left : List Lock) → AreOthers txns queue → left ≡ filter test queue → AreOthers txns left
+  others_left test queue left all is = subst (AreOthers txns) (sym is) (all_filter (λ asked. is_among asked.txn txns ≡ false) test queue all)
+
+  -- one more, whose request goes
+  pub others_noted : (txn : ℕ) (b : Bool) (queue : List Lock) → AreOthers txns queue → AreOthers (cond b (txns ++ txn ∷ []) txns) (without txn queue)
+  others_noted txn b [] all = tt
+  others_noted txn b (w ∷ queue) all =
+      let rest = others_noted txn b queue all.1 in
+      split (w.txn == txn)
+      (λ same. subst (λ d. AreOthers now (cond (not d) (w ∷ without txn queue) (without txn queue))) (sym same) rest)
+      (λ other. subst (λ d. AreOthers now (cond (not d) (w ∷ without txn queue) (without txn queue))) (sym other) (
+        elim b as (λ d. is_among w.txn (cond d (txns ++ txn ∷ []) txns) ≡ false) [
+          | true ↦ list_any-append (λ t. t == w.txn) txns (txn ∷ []) ∙ or_false (is_among w.txn txns) _ all.0 (or_false (txn == w.txn) false (txn_sym txn w.txn ∙ other) refl)
+          | false ↦ all.0
+        ],
+        rest,
+      )) where
+        now : List ℕ
+        now = cond b (txns ++ txn ∷ []) txns
+
+among_fewer : (txn : ℕ) (test : ℕ → Bool) (txns : List ℕ) → is_among txn txns ≡ false → is_among txn (filter test txns) ≡ false
+among_fewer txn test [] none = refl
+among_fewer txn test (t ∷ txns) none =
+    elim (test t) as (λ b. is_among txn (cond b (t ∷ filter test txns) (filter test txns)) ≡ false) [
+      | true ↦ or_false (t == txn) _ (or_false-left (t == txn) _ none) (among_fewer txn test txns (or_false-right (t == txn) _ none))
+      | false ↦ among_fewer txn test txns (or_false-right (t == txn) _ none)
+    ]
+
+not_among_others : (txn : ℕ) (txns : List ℕ) → is_among txn (others txn txns) ≡ false
+not_among_others txn [] = refl
+not_among_others txn (t ∷ txns) =
+    split (t == txn)
+    (λ same. subst (λ b. is_among txn (cond (not b) (t ∷ others txn txns) (others txn txns)) ≡ false) (sym same) (not_among_others txn txns))
+    (λ other. subst (λ b. is_among txn (cond (not b) (t ∷ others txn txns) (others txn txns)) ≡ false) (sym other)
+    (or_false (t == txn) _ other (not_among_others txn txns)))
+
+pub others_fewer : (txn : ℕ) (txns : List ℕ) (queue : List Lock) → AreOthers txns queue → AreOthers (others txn txns) queue
+others_fewer txn txns queue all = all_weaker (λ asked. is_among asked.txn txns ≡ false) (λ asked. is_among asked.txn (others txn txns) ≡ false)
+    (λ asked none. among_fewer asked.txn (λ t. not (t == txn)) txns none) queue all
+
+pub others_asked : (txns : List ℕ) (queue : List Lock) (asked : Lock) → AreOthers txns queue → AreOthers (others asked.txn txns) (queue ++ asked ∷ [])
+others_asked txns queue asked all =
+    all_push (λ w. is_among w.txn (others asked.txn txns) ≡ false) queue asked (others_fewer asked.txn txns queue all) (not_among_others asked.txn txns)

@@ -13,7 +13,7 @@ use Rattle.lock_rules.specs.Kinds.{is_shared, locks_gap, locks_record}
 use Rattle.lock_rules.specs.Spots.{same_spot}
 use Rattle.lock_rules.specs.Conflicts.{covers, kind_covers, kind_of}
 use Rattle.lock_rules.specs.Rules.{number_of}
-use Rattle.lock_rules.proofs.Booleans.{first, second, both, or_left, or_right, or_cases, or_false-left, or_false-right, true_false, split}
+use Rattle.lock_rules.proofs.Booleans.{first, second, or_left, or_right, or_cases, true_false, split}
 use Rattle.lock_rules.proofs.Beside.{spot_same}
 use Rattle.lock_table.specs.Queue.{is_covered}
 use Rattle.lock_table.specs.Records.{as_gap, becomes_gap, moved_on, uncovered}

@@ -39,8 +39,8 @@ abbrev pub moved_on : Option ℕ → Spot → Spot → List Lock → List Lock �
 moved_on by gone next done [] = done
 moved_on by gone next done (lock ∷ locks) =
     if same_spot lock.spot gone then (
-      if becomes_gap by lock && not (is_covered done (as_gap (number_of RecordWent) next lock) || is_covered locks (as_gap (number_of RecordWent) next lock))
-      then moved_on by gone next (done ++ as_gap (number_of RecordWent) next lock ∷ []) locks else moved_on by gone next done locks)
+    if becomes_gap by lock && not (is_covered done (as_gap (number_of RecordWent) next lock) || is_covered locks (as_gap (number_of RecordWent) next lock))
+    then moved_on by gone next (done ++ as_gap (number_of RecordWent) next lock ∷ []) locks else moved_on by gone next done locks)
     else moved_on by gone next (done ++ lock ∷ []) locks
 
 abbrev pub moved : Option ℕ → Spot → Spot → List Lock → List Lock

@@ -13,7 +13,7 @@ use Rattle.inno_types.specs.declared.lock.Spot.{Spot}
 use Rattle.lock_table.specs.declared.room.CycleRoom.{CycleRoom}
 use Rattle.lock_table.specs.declared.wait.Wait.{Wait}
 use Rattle.lock_table.specs.declared.wait.Wait.TheVariants.{Lasts, Served, RecordGone, Withdrawn}
-use Rattle.lock_table.specs.Queue.{Lists, blockers, is_blocked, is_covered, is_waiting, edge_to, serve, without}
+use Rattle.lock_table.specs.Queue.{Lists, blockers, is_blocked, is_among, is_covered, is_waiting, edge_to, serve, without}
 use Rattle.lock_table.specs.Records.{copies, after_end}
 use Rattle.lock_table.specs.Room.{HasRooms, KeepsRooms}
 
@@ -40,7 +40,7 @@ others txn txns = filter (λ other. not (other == txn)) txns
 -- the transaction's request is taken back, and requests are granted in order
 abbrev pub without_request : ℕ → Table → Table
 without_request txn t = record (with_lists t (serve t.granted [] (without txn t.waiting))) {
-  withdrawn = if is_waiting txn t.waiting then t.withdrawn ++ txn ∷ [] else t.withdrawn
+  withdrawn = if is_waiting txn t.waiting then t.withdrawn ++ txn ∷ [] else t.withdrawn;
 }
 
 -- the transaction has ended: its locks and its request go, and requests are granted in order
@@ -50,7 +50,7 @@ without_transaction txn t = record (with_lists t (after_end txn t.granted t.wait
 -- how it stands with a request that had to wait
 abbrev pub wait_of : Table → Lock → Wait
 wait_of t lock =
-    if is_waiting lock.txn t.waiting then Lasts else if list_any (λ other. other == lock.txn) t.withdrawn then Withdrawn
+    if is_waiting lock.txn t.waiting then Lasts else if is_among lock.txn t.withdrawn then Withdrawn
     else if list_any (λ held. same_lock held lock) t.granted then Served else RecordGone
 
 -- there is memory to grant so many locks more

@@ -1,7 +1,7 @@
 //! The lists of a lock table: what stands in the way of a request, and what a change makes of the requests that wait.
 //! The lock table alone calls these.
 
-ghost use Rattle.std.specs.Prelude.{◌≡◌, ◌==◌, ◌+◌, ◌<◌, ◌≤◌, ◌||◌, false, [], ◌∷◌, ◌++◌, length, take, drop, map, filter, vec_capacity, IfOk, OnOk};
+ghost use Rattle.std.specs.Prelude.{◌≡◌, ◌+◌, ◌<◌, ◌≤◌, ◌||◌, false, [], ◌∷◌, ◌++◌, length, take, drop, map, filter, vec_capacity, IfOk, OnOk};
 ghost use Rattle.std.specs.List.{list_any};
 ghost use Rattle.lock_rules.specs.Kinds as kinds;
 ghost use Rattle.lock_rules.specs.Conflicts.{conflicts, same_lock};
@@ -51,7 +51,7 @@ pub fn stands(locks: &[KeptLock], lock: &Lock) -> bool
 
 /// Whether the transaction is one of these.
 pub fn is_among(txns: &[u64], txn: u64) -> bool
-    ensures { result ≡ list_any (λ other. other == txn) txns.now }
+    ensures { result ≡ queue.is_among txn txns.now }
 {
     txns.contains(&txn)
 }

@@ -4,7 +4,7 @@
 ghost use Rattle.std.specs.Prelude.{◌≡◌, ℕ, if◌then◌else◌, ◌+◌, ◌≤◌, ◌∷◌, ◌++◌, [], false, true, not, length, map, vec_capacity, OnOk, OnErr, IfOk};
 ghost use Rattle.lock_rules.specs.Rules.{FitsItsRule};
 ghost use Rattle.lock_table.specs.Keys.{IsShort};
-ghost use Rattle.lock_table.specs.Queue.{AreSound, blockers, edge_to, edges_of, is_blocked, is_covered, is_waiting, serve, without, without_lock};
+ghost use Rattle.lock_table.specs.Queue.{AreOthers, AreSound, blockers, edge_to, edges_of, is_blocked, is_covered, is_waiting, serve, without, without_lock};
 ghost use Rattle.lock_table.specs.Records.{after_removal, own_gaps};
 ghost use Rattle.lock_table.specs.Room.{HasRooms, KeepsRooms};
 ghost use Rattle.lock_table.specs.View.{with_lists, without_request, without_transaction, wait_of, others, after_insertion, must_wait, HasPlaces, IsAskedFor, IsAnswered};
@@ -36,13 +36,13 @@ pub struct LockTable {
 impl Model for LockTable {
     ghost use Rattle.std.specs.Prelude.{◌+◌, ◌≤◌, length, vec_capacity};
     ghost use Rattle.lock_table.specs.View.{Table};
-    ghost use Rattle.lock_table.specs.Queue.{AreSound};
+    ghost use Rattle.lock_table.specs.Queue.{AreOthers, AreSound};
 
     ghost Value = { Table };
 
     ghost view = { λ t. record { granted = t.granted.items; waiting = t.waiting.items; withdrawn = t.withdrawn.items; rooms = t.rooms.items; capacity = vec_capacity t.granted } };
 
-    ghost invariant = { λ t. AreSound t.granted.items t.waiting.items × (length t.granted.items + length t.waiting.items ≤ vec_capacity t.granted) × (length t.withdrawn.items + length t.waiting.items ≤ vec_capacity t.withdrawn) };
+    ghost invariant = { λ t. AreSound t.granted.items t.waiting.items × (length t.granted.items + length t.waiting.items ≤ vec_capacity t.granted) × (length t.withdrawn.items + length t.waiting.items ≤ vec_capacity t.withdrawn) × AreOthers t.withdrawn.items t.waiting.items };
 }
 
 impl LockTable {
@@ -228,7 +228,8 @@ impl LockTable {
 
     /// The facts of every lock table.
     pub fn facts(&self)
-        ensures { AreSound self.now.granted self.now.waiting }
+        ensures sound { AreSound self.now.granted self.now.waiting }
+        ensures others { AreOthers self.now.withdrawn self.now.waiting }
     {
         let _ = &self.granted;
     }

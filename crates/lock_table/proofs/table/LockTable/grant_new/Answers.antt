@@ -17,4 +17,5 @@ invariant_of-self c =
           (subst (λ (t : Table). AreSound (after_insertion next lock t.granted) t.waiting) (sym c.self.view_is) sound),
       omega (arith, room, c.add_lock.ensures.few, c.copy_gaps.ensures.few, c.add_lock.ensures.capacity, c.copy_gaps.ensures.capacity),
       c.self.invariant.2,
+      c.self.invariant.3,
     )

@@ -1,7 +1,7 @@
 use Rattle.std.proofs.Common.{◌≡◌, true, false, subst, sym, ap, ◌∙◌, ◌++◌, ◌∷◌, [], length, length-append, arith}
-use Rattle.lock_table.specs.Queue.{AreSound, is_blocked, is_waiting}
-use Rattle.lock_table.specs.View.{Table}
-use Rattle.lock_table.proofs.Soundness.{sound_queued}
+use Rattle.lock_table.specs.Queue.{AreOthers, AreSound, is_blocked, is_waiting}
+use Rattle.lock_table.specs.View.{Table, others}
+use Rattle.lock_table.proofs.Soundness.{sound_queued, others_asked}
 use Rattle.lock_table.proofs.table.LockTable.queue.Goals as goal
 
 pub invariant_of-self-2 : goal.invariant_of-self-2
@@ -24,4 +24,6 @@ invariant_of-self-2 c =
         c.forget.ensures.fewer,
         c.forget.ensures.capacity,
       ),
+      subst (λ ts. AreOthers ts c.push_reserved.new.self.items) (sym (c.forget.ensures.items ∙ ap (λ t. others t c.reserve-2.new.self.items) c.txn.ensures ∙ ap (others c.args.asked.txn) c.reserve-2.ensures.items))
+          (subst (AreOthers (others c.args.asked.txn c.self.inside.withdrawn.items)) (sym items) (others_asked _ _ c.args.asked c.self.invariant.3)),
     )
