@@ -1,7 +1,6 @@
 -- What entries of its own make of a CREATE TABLE, and how its item may end.
-use Rattle.std.proofs.Common.{◌≡◌, ◌≢◌, ℕ, ◌+◌, ◌≤◌, true, false, Option, Some, None, List, [], ◌∷◌, refl, sym, ap, subst, ◌∙◌, inl, inr, arith, length}
+use Rattle.std.proofs.Common.{◌≡◌, ◌≢◌, ℕ, ◌+◌, ◌≤◌, true, false, Some, None, List, [], ◌∷◌, refl, sym, ap, subst, ◌∙◌, inl, inr, arith, length}
 use Rattle.std.proofs.lemmas.Bool.Decides.{nat_tests}
-use Rattle.std.specs.Prelude.{is_some}
 use Rattle.std.specs.List.{AllByRecursion, list_any}
 use Rattle.inno_types.specs.declared.lock.Level.{Level}
 use Rattle.inno_types.specs.declared.value.Schema.{Schema}
@@ -21,14 +20,12 @@ use Rattle.sql_history.specs.Counts.{rows_kept, most_rows}
 use Rattle.sql_history.specs.Waiting.{is_victim}
 use Rattle.sql_history.specs.Legal.{IsCreation, EndsCreate, MayBegin, MayChange, MayCommit, MayRollBack}
 use Rattle.law_past_agreement.specs.Order.{IsOfRow}
-use Rattle.shared_lists.specs.State.{State}
 use Rattle.sql_lists.specs.Kept.{MayReply}
 use Rattle.sql_lists.specs.Steps.{HasRowsAlone, IsTaken}
 use Rattle.sql_lists.proofs.Staying.{point_now, point_before}
 use Rattle.giving_up.specs.Ends.{HasMadeNone, IsEmptied, IsGivingUp}
 use Rattle.create_statement.specs.Knowing.{IsAt, IsToBegin, IsCommitted, IsFinished}
 use Rattle.create_statement.proofs.Creations.{begins_by, commits_by, rolls_back_by, changes_by, ends_taken, brings, same_refusal}
-use Rattle.giving_up.proofs.Writing.{none_of}
 use Rattle.giving_up.proofs.Nothing.{own_now, over_nothing, made_nothing, set_before, sometime_too}
 use Rattle.create_statement.proofs.Staying.{at_on, to_begin_on}
 
@@ -42,18 +39,6 @@ pub record HasOpened (s : ℕ) (past : List Event) : Type 0 where
 
 pub not_some : {X : Type 0} (x : X) → None ≡ Some x → ⊥
 not_some x is = cc
-
--- ---- what the lists say of a transaction
-
-module _ (s : ℕ) (seen state : State) (o : Option Level) (same : seen ≡ state) (told : o ≡ level s seen.past) where
-  pub closed_as_told : is_some o ≡ false → level s state.past ≡ None
-  closed_as_told none = ap (λ (x : State). level s x.past) (sym same) ∙ (sym told ∙ none_of o none)
-
-  pub own_as_told : is_some o ≡ false → (level s seen.past ≡ None → own s seen.past ≡ []) → own s state.past ≡ []
-  own_as_told none empty = ap (λ (x : State). own s x.past) (sym same) ∙ empty (sym told ∙ none_of o none)
-
-  pub open_as_told : is_some o ≡ true → IsOpen s state.past
-  open_as_told some = ap (λ (x : State). is_some (level s x.past)) (sym same) ∙ (ap is_some (sym told) ∙ some)
 
 pub rows_of_none : (s : ℕ) (past : List Event) → own s past ≡ [] → HasRowsAlone s past
 rows_of_none s past none = rw none tt

@@ -1,13 +1,11 @@
 //! The steps by which a table is made: what is open is committed, the statement waits while another session may write, and
 //! then its table is made in a transaction of its own, in one step.
 
-ghost use Rattle.std.specs.Prelude.{◌≡◌, ◌<◌, ◌≤◌, [], length, None, Some, count_by};
+ghost use Rattle.std.specs.Prelude.{◌≡◌, ◌<◌, [], length, None, Some, count_by};
 ghost use Rattle.inno_db.specs.Outcome.{outcome};
 ghost use Rattle.inno_model.specs.Past.{IsOpen};
-ghost use Rattle.sql_history.specs.Counts.{rows_kept, most_rows};
 ghost use Rattle.sql_history.specs.Items.{base};
 ghost use Rattle.law_past_agreement.specs.Order.{created};
-ghost use Rattle.sql_lists.specs.Kept.{AreStanding};
 ghost use Rattle.sql_lists.specs.Steps.{Steps, changes_rows};
 ghost use Rattle.sql_lists.specs.Going.{Nears};
 ghost use Rattle.create_statement.specs.Making.{Makes};
@@ -34,7 +32,7 @@ pub fn step_asked<L: SharedLists>(
     ensures nears { Nears to_go session lists.old (CreateStatement.Asked stmt level) lists.new result.0 result.1 }
     ensures quiet { count_by changes_rows lists.new.past ≡ count_by changes_rows lists.old.past }
 {
-    if is_there(lists.lists().schemas(), stmt.get()) {
+    if is_there(lists.schemas(), stmt.get()) {
         return skip(stmt, level, session, lists);
     }
     close(stmt, level, session, lists)
@@ -54,7 +52,7 @@ fn skip<L: SharedLists>(
     ensures nears { Nears to_go session lists.old (CreateStatement.Asked stmt level) lists.new result.0 result.1 }
     ensures quiet { count_by changes_rows lists.new.past ≡ count_by changes_rows lists.old.past }
 {
-    if lists.lists().level(session).is_none() {
+    if lists.level(session).is_none() {
         return finish(stmt, session, lists);
     }
     lists.commit(session);
@@ -74,7 +72,7 @@ fn close<L: SharedLists>(
     ensures nears { Nears to_go session lists.old (CreateStatement.Asked stmt level) lists.new result.0 result.1 }
     ensures quiet { count_by changes_rows lists.new.past ≡ count_by changes_rows lists.old.past }
 {
-    if lists.lists().level(session).is_none() {
+    if lists.level(session).is_none() {
         return (CreateStatement::Closed { stmt, level }, Advance::Went);
     }
     lists.commit(session);
@@ -94,10 +92,10 @@ pub fn step_closed<L: SharedLists>(
     ensures steps { Steps IsRunning session lists.old lists.new result.0 result.1 }
     ensures nears { Nears to_go session lists.old (CreateStatement.Closed stmt level) lists.new result.0 result.1 }
 {
-    if let Some(by) = lists.lists().writer() {
+    if let Some(by) = lists.writer() {
         return wait_closed(by, stmt, level, session, lists);
     }
-    match table_to_make(alloc, lists.lists().schemas(), stmt.get()) {
+    match table_to_make(alloc, lists.schemas(), stmt.get()) {
         Some(schema) => make(stmt, schema, level, session, lists),
         None => {
             drop(stmt);
@@ -143,12 +141,12 @@ fn make<L: SharedLists>(
     requires joined { session < length lists.old.names }
     requires running { IsRunning lists.old session (CreateStatement.Closed stmt level) }
     requires free { lists.old.writer ≡ None }
-    requires tables { AreStanding lists.old.past }
-    requires within { rows_kept lists.old.past ≤ most_rows }
     requires makes { Makes stmt schema (created lists.old.past) }
     ensures steps { Steps IsRunning session lists.old lists.new result.0 result.1 }
     ensures nears { Nears to_go session lists.old (CreateStatement.Closed stmt level) lists.new result.0 result.1 }
 {
+    // that the tables stand, and that the history has room, is what the lists say of it
+    let _ = lists.history();
     match lists.make_table(session, level, schema) {
         Ok(()) => (CreateStatement::Committed { stmt }, Advance::Went),
         Err(_) => {

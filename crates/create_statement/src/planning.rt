@@ -28,24 +28,15 @@ pub fn table_to_make(alloc: Global, schemas: &Listed<Schema>, stmt: &Stmt) -> Op
     if is_there(schemas, stmt) || is_refused(alloc, schemas, stmt) {
         return None;
     }
-    match stmt {
-        Stmt::CreateTable {
-            table,
-            definitions,
-            ..
-        } => declare(alloc, table, definitions).ok()?,
-        Stmt::Select { .. }
-        | Stmt::Insert { .. }
-        | Stmt::Update { .. }
-        | Stmt::Delete { .. }
-        | Stmt::Begin { .. }
-        | Stmt::Commit
-        | Stmt::Rollback
-        | Stmt::RollbackTo { .. }
-        | Stmt::Savepoint { .. }
-        | Stmt::SetAutocommit(_)
-        | Stmt::SetLevel { .. } => None,
-    }
+    let Stmt::CreateTable {
+        table,
+        definitions,
+        ..
+    } = stmt
+    else {
+        return None;
+    };
+    declare(alloc, table, definitions).ok()?
 }
 
 /// The statement is refused, or no memory is found.

@@ -1,5 +1,5 @@
 -- Statements that change rows: what they see, and what of them never comes.
-use Rattle.std.proofs.Common.{◌≡◌, ℕ, true, false, Option, Some, None, List, [], ◌∷◌, refl, sym, inl, inr}
+use Rattle.std.proofs.Common.{◌≡◌, ◌∙◌, ℕ, true, false, Option, Some, None, List, [], ◌∷◌, refl, sym, ap, inl, inr}
 use Rattle.std.proofs.lemmas.Bool.{false≢true}
 use Rattle.std.specs.Prelude.{is_some}
 use Rattle.inno_types.specs.declared.stmt.Stmt.{Stmt}
@@ -13,7 +13,7 @@ use Rattle.inno_db.specs.declared.change.Change.{Change}
 use Rattle.inno_db.specs.Database.{Database, Place}
 use Rattle.inno_db.specs.Outcome.{outcome}
 use Rattle.inno_db.specs.Changes.{place_of}
-use Rattle.inno_model.specs.Past.{IsOpen}
+use Rattle.inno_model.specs.Past.{level, IsOpen, IsClosed}
 use Rattle.inno_model.specs.declared.event.Event.{Event}
 use Rattle.sql_history.specs.Items.{base}
 use Rattle.sql_history.specs.Settings.{Setting}
@@ -89,3 +89,11 @@ some_of (Some x) is = (x, refl)
 pub none_of : {X : Type 0} (o : Option X) → is_some o ≡ false → o ≡ None
 none_of None is = refl
 none_of (Some x) is = absurd (false≢true (sym is))
+
+-- ---- what the lists tell of a session's transaction
+
+pub closed_as_told : (s : ℕ) (past : List Event) (o : Option Level) → o ≡ level s past → is_some o ≡ false → IsClosed s past
+closed_as_told s past o told none = sym told ∙ none_of o none
+
+pub open_as_told : (s : ℕ) (past : List Event) (o : Option Level) → o ≡ level s past → is_some o ≡ true → IsOpen s past
+open_as_told s past o told some = ap is_some (sym told) ∙ some

@@ -27,7 +27,7 @@ pub fn step_backing<L: SharedLists>(
     ensures steps { Steps IsLeaving session lists.old lists.new result.0 result.1 }
     ensures nears { Nears to_leave session lists.old (Leaving.BackingOut work) lists.new result.0 result.1 }
 {
-    if lists.lists().change_count(session) > work.before {
+    if lists.change_count(session) > work.before {
         return take_back(work, session, lists);
     }
     leave(work, session, lists)

@@ -31,7 +31,7 @@ ghost use Rattle.sql_lists.specs.Steps.{open_txn, plain_edge};
 use crate::advance::plain_edge;
 use inno_db::Change;
 use inno_model::History;
-use inno_types::{Bytes, Edges, Item, Level, Reply, Rows, Schema, Stmt};
+use inno_types::{Bytes, Edges, Item, Level, Listed, Reply, Rows, Schema, Stmt};
 use shared_lists::{Changed, Reading, Searched, SharedLists, Undone};
 use sql_history::SessionSettings;
 use sql_plan::Plan;
@@ -94,8 +94,58 @@ impl<L: SharedLists> SqlLists<L> {
         ensures sound { IsOrdered self.now.past }
         ensures fits { FitsThen self.now.past }
         ensures tables { AreStanding self.now.past }
+        ensures within { rows_kept self.now.past ≤ most_rows }
+        ensures ordered { IsInOrder self.now.past }
     {
         self.lists.history()
+    }
+
+    /// The tables, by number. Each session has all of them, and changes were of these and fitted them.
+    pub fn schemas(&self) -> &Listed<Schema>
+        ensures are { result.now ≡ created self.now.past }
+        ensures tables { AreStanding self.now.past }
+        ensures ordered { IsInOrder self.now.past }
+        ensures sound { IsOrdered self.now.past }
+        ensures fits { FitsThen self.now.past }
+    {
+        // that each change fitted its tables is what the lists say of their history
+        let _ = self.lists.history();
+        self.lists.schemas()
+    }
+
+    /// The level of the session's open transaction. Without one no changes stand.
+    pub fn level(&self, session: u32) -> Option<Level>
+        requires { session < length self.now.names }
+        ensures level { result ≡ level session self.now.past }
+        ensures closed { level session self.now.past ≡ None → own session self.now.past ≡ [] }
+    {
+        self.lists.level(session)
+    }
+
+    /// Whether the session's open transaction has a view.
+    pub fn has_view(&self, session: u32) -> bool
+        requires joined { session < length self.now.names }
+        requires is_open { IsOpen session self.now.past }
+        ensures { result ≡ is_some (view_of session self.now.past) }
+    {
+        self.lists.has_view(session)
+    }
+
+    /// How many changes of the session's open transaction stand.
+    pub fn change_count(&self, session: u32) -> usize
+        requires { session < length self.now.names }
+        ensures { result ≡ length (own session self.now.past) }
+    {
+        self.lists.change_count(session)
+    }
+
+    /// The session that may write. No other one has changes that stand.
+    pub fn writer(&self) -> Option<u32>
+        ensures told { result ≡ self.now.writer }
+        ensures nobody { IfNone result ((s : ℕ) → own s self.now.past ≡ []) }
+        ensures alone { IfSome result (λ w. (w < length self.now.names) × IsOpen w self.now.past × ((s : ℕ) → s ≢ w → own s self.now.past ≡ [])) }
+    {
+        self.lists.writer()
     }
 
     /// The history, and nothing else.

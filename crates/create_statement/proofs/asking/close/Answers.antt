@@ -1,21 +1,17 @@
-use Rattle.create_statement.proofs.Stepping.{may_commit_first, closed_as_told, own_as_told, open_as_told}
+use Rattle.giving_up.proofs.Writing.{closed_as_told, open_as_told}
+use Rattle.create_statement.proofs.Stepping.{may_commit_first}
 use Rattle.create_statement.proofs.Moving.{is_closed, closes_first}
 use Rattle.create_statement.proofs.asking.close.Goals as goal
 
 pub returns-then-is_none-clause-steps : goal.returns-then-is_none-clause-steps
 returns-then-is_none-clause-steps g c =
-    let closed = c.if-is_none.ensures {u = tt} in
-    is_closed c.args.session c.args.lists.now c.args.lists.now c.args.stmt c.args.level c.requires.running
-    (closed_as_told c.args.session (g.L.SharedLists.lists c.lists.result.now).state c.args.lists.now c.level.result c.lists.ensures.same
-    c.level.ensures.level closed)
-    (own_as_told c.args.session (g.L.SharedLists.lists c.lists.result.now).state c.args.lists.now c.level.result c.lists.ensures.same c.level.ensures.level
-    closed c.level.ensures.closed)
+    let closed = closed_as_told c.args.session c.args.lists.now.past c.level.result c.level.ensures.level (c.if-is_none.ensures {u = tt}) in
+    is_closed c.args.session c.args.lists.now c.args.lists.now c.args.stmt c.args.level c.requires.running closed (c.level.ensures.closed closed)
 
 pub commit-requires-clause-may : goal.commit-requires-clause-may
 commit-requires-clause-may g c =
     may_commit_first c.args.session c.args.stmt c.args.lists.now.past c.requires.running.0.0.at
-    (open_as_told c.args.session (g.L.SharedLists.lists c.lists.result.now).state c.args.lists.now c.level.result c.lists.ensures.same c.level.ensures.level
-    (c.if-is_none.ensures {u = tt})) c.requires.running.0.1
+    (open_as_told c.args.session c.args.lists.now.past c.level.result c.level.ensures.level (c.if-is_none.ensures {u = tt})) c.requires.running.0.1
 
 pub returns-clause-steps : goal.returns-clause-steps
 returns-clause-steps g c = closes_first c.args.session c.args.lists.now c.commit.new.self c.args.stmt c.args.level c.requires.running c.commit.ensures
