@@ -4,7 +4,7 @@
 ghost use Rattle.std.specs.Prelude.{◌≡◌, ℕ, ◌+◌, ◌<◌, ◌≤◌, length, IsTrue, IsOk, IfOk, OnOk, OnErr, Err, Ok};
 ghost use Rattle.std.specs.Io.BufRead.{Rests};
 ghost use Rattle.std.specs.Borrow.{sem};
-ghost use Rattle.store_api.specs.declared.visits.FreshBad.TheVariants.{Again as FreshAgain, NoMemory as NoFreshMemory};
+ghost use Rattle.store_api.specs.declared.visits.FreshBad.TheVariants.{Again as FreshAgain};
 ghost use Rattle.store_api.specs.declared.visits.Visit.TheVariants.{Again as VisitAgain};
 ghost use Rattle.stored_pages.specs.declared.layout.TheConstants.{PAGE};
 ghost use Rattle.mtr.specs.declared.store.TheConstants.{MOST_VISITED};
@@ -13,7 +13,7 @@ ghost use Rattle.mtr.specs.Calls.{Asks, Makes, Puts, Commits, GivesUp};
 
 use store_api::{FreshBad, NoMemory, Visit};
 
-/// The pages by number, as one mini-transaction sees them. It deals with at most 24 pages.
+/// The pages by number, as one mini-transaction sees them. It deals with at most `MOST_VISITED` pages.
 pub trait Mtr {
     ghost state: { Self → MtrState };
 
@@ -26,15 +26,14 @@ pub trait Mtr {
         ensures shut { IsShut page (state self.old) → result ≡ Err VisitAgain }
         ensures* asks { sem 𝓛 (Rests Self.row self.entry (λ new. Asks page (state self.old) result (state new))) };
 
-    /// Makes the page zeros, whatever stood there.
+    /// Makes the page zeros, whatever stood there. It may take memory, for the page as for its record.
     fn fresh(&mut self, page: u32) -> Result<(), FreshBad>
         requires few { length (visit page (state self.old).visited) ≤ MOST_VISITED }
         requires within { IsWithin page (state self.old) }
         ensures made { OnOk result (Makes page (state self.old) (state self.new)) }
         ensures refused { OnErr result (state self.new ≡ state self.old) }
         ensures shut { IsShut page (state self.old) → result ≡ Err FreshAgain }
-        ensures again { result ≡ Err FreshAgain → IsShut page (state self.old) }
-        ensures memory { result ≡ Err NoFreshMemory → (state self.old).spare < 5 };
+        ensures again { result ≡ Err FreshAgain → IsShut page (state self.old) };
 
     /// Puts bytes in the page, from byte 20 on. Where page 0 counts more pages by it, pages may be told no more.
     fn put(&mut self, page: u32, at: u16, bytes: &[u8]) -> Result<(), NoMemory>
