@@ -1,6 +1,6 @@
 -- An insertion whose intention is granted in the same step keeps what everybody guards.
 -- The laws of insertions cite it, and so do those of places (`law_other_places`). No request waits in between.
-use Rattle.std.proofs.Common.{arith, ◌≡◌, ◌≢◌, ◌∙◌, ℕ, ◌+◌, true, false, List, [], ◌∷◌, ◌++◌, inl, inr, refl, sym, ap, subst, length, length-append}
+use Rattle.std.proofs.Common.{arith, ◌≡◌, ◌≢◌, ◌∙◌, ℕ, ◌+◌, true, false, List, [], ◌∷◌, ◌++◌, inl, inr, refl, sym, ap, subst, length}
 use Rattle.std.specs.Prelude.{◌==◌, ◌&&◌, ◌||◌, not, cond, Some, is_some}
 use Rattle.std.specs.List.{list_any}
 use Rattle.inno_types.specs.declared.lock.LockKind.TheVariants.{Intent}
@@ -180,10 +180,10 @@ module _ (txn : ℕ) (records : List (List ℕ)) (key : List ℕ) (new next : Sp
 
 -- ---- where all locks stand on records, the copies and the record's lock are made by one call
 
-pub new_is_taken : (txn : ℕ) (records : List (List ℕ)) (key : List ℕ) (new next : Spot) (old last : Table) (own : Lock)
+pub new_is_taken : (txn : ℕ) (records : List (List ℕ)) (key named : List ℕ) (new next : Spot) (old last : Table) (own : Lock)
     → IsInsertion records key new next → AllStand new.index records old.granted old.waiting → IsAlone txn new own
-    → last ≡ record old { granted = after_insertion next own old.granted } → TakesNew txn key new next own old last
-new_is_taken txn records key new next old last own insertion all mine is =
+    → last ≡ record old { granted = after_insertion next own old.granted } → TakesNew txn named new next own old last
+new_is_taken txn records key named new next old last own insertion all mine is =
     record {
       own_is = mine;
       copied = copied;

@@ -107,10 +107,11 @@ own_are_own txn new next (w ∷ locks) lock there =
 
 pub uncovered_in : (held ws : List Lock) (lock : Lock) → IsIn (uncovered held ws) lock → IsIn ws lock
 uncovered_in held [] lock there = there
-uncovered_in held (w ∷ ws) lock there = go (is_covered held w) there where
-  go : (b : Bool) → IsIn (cond b (uncovered held ws) (w ∷ uncovered (held ++ w ∷ []) ws)) lock → IsIn (w ∷ ws) lock
-  go true rest = inr (uncovered_in held ws lock rest)
-  go false there = elim there [ inl here ↦ inl here | inr rest ↦ inr (uncovered_in (held ++ w ∷ []) ws lock rest) ]
+uncovered_in held (w ∷ ws) lock there = go (is_covered held w) (uncovered_in held ws lock) (uncovered_in (held ++ w ∷ []) ws lock) there where
+  go : (b : Bool) → (IsIn (uncovered held ws) lock → IsIn ws lock) → (IsIn (uncovered (held ++ w ∷ []) ws) lock → IsIn ws lock)
+      → IsIn (cond b (uncovered held ws) (w ∷ uncovered (held ++ w ∷ []) ws)) lock → IsIn (w ∷ ws) lock
+  go true left more rest = inr (left rest)
+  go false left more there = elim there [ inl here ↦ inl here | inr rest ↦ inr (more rest) ]
 
 copies_own : (txn : ℕ) (new next : Spot) (locks : List Lock) (lock : Lock) → IsIn (copies txn new next locks) lock → lock.txn ≡ txn
 copies_own txn new next locks lock there = own_are_own txn new next locks lock (uncovered_in locks (own_copies txn new next locks) lock there)

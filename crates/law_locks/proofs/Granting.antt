@@ -1,9 +1,7 @@
 -- What locks on a spot guard, and what a granted request has locked.
 use Rattle.std.proofs.Common.{◌≡◌, ℕ, Bool, true, false, List, [], ◌∷◌, ◌++◌, inl, inr, refl, sym, ap, subst}
-use Rattle.std.specs.Prelude.{◌==◌, ◌&&◌, ◌||◌, not, cond, Option, Some}
+use Rattle.std.specs.Prelude.{◌&&◌, ◌||◌, not, cond, Option, Some, is_some}
 use Rattle.std.specs.List.{list_any}
-use Rattle.inno_types.specs.declared.lock.LockKind.{LockKind}
-use Rattle.inno_types.specs.declared.lock.LockKind.TheVariants.{Rec, Gap, NextKey, Intent}
 use Rattle.inno_types.specs.declared.lock.Lock.{Lock}
 use Rattle.lock_rules.specs.Kinds.{locks_gap, locks_record, is_intent, is_shared}
 use Rattle.lock_rules.specs.Conflicts.{kind_of}

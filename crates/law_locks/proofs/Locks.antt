@@ -281,7 +281,7 @@ module _ (by : Option ℕ) (gone next : Spot) where
       (λ lock fits is here. (
         gap_outlives by lock fits (second (is_lock_at txn gone.index gone.key lock) _ is),
         both _ _ (at_lock txn next.index next.key (as_gap (number_of RecordWent) next lock)
-        (record { own = (at_gone lock is).own; here = refl; key = refl })) refl,
+            (record { own = (at_gone lock is).own; here = refl; key = refl })) refl,
       ))
       (λ lock fits is elsewhere. absurd (true_false _
       (ap (λ (s : Spot). same_spot s gone) (spot_is lock.spot gone (at_gone lock is).here (at_gone lock is).key) ∙ spot_refl gone) elsewhere))

@@ -1,6 +1,5 @@
 -- Each lock stays on a record of its index, or on the supremum.
 use Rattle.std.proofs.Common.{◌≡◌, ◌≢◌, ◌∙◌, ℕ, Bool, true, false, List, [], ◌∷◌, ◌++◌, refl, sym, ap, subst}
-use Rattle.std.proofs.lemmas.Bool.{eq-eqb, eqb-true}
 use Rattle.std.proofs.lemmas.List.Folds.{list_any-append}
 use Rattle.std.specs.Prelude.{◌==◌, ◌&&◌, ◌||◌, not, nat_eq, cond, filter, Option, None, Some}
 use Rattle.std.specs.List.{list_any, AllByRecursion}
@@ -9,13 +8,10 @@ use Rattle.inno_types.specs.declared.lock.Spot.{Spot}
 use Rattle.inno_types.specs.declared.lock.Lock.{Lock}
 use Rattle.store_api.specs.declared.answers.Asked.{Asked}
 use Rattle.store_api.specs.declared.answers.Asked.TheVariants.{Granted, Waits, NoMemory}
-use Rattle.lock_rules.specs.declared.rule.Rule.TheVariants.{RecordWent, CopiedOnInsert}
-use Rattle.inno_types.specs.declared.lock.LockKind.TheVariants.{Gap}
-use Rattle.lock_rules.specs.Kinds.{is_intent, locks_gap}
+use Rattle.lock_rules.specs.Kinds.{is_intent}
 use Rattle.lock_rules.specs.Spots.{same_spot}
 use Rattle.lock_rules.specs.Conflicts.{conflicts, kind_of, kinds_conflict, same_lock}
 use Rattle.lock_rules.specs.Coverage.{stands_in, without_record}
-use Rattle.lock_rules.specs.Rules.{number_of}
 use Rattle.lock_rules.proofs.Booleans.{and_false, or_false, or_left, or_right, true_false, split}
 use Rattle.lock_rules.proofs.Beside.{spot_refl, spot_same, key_refl}
 use Rattle.lock_table.specs.Queue.{serve, without, without_lock, is_blocked, is_covered}

@@ -242,11 +242,7 @@ fn rounds_beside_a_gap_lock(
     table: &mut LockTable,
     rounds: u32,
 ) -> Result<(), NoMemory> {
-    ask(
-        rt,
-        table,
-        due(alloc, 1, Rule::PastRange, Mode::X, None)?,
-    )?;
+    ask(rt, table, due(alloc, 1, Rule::PastRange, Mode::X, None)?)?;
     for _ in 0..rounds {
         insert_and_take_back(rt, alloc, table)?;
     }
@@ -274,7 +270,11 @@ fn intend_twice(
     let intention = Rule::ToInsert;
     ask(rt, table, due(alloc, 1, intention, Mode::X, seven)?)?;
     let at_once = table.granted_locks().len();
-    ask(rt, table, due(alloc, 2, Rule::UniqueAbsent, Mode::X, seven)?)?;
+    ask(
+        rt,
+        table,
+        due(alloc, 2, Rule::UniqueAbsent, Mode::X, seven)?,
+    )?;
     ask(rt, table, due(alloc, 1, intention, Mode::X, seven)?)?;
     table.release_all(2);
     Ok([at_once, table.granted_locks().len()])

@@ -1,5 +1,5 @@
 use Rattle.law_locks.proofs.Members.{in_from_contains}
-use Rattle.law_locks.proofs.Outcomes.{told_served}
+use Rattle.law_locks.proofs.Ended.{told_served}
 use Rattle.law_locks.proofs.outcomes.requests_served_are_told.Goals as goal
 
 pub returns : goal.returns

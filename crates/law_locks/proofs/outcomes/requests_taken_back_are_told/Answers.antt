@@ -1,4 +1,4 @@
-use Rattle.law_locks.proofs.Outcomes.{told_taken_back}
+use Rattle.law_locks.proofs.Ended.{told_taken_back}
 use Rattle.law_locks.proofs.outcomes.requests_taken_back_are_told.Goals as goal
 
 pub returns : goal.returns

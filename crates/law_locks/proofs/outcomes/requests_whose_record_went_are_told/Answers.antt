@@ -1,5 +1,5 @@
 use Rattle.law_locks.proofs.Members.{in_from_contains}
-use Rattle.law_locks.proofs.Outcomes.{told_gone}
+use Rattle.law_locks.proofs.Ended.{told_gone}
 use Rattle.law_locks.proofs.outcomes.requests_whose_record_went_are_told.Goals as goal
 
 pub returns : goal.returns

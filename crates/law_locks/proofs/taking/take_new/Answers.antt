@@ -10,4 +10,4 @@ grant_new-requires-clause-free c =
 pub returns : goal.returns
 returns c key =
     let stands = c.requires.stands in
-    new_is_taken c.args.own.now.txn stands.0 stands.1 c.args.new.now c.args.next.now c.args.locks.now c.grant_new.new.self c.args.own.now stands.2 stands.3 c.requires.own_is c.grant_new.ensures
+    new_is_taken c.args.own.now.txn stands.0 stands.1 key c.args.new.now c.args.next.now c.args.locks.now c.grant_new.new.self c.args.own.now stands.2 stands.3 c.requires.own_is c.grant_new.ensures

@@ -13,7 +13,6 @@ use Rattle.lock_rules.specs.Spots.{same_spot}
 use Rattle.lock_rules.specs.Conflicts.{same_lock, same_reason}
 use Rattle.lock_rules.proofs.Booleans.{and_false, both, or_false, or_right, true_false, split}
 use Rattle.lock_rules.proofs.Beside.{spot_refl}
-use Rattle.lock_table.specs.declared.wait.Wait.{Wait}
 use Rattle.lock_table.specs.declared.wait.Wait.TheVariants.{Lasts, Served, RecordGone, Withdrawn}
 use Rattle.lock_table.specs.Queue.{serve, without, is_blocked, is_waiting, AreSingle}
 use Rattle.lock_table.specs.Records.{moved, left_by, uncovered, elsewhere, after_removal}
