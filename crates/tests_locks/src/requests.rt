@@ -270,11 +270,7 @@ fn intend_twice(
     let intention = Rule::ToInsert;
     ask(rt, table, due(alloc, 1, intention, Mode::X, seven)?)?;
     let at_once = table.granted_locks().len();
-    ask(
-        rt,
-        table,
-        due(alloc, 2, Rule::UniqueAbsent, Mode::X, seven)?,
-    )?;
+    ask(rt, table, due(alloc, 2, Rule::RangeRecord, Mode::X, seven)?)?;
     ask(rt, table, due(alloc, 1, intention, Mode::X, seven)?)?;
     table.release_all(2);
     Ok([at_once, table.granted_locks().len()])
