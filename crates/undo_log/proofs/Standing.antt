@@ -28,7 +28,7 @@ unfolding u16_at
 u16-same at a b same = ap (from_be_bytes w16) same
 
 -- what comes behind the first part of what stands at a place
-next : (at : ℕ) (bytes part rest : List ℕ) (n : ℕ) → length part ≡ n → drop at bytes ≡ part ++ rest → drop (at + n) bytes ≡ rest
+pub next : (at : ℕ) (bytes part rest : List ℕ) (n : ℕ) → length part ≡ n → drop at bytes ≡ part ++ rest → drop (at + n) bytes ≡ rest
 next at bytes part rest n long is =
     sym (drop-drop n at bytes) ∙ ap (drop n) is ∙ ap (λ (m : ℕ). drop m (part ++ rest)) (sym long) ∙ drop-append_seam part rest
 
@@ -36,7 +36,7 @@ first_part : (at : ℕ) (bytes part rest : List ℕ) → drop at bytes ≡ part 
 first_part at bytes part rest is = ap (take (length part)) is ∙ take-append_seam part rest
 
 -- one of the bytes that stand there
-byte_at : (at n : ℕ) (bytes rest : List ℕ) (i : ℕ) → drop (at + n) bytes ≡ rest → slice_index bytes (at + (n + i)) ≡ slice_index rest i
+pub byte_at : (at n : ℕ) (bytes rest : List ℕ) (i : ℕ) → drop (at + n) bytes ≡ rest → slice_index bytes (at + (n + i)) ≡ slice_index rest i
 byte_at at n bytes rest i is =
     let place : at + n + i ≡ at + (n + i) = omega arith in
     sym (ap (slice_index bytes) place) ∙ sym (get_or-drop (at + n) bytes i 0) ∙ ap (λ (l : List ℕ). slice_index l i) is

@@ -6,7 +6,12 @@ mod appending;
 mod laws;
 pub mod layout;
 mod record;
+mod slots;
 
 pub use appending::append_in;
-pub use laws::{an_appended_record_stands, earlier_records_stay};
+pub use laws::{
+    a_closed_log_is_open_no_more, an_appended_record_stands, an_opened_log_is_open,
+    earlier_records_stay,
+};
 pub use record::{Undo, Undone, put_record, read_record};
+pub use slots::{close_in, open_in};
