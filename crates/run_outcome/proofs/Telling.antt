@@ -61,6 +61,15 @@ told_whole failed sufficed Nothing old new text is p unlike t = p
 told_whole failed sufficed OutputWrite old new text is p unlike t = absurd (unlike refl)
 told_whole failed sufficed other old new text is p unlike t = absurd is
 
+-- and where it failed, that is told, unless there was no memory for the text
+pub told_where_failed : (failed sufficed : Bool) (printed : Fault) → IsOutputFault printed → failed ≡ true
+    → (told failed sufficed printed ≡ DiskFault) ⊎ (told failed sufficed printed ≡ NoMemory)
+told_where_failed false sufficed printed is f = cc
+told_where_failed true sufficed NoMemory is f = inr refl
+told_where_failed true sufficed Nothing is f = inl refl
+told_where_failed true sufficed OutputWrite is f = inl refl
+told_where_failed true sufficed other is f = absurd is
+
 -- no fault is told where none came
 pub told_nothing : (failed sufficed : Bool) (printed : Fault) → told failed sufficed printed ≡ Nothing → (failed ≡ false) × (sufficed ≡ true)
 told_nothing failed sufficed NoMemory t = cc

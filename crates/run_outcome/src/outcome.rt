@@ -1,7 +1,7 @@
 //! What a run answers, and the parts of a run that meet no engine.
 //! `script_runner` puts its commands together from these; whatever is printed goes to the sink by `print_bytes`.
 
-ghost use Rattle.std.specs.Prelude.{◌≡◌, [], IfOk, IfErr, IfSome, IsTrue, false};
+ghost use Rattle.std.specs.Prelude.{◌≡◌, ◌⊎◌, [], IfOk, IfErr, IfSome, IsTrue, false};
 ghost use Rattle.std.specs.List.{list_any};
 ghost use Rattle.store_api.specs.Causes.{Rose};
 ghost use Rattle.sql_history.specs.Counts as counts;
@@ -152,6 +152,7 @@ pub fn finish<D, K: Sink>(
     ensures whole { result.fault ≡ Fault.DiskFault → (Rose (K.faults out.old) (K.faults out.new) → ⊥)
         → IsReportedWhole report (K.taken out.old) (K.taken out.new) history }
     ensures failed { result.fault ≡ Fault.DiskFault → IsTrue failed }
+    ensures tells { IsTrue failed → (result.fault ≡ Fault.DiskFault) ⊎ (result.fault ≡ Fault.NoMemory) }
     ensures sufficed { result.fault ≡ Fault.Nothing → IsTrue sufficed }
     ensures served { result.fault ≡ Fault.Nothing → failed ≡ false }
     ensures replied { result.fault ≡ Fault.Nothing → list_any answers_no_memory history.past ≡ false }
