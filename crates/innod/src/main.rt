@@ -1,8 +1,12 @@
 //! Makes the files of a database; or runs scripts of SQL on the storage engine over them, and prints what each session was
 //! answered; or prints the database as SQL, or what is counted in it; or prints a generated script, or plays it and prints what
-//! it has done. All that it does there is `script_runner::run`.
+//! it has done. All that it does there is `script_runner::run`. Of words that are no command it says what `clap` does (`advice`).
 #![tactic(auto)]
 
+mod advice;
+mod streams;
+
+use advice::advice;
 use disk_file::{FileDisk, FileSource, FreeGate, StdSink, SystemClock};
 use inno_types::{Bytes, Listed};
 use script_runner::{Fault, cause_line, run};
@@ -10,19 +14,22 @@ use std::alloc::{AllocError, Global};
 use std::process::ExitCode;
 use std::{env, io};
 use store_api::NoMemory;
+use streams::Places;
 
 fn main(rt: HostRuntime) -> io::Result<ExitCode> {
+    // They are kept until the program ends.
+    let _places = Places::take(&rt);
     let words = match words_of(&rt) {
         Ok(words) => words,
         Err(error) if error.kind() == io::ErrorKind::InvalidData => {
-            return ended(&rt, Fault::Usage, 1, "", "");
+            return ended(&rt, Fault::Usage, 1, &[], "", "");
         }
         Err(error) => return Err(error),
     };
     let file = word_at(&words, 2);
     let script = word_at(&words, 3);
     let Ok((bytes, disk, mut source)) = objects(&rt, &words, file, script) else {
-        return ended(&rt, Fault::NoMemory, 8, file, script);
+        return ended(&rt, Fault::NoMemory, 8, &words, file, script);
     };
     let mut sink = StdSink::new(&rt);
     let clock = SystemClock::new(&rt);
@@ -38,7 +45,7 @@ fn main(rt: HostRuntime) -> io::Result<ExitCode> {
     );
     let (fault, status) = (outcome.fault, outcome.status);
     drop(outcome);
-    ended(&rt, fault, status, file, name_of_script(&words))
+    ended(&rt, fault, status, &words, file, name_of_script(&words))
 }
 
 /// The program's words. One that is no UTF-8 is an error, of invalid data.
@@ -55,10 +62,14 @@ fn ended(
     rt: &HostRuntime,
     fault: Fault,
     status: u8,
+    words: &[String],
     file: &str,
     script: &str,
 ) -> io::Result<ExitCode> {
-    tell(rt, fault, file, script)?;
+    match fault {
+        Fault::Usage => advise(rt, words)?,
+        _ => tell(rt, fault, file, script)?,
+    }
     if status != 0 {
         eprintln!(rt; "innod: status {status}")?;
     }
@@ -104,6 +115,17 @@ fn objects<'r>(
         return Err(NoMemory);
     };
     Ok((bytes, disk, source))
+}
+
+/// Says what there is to say of words that are no command, or how they would be one.
+fn advise(rt: &HostRuntime, words: &[String]) -> io::Result<()> {
+    if words.is_empty() {
+        return tell(rt, Fault::Usage, "", "");
+    }
+    match advice(rt.alloc(), words) {
+        Some(said) => eprint!(rt; "{said}"),
+        None => tell(rt, Fault::Usage, "", ""),
+    }
 }
 
 /// Says the cause of a fault, if there is one.
