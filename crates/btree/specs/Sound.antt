@@ -1,6 +1,7 @@
 -- A tree whose pages stand as they should, and the pairs that it has.
 use Rattle.std.specs.Prelude.{◌≡◌, ◌≢◌, ℕ, ◌<◌, List, [], ◌∷◌, take, map, Option}
 use Rattle.std.specs.List.{AllByRecursion}
+use Rattle.store_api.specs.declared.limits.TheConstants.{MOST_PAGES}
 use Rattle.entries.specs.Pairs.{Pair, first_from, first_after}
 use Rattle.page_format.specs.Words.{level_of, index_of, record_len_of, records_of}
 use Rattle.page_format.specs.Shape.{HasTreeFields, AreRising}
@@ -23,7 +24,7 @@ levels_of tree pages = levels_from tree.root (lows_of tree pages)
 -- fields have their values, its records are as long as the tree's, and their keys rise.
 pub record IsTreePage (tree : Tree) (pages : ℕ → List ℕ) (page : ℕ) : Type 0 where
   pub some : page ≢ 0
-  pub within : page < 65536
+  pub within : page < MOST_PAGES
   pub fields : HasTreeFields (pages page)
   pub index : index_of (pages page) ≡ tree.index
   pub width : record_len_of (pages page) ≡ width_of tree (level_of (pages page))

@@ -4,6 +4,7 @@
 ghost use Rattle.std.specs.Prelude.{◌≡◌, ◌<◌, ◌≤◌, length, IfOk, IfErr, OnOk, OnErr, MatchBool, Some, vec_capacity};
 ghost use Rattle.std.specs.List.{slice_get};
 ghost use Rattle.store_api.specs.declared.visits.Visit.TheVariants.{Bad};
+ghost use Rattle.stored_pages.specs.declared.layout.TheConstants.{PAGE};
 ghost use Rattle.entries.specs.Calls.{HasKey};
 ghost use Rattle.law_flat_tree.specs.Pages.{leaf_pairs};
 ghost use Rattle.btree.specs.Walks.{IsReadableLeaf, HasRow, Meets, Begins};
@@ -29,7 +30,7 @@ pub struct Spot {
 
 /// Whether the page can be read as a leaf of the tree.
 pub fn is_readable_leaf(bytes: &[u8], tree: Tree) -> bool
-    requires { length bytes.now ≡ 4096 }
+    requires { length bytes.now ≡ PAGE }
     ensures { MatchBool result (IsReadableLeaf tree bytes.now) (IsReadableLeaf tree bytes.now → ⊥) }
 {
     if !is_laid_out(bytes, tree) {
@@ -40,7 +41,7 @@ pub fn is_readable_leaf(bytes: &[u8], tree: Tree) -> bool
 
 /// The first record whose key passes.
 pub fn meet(bytes: &[u8], tree: Tree, page: u32, bound: Bound, key: &[u8]) -> Result<Met, Visit>
-    requires { length bytes.now ≡ 4096 }
+    requires { length bytes.now ≡ PAGE }
     ensures meets { IfOk result (Meets tree bound key.now bytes.now) }
     ensures refused { IfErr result (λ why. (why ≡ Bad page 1) × (IsReadableLeaf tree bytes.now → ⊥)) }
 {
@@ -60,7 +61,7 @@ pub fn meet(bytes: &[u8], tree: Tree, page: u32, bound: Bound, key: &[u8]) -> Re
 
 /// The first record of the leaf.
 pub fn begin(bytes: &[u8], tree: Tree, page: u32) -> Result<Met, Visit>
-    requires { length bytes.now ≡ 4096 }
+    requires { length bytes.now ≡ PAGE }
     ensures begins { IfOk result (Begins bytes.now) }
     ensures refused { IfErr result (λ why. (why ≡ Bad page 1) × (IsReadableLeaf tree bytes.now → ⊥)) }
 {
@@ -95,7 +96,7 @@ pub fn copy_row(
     key: &mut Vec<u8>,
     value: &mut Vec<u8>,
 ) -> Result<(), Visit>
-    requires size { length bytes.now ≡ 4096 }
+    requires size { length bytes.now ≡ PAGE }
     requires key { tree.key_len ≤ vec_capacity key.old }
     requires value { tree.value_len ≤ vec_capacity value.old }
     ensures row { OnOk result (slice_get (leaf_pairs tree.key_len bytes.now) spot.place ≡ Some (key.new.items, value.new.items)) }
@@ -126,7 +127,7 @@ pub fn copy_row(
 
 /// Puts the key of a record into `key`. It stays where the page is refused.
 pub fn copy_key(bytes: &[u8], tree: Tree, spot: Spot, key: &mut Vec<u8>) -> Result<(), Visit>
-    requires size { length bytes.now ≡ 4096 }
+    requires size { length bytes.now ≡ PAGE }
     requires key { tree.key_len ≤ vec_capacity key.old }
     ensures key { OnOk result (HasKey key.new.items (slice_get (leaf_pairs tree.key_len bytes.now) spot.place)) }
     ensures refused { IfErr result (λ why. (why ≡ Bad spot.page 1) × (HasRow tree spot.place bytes.now → ⊥)) }

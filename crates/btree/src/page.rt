@@ -20,7 +20,7 @@ use stored_pages::read_u16;
 
 /// Whether the page's records are as long as those of the tree on the page's level, and lie within the page.
 pub fn is_laid_out(bytes: &[u8], tree: Tree) -> bool
-    requires { length bytes.now ≡ 4096 }
+    requires { length bytes.now ≡ PAGE }
     ensures { MatchBool result (IsLaidOut tree bytes.now) (IsLaidOut tree bytes.now → ⊥) }
 {
     let width = usize::from(read_u16(bytes, WIDTH));
@@ -38,8 +38,8 @@ pub fn is_laid_out(bytes: &[u8], tree: Tree) -> bool
 
 /// The record of that number.
 pub fn record_at(bytes: &[u8], i: u16) -> &[u8]
-    requires size { length bytes.now ≡ 4096 }
-    requires inside { 208 + count_of bytes.now * record_len_of bytes.now ≤ 4096 }
+    requires size { length bytes.now ≡ PAGE }
+    requires inside { RECORDS + count_of bytes.now * record_len_of bytes.now ≤ PAGE }
     requires place { i < count_of bytes.now }
     ensures value { result.now ≡ slice_index_or (records_of bytes.now) i [] }
     ensures width { length result.now ≡ record_len_of bytes.now }
@@ -51,7 +51,7 @@ pub fn record_at(bytes: &[u8], i: u16) -> &[u8]
 
 /// The key of a record, its first bytes.
 pub fn key_at(bytes: &[u8], tree: Tree, i: u16) -> &[u8]
-    requires size { length bytes.now ≡ 4096 }
+    requires size { length bytes.now ≡ PAGE }
     requires laid_out { IsLaidOut tree bytes.now }
     requires place { i < count_of bytes.now }
     ensures { result.now ≡ take tree.key_len (slice_index_or (records_of bytes.now) i []) }
@@ -72,7 +72,7 @@ fn passes(bound: Bound, key: &[u8], other: &[u8]) -> bool
 
 /// The place of the first record whose key passes, or the end. It halves the records in question each time.
 pub fn first_place(bytes: &[u8], tree: Tree, bound: Bound, key: &[u8]) -> u16
-    requires size { length bytes.now ≡ 4096 }
+    requires size { length bytes.now ≡ PAGE }
     requires laid_out { IsLaidOut tree bytes.now }
     ensures within { result ≤ count_of bytes.now }
     ensures place { AreRising (map (take tree.key_len) (records_of bytes.now))
@@ -99,7 +99,7 @@ pub enum Down {
 
 /// The number of a record's child, behind its key.
 pub fn child_at(bytes: &[u8], tree: Tree, i: u16) -> u32
-    requires size { length bytes.now ≡ 4096 }
+    requires size { length bytes.now ≡ PAGE }
     requires laid_out { IsLaidOut tree bytes.now }
     requires inner { level_of bytes.now ≢ 0 }
     requires place { i < count_of bytes.now }
@@ -111,7 +111,7 @@ pub fn child_at(bytes: &[u8], tree: Tree, i: u16) -> u32
 
 /// Where the page leads for a key. It is refused where it can't be read as a page of the tree.
 pub fn way_down(bytes: &[u8], tree: Tree, page: u32, key: &[u8]) -> Result<Down, Visit>
-    requires { length bytes.now ≡ 4096 }
+    requires { length bytes.now ≡ PAGE }
     ensures leads { IfOk result (Leads tree key.now bytes.now) }
     ensures refused { IfErr result (λ why. (why ≡ Bad page 1) × (IsReadable tree bytes.now → ⊥)) }
 {

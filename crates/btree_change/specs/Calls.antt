@@ -5,6 +5,7 @@ use Rattle.store_api.specs.declared.visits.SpaceBad.TheVariants.{Full, Visit as 
 use Rattle.store_api.specs.declared.visits.Visit.{Visit}
 use Rattle.store_api.specs.declared.visits.Visit.TheVariants.{Failed, Again, Bad}
 use Rattle.store_api.specs.Causes.{Rose}
+use Rattle.stored_pages.specs.declared.layout.TheConstants.{PAGE}
 use Rattle.mtr.specs.Seen.{MtrState, Visits, IsShut}
 use Rattle.mtr.specs.Calls.{Goes, SeesAt}
 use Rattle.btree.specs.declared.tree.Tree.{Tree}
@@ -41,7 +42,7 @@ IsLeafStop leaf old new (Bad page rule) = IsTrue new.told → old.fault page ≡
 abbrev pub IsLeafReason : ℕ → MtrState → MtrState → SpaceBad → Type 0
 IsLeafReason leaf old new Full = ⊥
 IsLeafReason leaf old new (Stopped why) = IsLeafStop leaf old new why
-IsLeafReason leaf old new NoMemory = old.spare < 4096
+IsLeafReason leaf old new NoMemory = old.spare < PAGE
 
 -- Why a change isn't made. Where memory is lacking, nothing more is known.
 abbrev pub IsChangeReason : MtrState → MtrState → SpaceBad → Type 0

@@ -1,6 +1,8 @@
 -- What an edit of a leaf puts, read off the page's bytes.
 use Rattle.std.specs.Prelude.{◌≡◌, ℕ, ◌+◌, ◌-◌, ◌*◌, ◌<◌, ◌≤◌, List, ◌++◌, take, drop, replicate}
 use Rattle.std.specs.Int.{w16, to_be_bytes}
+use Rattle.stored_pages.specs.declared.layout.TheConstants.{PAGE}
+use Rattle.page_format.specs.declared.layout.TheConstants.{RECORDS}
 use Rattle.mtr.specs.Seen.{with_bytes}
 use Rattle.page_format.specs.declared.records.Found.{Found}
 use Rattle.page_format.specs.declared.records.Found.TheVariants.{At, Before}
@@ -17,7 +19,7 @@ edited edit page = with_bytes 22 (to_be_bytes w16 edit.count) (with_bytes edit.a
 
 -- where a record begins
 abbrev pub begin_of : ℕ → List ℕ → ℕ
-begin_of i bytes = 208 + i * record_len_of bytes
+begin_of i bytes = RECORDS + i * record_len_of bytes
 
 -- The record stands at its place, and behind it those that stood there.
 pub record IsInsertion (i : ℕ) (rec bytes : List ℕ) (edit : Edit) : Type 0 where
@@ -34,7 +36,7 @@ pub record IsRemoval (i : ℕ) (bytes : List ℕ) (edit : Edit) : Type 0 where
 
 -- one record more has room on the page
 abbrev pub HasRoom : List ℕ → Type 0
-HasRoom bytes = 208 + (count_of bytes + 1) * record_len_of bytes ≤ 4096
+HasRoom bytes = RECORDS + (count_of bytes + 1) * record_len_of bytes ≤ PAGE
 
 -- the place is one of a record, or of one that is to come
 abbrev pub IsPlace : List ℕ → Found → Type 0

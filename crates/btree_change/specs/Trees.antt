@@ -1,6 +1,7 @@
 -- A tree on pages of the file, and what a change makes of its pages.
 use Rattle.std.specs.Prelude.{◌≡◌, ℕ, ◌<◌, List, Bool, true, false, None, IsSome}
 use Rattle.std.specs.List.{AllByRecursion}
+use Rattle.stored_pages.specs.declared.layout.TheConstants.{PAGE_COUNT}
 use Rattle.entries.specs.Pairs.{Pair, value_of, with_pair, without_key}
 use Rattle.stored_pages.specs.Words.{u32_at}
 use Rattle.law_flat_tree.specs.PageSplits.{StandsNowhere}
@@ -13,7 +14,7 @@ use Rattle.btree_change.specs.Edits.{HasRoom}
 -- The tree stands as it should, and page 0 counts each of its pages.
 pub record IsWholeTree (tree : Tree) (pages : ℕ → List ℕ) : Type 0 where
   pub sound : IsSoundTree tree pages
-  pub counted : AllByRecursion (AllByRecursion (λ page. page < u32_at 44 (pages 0))) (levels_of tree pages)
+  pub counted : AllByRecursion (AllByRecursion (λ page. page < u32_at PAGE_COUNT (pages 0))) (levels_of tree pages)
 
 -- The tree has these pairs now, in the same pages, and no page is changed that isn't one of them.
 pub record Becomes (tree : Tree) (pairs : List Pair) (old new : ℕ → List ℕ) : Type 0 where

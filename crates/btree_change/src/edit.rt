@@ -2,6 +2,8 @@
 //! The bytes are worked out from the page as it is read; nothing here asks for a page.
 
 ghost use Rattle.std.specs.Prelude.{◌≡◌, ℕ, ◌+◌, ◌*◌, ◌-◌, ◌<◌, ◌≤◌, ◌++◌, length, take, drop};
+ghost use Rattle.stored_pages.specs.declared.layout.TheConstants.{PAGE};
+ghost use Rattle.page_format.specs.declared.layout.TheConstants.{RECORDS};
 ghost use Rattle.page_format.specs.Words.{count_of, record_len_of};
 
 use page_format::layout::{COUNT, RECORDS, WIDTH};
@@ -18,14 +20,14 @@ pub struct Edit {
     pub len: u16,
     pub count: u16,
     pub piece: [u8; MOST],
-    ghost behind_fields: { 208 ≤ at },
-    ghost inside: { at + len ≤ 4096 },
+    ghost behind_fields: { RECORDS ≤ at },
+    ghost inside: { at + len ≤ PAGE },
 }
 
 /// Where the record of that number begins.
 pub fn begin_of(bytes: &[u8], i: u16) -> usize
-    requires { length bytes.now ≡ 4096 }
-    ensures { result ≡ 208 + i * record_len_of bytes.now }
+    requires { length bytes.now ≡ PAGE }
+    ensures { result ≡ RECORDS + i * record_len_of bytes.now }
 {
     RECORDS + usize::from(i) * usize::from(read_u16(bytes, WIDTH))
 }
@@ -54,11 +56,11 @@ impl Edit {
 
     /// A record is put in at a place.
     pub fn insertion(bytes: &[u8], i: u16, key: &[u8], value: &[u8]) -> Edit
-        requires size { length bytes.now ≡ 4096 }
+        requires size { length bytes.now ≡ PAGE }
         requires place { i ≤ count_of bytes.now }
         requires some { 0 < length key.now }
         requires width { length key.now + length value.now ≡ record_len_of bytes.now }
-        requires room { 208 + (count_of bytes.now + 1) * record_len_of bytes.now ≤ 4096 }
+        requires room { RECORDS + (count_of bytes.now + 1) * record_len_of bytes.now ≤ PAGE }
         ensures { IsInsertion i (key.now ++ value.now) bytes.now result }
     {
         let count = read_u16(bytes, COUNT);
@@ -78,9 +80,9 @@ impl Edit {
 
     /// The record at a place is taken out, and zeros stand where the last one was.
     pub fn removal(bytes: &[u8], i: u16) -> Edit
-        requires size { length bytes.now ≡ 4096 }
+        requires size { length bytes.now ≡ PAGE }
         requires place { i < count_of bytes.now }
-        requires inside { 208 + count_of bytes.now * record_len_of bytes.now ≤ 4096 }
+        requires inside { RECORDS + count_of bytes.now * record_len_of bytes.now ≤ PAGE }
         ensures { IsRemoval i bytes.now result }
     {
         let count = read_u16(bytes, COUNT);

@@ -2,6 +2,8 @@
 //! stays, and who calls them commits or gives up.
 
 ghost use Rattle.std.specs.Prelude.{◌≡◌, ◌≢◌, ◌+◌, ◌<◌, ◌≤◌, length, IsTrue, IfOk, IfErr, OnOk, OnErr};
+ghost use Rattle.stored_pages.specs.declared.layout.TheConstants.{PAGE};
+ghost use Rattle.mtr.specs.declared.store.TheConstants.{MOST_VISITED};
 ghost use Rattle.mtr.specs.Seen.{visit, is_in, IsWithin};
 ghost use Rattle.btree_change.specs.Edits.{edited};
 ghost use Rattle.btree_change.specs.Trees.{LacksRoom, DoesInsert, DoesReplace, DoesRemove};
@@ -33,7 +35,7 @@ pub fn put_edit<M: Mtr>(m: &mut M, page: u32, edit: &Edit) -> Result<(), NoMemor
     requires some { IsTrue (M.state m.old).told → page ≢ 0 }
     ensures put { OnOk result (Rewrites page (edited edit.now ((M.state m.old).seen page)) (M.state m.old) (M.state m.new)) }
     ensures touches { Touches page (M.state m.old) (M.state m.new) }
-    ensures memory { OnErr result ((M.state m.old).spare < 4096) }
+    ensures memory { OnErr result ((M.state m.old).spare < PAGE) }
 {
     m.put(page, edit.at, edit.bytes())?;
     m.put(page, COUNT as u16, &u16_bytes(edit.count))
@@ -47,7 +49,7 @@ pub fn insert_in<M: Mtr>(
     key: &[u8],
     value: &[u8],
 ) -> Result<Insertion, SpaceBad>
-    requires few { length (visit leaf (M.state m.old).visited) ≤ 24 }
+    requires few { length (visit leaf (M.state m.old).visited) ≤ MOST_VISITED }
     requires some { 0 < tree.key_len }
     requires key { length key.now ≡ tree.key_len }
     requires value { length value.now ≡ tree.value_len }
@@ -80,7 +82,7 @@ pub fn replace_in<M: Mtr>(
     key: &[u8],
     value: &[u8],
 ) -> Result<bool, SpaceBad>
-    requires few { length (visit leaf (M.state m.old).visited) ≤ 24 }
+    requires few { length (visit leaf (M.state m.old).visited) ≤ MOST_VISITED }
     requires key { length key.now ≡ tree.key_len }
     requires value { length value.now ≡ tree.value_len }
     requires leaf { IsTrue (M.state m.old).told → IsLeafFor tree key.now leaf (M.state m.old).seen }
@@ -102,7 +104,7 @@ pub fn replace_in<M: Mtr>(
 
 /// Takes the pair of a key out of the leaf, and answers whether there was one.
 pub fn remove_in<M: Mtr>(m: &mut M, tree: Tree, leaf: u32, key: &[u8]) -> Result<bool, SpaceBad>
-    requires few { length (visit leaf (M.state m.old).visited) ≤ 24 }
+    requires few { length (visit leaf (M.state m.old).visited) ≤ MOST_VISITED }
     requires key { length key.now ≡ tree.key_len }
     requires leaf { IsTrue (M.state m.old).told → IsLeafFor tree key.now leaf (M.state m.old).seen }
     ensures done { IfOk result (λ done. IsTrue (M.state m.new).told

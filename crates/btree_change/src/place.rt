@@ -19,7 +19,7 @@ use stored_pages::read_u16;
 
 /// Where the leaf has the key: at a record, or before one.
 pub fn find_in(bytes: &[u8], tree: Tree, page: u32, key: &[u8]) -> Result<Found, Visit>
-    requires size { length bytes.now ≡ 4096 }
+    requires size { length bytes.now ≡ PAGE }
     requires key { length key.now ≡ tree.key_len }
     ensures readable { OnOk result (IsReadableLeaf tree bytes.now) }
     ensures found { IfOk result (λ found. AreRising (map (take tree.key_len) (records_of bytes.now)) → IsFound (records_of bytes.now) key.now found) }
@@ -44,7 +44,7 @@ pub fn find_in(bytes: &[u8], tree: Tree, page: u32, key: &[u8]) -> Result<Found,
 
 /// Whether one record more has room on the page.
 pub fn has_room(bytes: &[u8]) -> bool
-    requires { length bytes.now ≡ 4096 }
+    requires { length bytes.now ≡ PAGE }
     ensures { MatchBool result (HasRoom bytes.now) (HasRoom bytes.now → ⊥) }
 {
     let count = usize::from(read_u16(bytes, COUNT));

@@ -1,5 +1,6 @@
 -- A page that is to be cut, its parent, and the page that was taken for its upper half.
 use Rattle.std.specs.Prelude.{◌≡◌, ◌≢◌, ℕ, suc, ◌<◌, List, [], ◌∷◌, length, take, slice_index_or}
+use Rattle.stored_pages.specs.declared.layout.TheConstants.{PAGE, PAGE_COUNT}
 use Rattle.page_format.specs.Words.{records_of}
 use Rattle.stored_pages.specs.Words.{u32_at}
 use Rattle.page_format.specs.Shape.{HasTreeFields}
@@ -17,7 +18,7 @@ fence_at tree bytes i = take tree.key_len (slice_index_or (records_of bytes) i [
 pub record IsCut (cut : Cut) (number : ℕ) (above bytes : List ℕ) (pages : ℕ → List ℕ) : Type 0 where
   pub parent_shown : IsShown (pages cut.parent) above
   pub child_shown : IsShown (pages cut.child) bytes
-  pub blank : length (pages number) ≡ 4096
+  pub blank : length (pages number) ≡ PAGE
   pub parent_fields : HasTreeFields (pages cut.parent)
   pub child_fields : HasTreeFields (pages cut.child)
   pub child_apart : cut.child ≢ cut.parent
@@ -26,9 +27,9 @@ pub record IsCut (cut : Cut) (number : ℕ) (above bytes : List ℕ) (pages : �
   pub some_parent : cut.parent ≢ 0
   pub some_child : cut.child ≢ 0
   pub some_number : number ≢ 0
-  pub parent_counted : cut.parent < u32_at 44 (pages 0)
-  pub child_counted : cut.child < u32_at 44 (pages 0)
-  pub number_counted : number < u32_at 44 (pages 0)
+  pub parent_counted : cut.parent < u32_at PAGE_COUNT (pages 0)
+  pub child_counted : cut.child < u32_at PAGE_COUNT (pages 0)
+  pub number_counted : number < u32_at PAGE_COUNT (pages 0)
 
 -- The parent has room, the page is the next one on the way of the key, and the bytes that were read show both.
 pub record IsReady (tree : Tree) (key : List ℕ) (n : ℕ) (cut : Cut) (above bytes : List ℕ) (pages : ℕ → List ℕ) : Type 0 where

@@ -1,6 +1,8 @@
 -- What becomes of a placed tree, and of the file's pages, that grows by pages that are taken.
 use Rattle.std.specs.Prelude.{◌≡◌, ◌⊎◌, ℕ, ◌+◌, ◌<◌, List, ◌∷◌, ◌++◌, length, false, if◌then◌else◌}
 use Rattle.std.specs.List.{AllByRecursion}
+use Rattle.stored_pages.specs.declared.layout.TheConstants.{PAGE_COUNT}
+use Rattle.store_api.specs.declared.limits.TheConstants.{MOST_PAGES}
 use Rattle.entries.specs.Pairs.{Pair}
 use Rattle.stored_pages.specs.Words.{u32_at}
 use Rattle.mtr.specs.Seen.{is_in, AreDistinct}
@@ -25,7 +27,7 @@ pub record Grows (tree : Tree) (pairs : List Pair) (taken : List ℕ) (old new :
   pub stand : AllByRecursion (λ page. StandsNowhere page (levels_of tree new) → ⊥) taken
   pub rest : (page : ℕ) → StandsNowhere page (levels_of tree old) → is_in page taken ≡ false → StandsNowhere page (levels_of tree new)
   pub keep : (page : ℕ) → StandsNowhere page (levels_of tree new) → StandsNowhere page (levels_of tree old)
-  pub marks : (page : ℕ) → page < 65536 → mark_of new page ≡ (if is_in page taken then 1 else mark_of old page)
+  pub marks : (page : ℕ) → page < MOST_PAGES → mark_of new page ≡ (if is_in page taken then 1 else mark_of old page)
   pub others : (page : ℕ) → StandsNowhere page (levels_of tree old) → is_in page taken ≡ false → (page < 2) ⊎ (4 < page) → new page ≡ old page
 
 -- The page is on the way of the key and has room, and below it the way goes on through so many pages, each of them full.
@@ -44,7 +46,7 @@ pub record StandsAbove (tree : Tree) (key : List ℕ) (n page : ℕ) (pages : �
 
 -- how many pages of the file are free
 abbrev pub free_in : (ℕ → List ℕ) → ℕ
-free_in pages = free_among pages 0 (u32_at 44 (pages 0))
+free_in pages = free_among pages 0 (u32_at PAGE_COUNT (pages 0))
 
 -- So many pages were taken, the pairs are the same, and the page has room now above so many full ones.
 pub record HasGrown (tree : Tree) (key : List ℕ) (k n page : ℕ) (old new : ℕ → List ℕ) : Type 0 where

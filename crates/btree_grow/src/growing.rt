@@ -2,6 +2,9 @@
 //! each has a parent with room. Where all of the way is full, the root is raised first. Who calls commits or gives up.
 
 ghost use Rattle.std.specs.Prelude.{◌≡◌, ◌+◌, ◌*◌, ◌<◌, ◌≤◌, length, IsTrue, IfOk, IfErr, Some, None};
+ghost use Rattle.stored_pages.specs.declared.layout.TheConstants.{PAGE};
+ghost use Rattle.page_format.specs.declared.layout.TheConstants.{FENCE, RECORDS};
+ghost use Rattle.mtr.specs.declared.store.TheConstants.{MOST_VISITED};
 ghost use Rattle.mtr.specs.Seen.{visit, is_in, claim};
 ghost use Rattle.mtr.specs.Calls.{Asks};
 ghost use Rattle.space_map.specs.Taking.{map_pages};
@@ -34,10 +37,10 @@ fn split_down<M: Mtr>(
     full: u8,
     key: &[u8],
 ) -> Result<Room, SpaceBad>
-    requires few { 2 * full + claim map_pages (M.state m.old).visited ≤ 24 }
+    requires few { 2 * full + claim map_pages (M.state m.old).visited ≤ MOST_VISITED }
     requires some { 0 < tree.key_len }
-    requires short { tree.key_len ≤ 80 }
-    requires two { 208 + 2 * (tree.key_len + tree.value_len) ≤ 4096 }
+    requires short { tree.key_len ≤ FENCE }
+    requires two { RECORDS + 2 * (tree.key_len + tree.value_len) ≤ PAGE }
     requires dealt_with { IsTrue (is_in top (M.state m.old).visited) }
     requires above { IsTrue (M.state m.old).told → StandsAbove tree key.now full top (M.state m.old).seen }
     ensures goes_on { GoesOn (2 * full) (M.state m.old) (M.state m.new) }
@@ -60,10 +63,10 @@ fn split_down<M: Mtr>(
 
 /// Raises the root, and splits the pages of a way below it, which are so many, each of them full.
 fn raise_down<M: Mtr>(m: &mut M, tree: Tree, full: u8, key: &[u8]) -> Result<Room, SpaceBad>
-    requires few { 2 + 2 * full + claim map_pages (M.state m.old).visited ≤ 24 }
+    requires few { 2 + 2 * full + claim map_pages (M.state m.old).visited ≤ MOST_VISITED }
     requires some { 0 < tree.key_len }
-    requires short { tree.key_len ≤ 80 }
-    requires two { 208 + 2 * (tree.key_len + tree.value_len) ≤ 4096 }
+    requires short { tree.key_len ≤ FENCE }
+    requires two { RECORDS + 2 * (tree.key_len + tree.value_len) ≤ PAGE }
     requires inner { 0 < full }
     requires low { full ≤ 7 }
     requires tree { IsTrue (M.state m.old).told → IsPlacedTree tree (M.state m.old).seen }
@@ -87,7 +90,7 @@ fn raise_down<M: Mtr>(m: &mut M, tree: Tree, full: u8, key: &[u8]) -> Result<Roo
 
 /// Asks for a page.
 fn ask<M: Mtr>(m: &mut M, page: u32) -> Result<(), Visit>
-    requires { length (visit page (M.state m.old).visited) ≤ 24 }
+    requires { length (visit page (M.state m.old).visited) ≤ MOST_VISITED }
     ensures { Asks page (M.state m.old) result (M.state m.new) }
 {
     m.bytes(page)?;
@@ -96,10 +99,10 @@ fn ask<M: Mtr>(m: &mut M, page: u32) -> Result<(), Visit>
 
 /// Asks for a page that has room, and splits the pages of a way below it, which are so many, each of them full.
 fn ask_down<M: Mtr>(m: &mut M, tree: Tree, top: u32, full: u8, key: &[u8]) -> Result<Room, SpaceBad>
-    requires few { 1 + 2 * full + claim map_pages (M.state m.old).visited ≤ 24 }
+    requires few { 1 + 2 * full + claim map_pages (M.state m.old).visited ≤ MOST_VISITED }
     requires some { 0 < tree.key_len }
-    requires short { tree.key_len ≤ 80 }
-    requires two { 208 + 2 * (tree.key_len + tree.value_len) ≤ 4096 }
+    requires short { tree.key_len ≤ FENCE }
+    requires two { RECORDS + 2 * (tree.key_len + tree.value_len) ≤ PAGE }
     requires tree { IsTrue (M.state m.old).told → IsPlacedTree tree (M.state m.old).seen }
     requires way { IsTrue (M.state m.old).told → IsLowestRoom tree (M.state m.old).seen key.now (Some top) full }
     ensures goes_on { GoesOn (1 + 2 * full) (M.state m.old) (M.state m.new) }
@@ -118,10 +121,10 @@ pub fn make_room<M: Mtr>(
     lowest: LowestRoom,
     key: &[u8],
 ) -> Result<Room, SpaceBad>
-    requires few { 17 + claim map_pages (M.state m.old).visited ≤ 24 }
+    requires few { 17 + claim map_pages (M.state m.old).visited ≤ MOST_VISITED }
     requires some { 0 < tree.key_len }
-    requires short { tree.key_len ≤ 80 }
-    requires two { 208 + 2 * (tree.key_len + tree.value_len) ≤ 4096 }
+    requires short { tree.key_len ≤ FENCE }
+    requires two { RECORDS + 2 * (tree.key_len + tree.value_len) ≤ PAGE }
     requires full { lowest.full ≤ 8 }
     requires inner { lowest.above ≡ None → 0 < lowest.full }
     requires low { lowest.above ≡ None → lowest.full ≤ 7 }

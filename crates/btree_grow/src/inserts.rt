@@ -3,6 +3,9 @@
 
 ghost use Rattle.std.specs.Prelude.{◌≡◌, ◌≢◌, ℕ, ◌+◌, ◌*◌, ◌<◌, ◌≤◌, length, IsTrue, IfOk, IfErr, OnOk, OnErr, None, MatchBool};
 ghost use Rattle.store_api.specs.declared.visits.SpaceBad.TheVariants.{NoMemory as NoSpaceMemory};
+ghost use Rattle.stored_pages.specs.declared.layout.TheConstants.{PAGE};
+ghost use Rattle.page_format.specs.declared.layout.TheConstants.{FENCE, RECORDS};
+ghost use Rattle.mtr.specs.declared.store.TheConstants.{MOST_VISITED};
 ghost use Rattle.entries.specs.Pairs.{value_of, with_pair};
 ghost use Rattle.mtr.specs.Seen.{visit};
 ghost use Rattle.mtr.specs.Calls.{Commits, GivesUp};
@@ -59,7 +62,7 @@ fn finish_in<M: Mtr>(
     key: &[u8],
     value: &[u8],
 ) -> Result<(), SpaceBad>
-    requires few { length (visit leaf (M.state m.old).visited) ≤ 24 }
+    requires few { length (visit leaf (M.state m.old).visited) ≤ MOST_VISITED }
     requires some { 0 < tree.key_len }
     requires key { length key.now ≡ tree.key_len }
     requires value { length value.now ≡ tree.value_len }
@@ -122,8 +125,8 @@ fn insert_grown<M: Mtr>(
 ) -> Result<Outcome, SpaceBad>
     requires idle { IsIdle (M.state m.old) }
     requires some { 0 < tree.key_len }
-    requires short { tree.key_len ≤ 80 }
-    requires two { 208 + 2 * (tree.key_len + tree.value_len) ≤ 4096 }
+    requires short { tree.key_len ≤ FENCE }
+    requires two { RECORDS + 2 * (tree.key_len + tree.value_len) ≤ PAGE }
     requires key { length key.now ≡ tree.key_len }
     requires value { length value.now ≡ tree.value_len }
     requires full { lowest.full ≤ 8 }
@@ -167,8 +170,8 @@ fn insert_crowded<M: Mtr>(
 ) -> Result<Outcome, SpaceBad>
     requires idle { IsIdle (M.state m.old) }
     requires some { 0 < tree.key_len }
-    requires short { tree.key_len ≤ 80 }
-    requires two { 208 + 2 * (tree.key_len + tree.value_len) ≤ 4096 }
+    requires short { tree.key_len ≤ FENCE }
+    requires two { RECORDS + 2 * (tree.key_len + tree.value_len) ≤ PAGE }
     requires key { length key.now ≡ tree.key_len }
     requires value { length value.now ≡ tree.value_len }
     requires tree { IsTrue (M.state m.old).told → IsPlacedTree tree (M.state m.old).standing }
@@ -191,8 +194,8 @@ fn insert_crowded<M: Mtr>(
 pub fn insert<M: Mtr>(m: &mut M, tree: Tree, key: &[u8], value: &[u8]) -> Result<Outcome, SpaceBad>
     requires idle { IsIdle (M.state m.old) }
     requires some { 0 < tree.key_len }
-    requires short { tree.key_len ≤ 80 }
-    requires two { 208 + 2 * (tree.key_len + tree.value_len) ≤ 4096 }
+    requires short { tree.key_len ≤ FENCE }
+    requires two { RECORDS + 2 * (tree.key_len + tree.value_len) ≤ PAGE }
     requires key { length key.now ≡ tree.key_len }
     requires value { length value.now ≡ tree.value_len }
     requires tree { IsTrue (M.state m.old).told → IsPlacedTree tree (M.state m.old).standing }

@@ -2,6 +2,9 @@
 //! gives up.
 
 ghost use Rattle.std.specs.Prelude.{◌≡◌, ℕ, suc, ◌+◌, ◌<◌, ◌≤◌, List, length, IsTrue, IfErr, OnOk, None};
+ghost use Rattle.stored_pages.specs.declared.layout.TheConstants.{PAGE};
+ghost use Rattle.page_format.specs.declared.layout.TheConstants.{FENCE};
+ghost use Rattle.mtr.specs.declared.store.TheConstants.{MOST_VISITED};
 ghost use Rattle.page_format.specs.Words.{level_of};
 ghost use Rattle.mtr.specs.Seen.{is_in, claim};
 ghost use Rattle.space_map.specs.Taking.{map_pages};
@@ -27,8 +30,8 @@ fn put_raised<M: Mtr>(
     bytes: &[u8],
     level: u8,
 ) -> Result<(), NoMemory>
-    requires size { length bytes.now ≡ 4096 }
-    requires short { tree.key_len ≤ 80 }
+    requires size { length bytes.now ≡ PAGE }
+    requires short { tree.key_len ≤ FENCE }
     requires inner { 0 < level }
     requires low { level ≤ 7 }
     requires root_dealt_with { IsTrue (is_in tree.root (M.state m.old).visited) }
@@ -45,8 +48,8 @@ fn put_raised<M: Mtr>(
 
 /// Moves what the root has to a free page, which the root, then on that level, leads to from then on.
 pub fn raise_in<M: Mtr>(m: &mut M, tree: Tree, level: u8) -> Result<(), SpaceBad>
-    requires few { 2 + claim map_pages (M.state m.old).visited ≤ 24 }
-    requires short { tree.key_len ≤ 80 }
+    requires few { 2 + claim map_pages (M.state m.old).visited ≤ MOST_VISITED }
+    requires short { tree.key_len ≤ FENCE }
     requires inner { 0 < level }
     requires low { level ≤ 7 }
     requires tree { IsTrue (M.state m.old).told → IsPlacedTree tree (M.state m.old).seen }

@@ -2,6 +2,7 @@
 //! page. `raises` alone calls it, and puts the root into its place.
 
 ghost use Rattle.std.specs.Prelude.{◌≡◌, ◌<◌, ◌≤◌, length};
+ghost use Rattle.page_format.specs.declared.layout.TheConstants.{FENCE};
 ghost use Rattle.page_format.specs.Shape.{HasTreeFields};
 ghost use Rattle.btree_grow.specs.Raised.{IsRaised};
 
@@ -12,8 +13,8 @@ use stored_pages::layout::PAGE;
 
 /// The root above the page of that number, on that level: its place is the same, and its one record begins with zeros.
 pub fn raised_root(bytes: &[u8], key_len: u8, number: u32, level: u8) -> [u8; PAGE]
-    requires size { length bytes.now ≡ 4096 }
-    requires short { key_len ≤ 80 }
+    requires size { length bytes.now ≡ PAGE }
+    requires short { key_len ≤ FENCE }
     requires inner { 0 < level }
     requires low { level ≤ 7 }
     ensures { HasTreeFields bytes.now → IsRaised key_len number level bytes.now result }

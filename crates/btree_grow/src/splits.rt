@@ -4,6 +4,9 @@
 ghost use Rattle.std.specs.Prelude.{◌≡◌, ◌≢◌, ℕ, suc, ◌+◌, ◌*◌, ◌<◌, ◌≤◌, [], length, drop, slice_index_or, IsTrue, IfOk, IfErr, OnOk, OnErr, if◌then◌else◌};
 ghost use Rattle.std.specs.Ordering.{is_le};
 ghost use Rattle.store_api.specs.declared.visits.Visit.TheVariants.{Bad};
+ghost use Rattle.stored_pages.specs.declared.layout.TheConstants.{PAGE};
+ghost use Rattle.page_format.specs.declared.layout.TheConstants.{FENCE, RECORDS};
+ghost use Rattle.mtr.specs.declared.store.TheConstants.{MOST_VISITED};
 ghost use Rattle.entries.specs.Pairs.{key_cmp};
 ghost use Rattle.page_format.specs.Words.{level_of, count_of, records_of};
 ghost use Rattle.mtr.specs.Seen.{is_in, claim, IsWithin};
@@ -42,7 +45,7 @@ pub struct Cut {
 
 /// The record of an inner page that leads to the child for a key.
 fn place_for(bytes: &[u8], tree: Tree, page: u32, key: &[u8]) -> Result<u16, Visit>
-    requires { length bytes.now ≡ 4096 }
+    requires { length bytes.now ≡ PAGE }
     ensures laid_out { OnOk result (IsLaidOut tree bytes.now) }
     ensures within { IfOk result (λ place. place < count_of bytes.now) }
     ensures leads { IfOk result (λ place. Leads tree key.now bytes.now
@@ -72,9 +75,9 @@ fn place_for(bytes: &[u8], tree: Tree, page: u32, key: &[u8]) -> Result<u16, Vis
 
 /// The record in the middle of a page without room for one more.
 fn middle_of(bytes: &[u8], tree: Tree, page: u32) -> Result<u16, Visit>
-    requires size { length bytes.now ≡ 4096 }
-    requires short { tree.key_len ≤ 80 }
-    requires two { 208 + 2 * (tree.key_len + tree.value_len) ≤ 4096 }
+    requires size { length bytes.now ≡ PAGE }
+    requires short { tree.key_len ≤ FENCE }
+    requires two { RECORDS + 2 * (tree.key_len + tree.value_len) ≤ PAGE }
     ensures laid_out { OnOk result (IsLaidOut tree bytes.now) }
     ensures middle { IfOk result (λ i. (0 < i) × (i < count_of bytes.now)) }
     ensures refused { IfErr result (λ why. (why ≡ Bad page 1) × (IsLaidOut tree bytes.now → (HasRoom bytes.now → ⊥) → ⊥)) }
@@ -97,7 +100,7 @@ fn middle_of(bytes: &[u8], tree: Tree, page: u32) -> Result<u16, Visit>
 
 /// Puts what an image has for a tree's page.
 pub fn put_image<M: Mtr>(m: &mut M, page: u32, image: &[u8]) -> Result<(), NoMemory>
-    requires size { length image.now ≡ 4096 }
+    requires size { length image.now ≡ PAGE }
     requires dealt_with { IsTrue (is_in page (M.state m.old).visited) }
     requires within { IsWithin page (M.state m.old) }
     ensures put { OnOk result (Puts page 20 (drop 20 image.now) (M.state m.old) (M.state m.new)) }
@@ -116,8 +119,8 @@ fn put_split<M: Mtr>(
     above: &[u8],
     bytes: &[u8],
 ) -> Result<(), NoMemory>
-    requires above_size { length above.now ≡ 4096 }
-    requires size { length bytes.now ≡ 4096 }
+    requires above_size { length above.now ≡ PAGE }
+    requires size { length bytes.now ≡ PAGE }
     requires above_laid_out { IsLaidOut tree above.now }
     requires inner { level_of above.now ≢ 0 }
     requires place { cut.place < count_of above.now }
@@ -125,7 +128,7 @@ fn put_split<M: Mtr>(
     requires laid_out { IsLaidOut tree bytes.now }
     requires middle { (0 < cut.middle) × (cut.middle < count_of bytes.now) }
     requires some { 0 < tree.key_len }
-    requires short { tree.key_len ≤ 80 }
+    requires short { tree.key_len ≤ FENCE }
     requires parent_dealt_with { IsTrue (is_in cut.parent (M.state m.old).visited) }
     requires child_dealt_with { IsTrue (is_in cut.child (M.state m.old).visited) }
     requires number_dealt_with { IsTrue (is_in number (M.state m.old).visited) }
@@ -160,9 +163,9 @@ fn split_page<M: Mtr>(
     bytes: &[u8],
     key: &[u8],
 ) -> Result<u32, SpaceBad>
-    requires few { 1 + claim map_pages (M.state m.old).visited ≤ 24 }
-    requires above_size { length above.now ≡ 4096 }
-    requires size { length bytes.now ≡ 4096 }
+    requires few { 1 + claim map_pages (M.state m.old).visited ≤ MOST_VISITED }
+    requires above_size { length above.now ≡ PAGE }
+    requires size { length bytes.now ≡ PAGE }
     requires above_laid_out { IsLaidOut tree above.now }
     requires inner { level_of above.now ≢ 0 }
     requires place { cut.place < count_of above.now }
@@ -170,7 +173,7 @@ fn split_page<M: Mtr>(
     requires laid_out { IsLaidOut tree bytes.now }
     requires middle { (0 < cut.middle) × (cut.middle < count_of bytes.now) }
     requires some { 0 < tree.key_len }
-    requires short { tree.key_len ≤ 80 }
+    requires short { tree.key_len ≤ FENCE }
     requires parent_dealt_with { IsTrue (is_in cut.parent (M.state m.old).visited) }
     requires child_dealt_with { IsTrue (is_in cut.child (M.state m.old).visited) }
     requires ready { IsTrue (M.state m.old).told → (n : ℕ) × IsReady tree key.now n cut above.now bytes.now (M.state m.old).seen }
@@ -188,10 +191,10 @@ fn split_page<M: Mtr>(
 
 /// Splits the next page on the way of a key, below one that has room, and answers which half holds the key.
 pub fn split_below<M: Mtr>(m: &mut M, tree: Tree, parent: u32, key: &[u8]) -> Result<u32, SpaceBad>
-    requires few { 2 + claim map_pages (M.state m.old).visited ≤ 24 }
+    requires few { 2 + claim map_pages (M.state m.old).visited ≤ MOST_VISITED }
     requires some { 0 < tree.key_len }
-    requires short { tree.key_len ≤ 80 }
-    requires two { 208 + 2 * (tree.key_len + tree.value_len) ≤ 4096 }
+    requires short { tree.key_len ≤ FENCE }
+    requires two { RECORDS + 2 * (tree.key_len + tree.value_len) ≤ PAGE }
     requires dealt_with { IsTrue (is_in parent (M.state m.old).visited) }
     requires above { IsTrue (M.state m.old).told → (n : ℕ) × StandsAbove tree key.now (suc n) parent (M.state m.old).seen }
     ensures goes_on { GoesOn 2 (M.state m.old) (M.state m.new) }

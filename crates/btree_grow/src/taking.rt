@@ -2,6 +2,7 @@
 //! zeros. Only splits and raises ask here.
 
 ghost use Rattle.std.specs.Prelude.{◌≡◌, ◌+◌, ◌≤◌, length, IsTrue, IfOk, IfErr};
+ghost use Rattle.mtr.specs.declared.store.TheConstants.{MOST_VISITED};
 ghost use Rattle.mtr.specs.Seen.{visit, is_in, claim, IsShown};
 ghost use Rattle.mtr.specs.Calls.{Asks};
 ghost use Rattle.space_map.specs.Taking.{map_pages};
@@ -15,7 +16,7 @@ use stored_pages::layout::PAGE;
 
 /// The bytes of a page.
 pub fn copy_of<M: Mtr>(m: &mut M, page: u32) -> Result<[u8; PAGE], Visit>
-    requires { length (visit page (M.state m.old).visited) ≤ 24 }
+    requires { length (visit page (M.state m.old).visited) ≤ MOST_VISITED }
     ensures shown { IfOk result (λ bytes. IsTrue (M.state m.old).told → IsShown ((M.state m.old).seen page) bytes) }
     ensures asks { Asks page (M.state m.old) result (M.state m.new) }
 {
@@ -26,7 +27,7 @@ pub fn copy_of<M: Mtr>(m: &mut M, page: u32) -> Result<[u8; PAGE], Visit>
 
 /// Takes the first free page and makes it zeros.
 pub fn take_blank<M: Mtr>(m: &mut M) -> Result<u32, SpaceBad>
-    requires few { 1 + claim map_pages (M.state m.old).visited ≤ 24 }
+    requires few { 1 + claim map_pages (M.state m.old).visited ≤ MOST_VISITED }
     requires reserved { IsTrue (M.state m.old).told → AreReserved (M.state m.old).seen }
     ensures goes_on { GoesOn 1 (M.state m.old) (M.state m.new) }
     ensures taken { IfOk result (λ page. IsTrue (M.state m.new).told → TakesPage page (M.state m.old).seen (M.state m.new).seen) }

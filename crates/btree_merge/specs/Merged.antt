@@ -1,5 +1,7 @@
 -- Which leaves can be merged, and what a merge makes of a placed tree.
 use Rattle.std.specs.Prelude.{◌≡◌, ℕ, suc, ◌+◌, ◌*◌, ◌<◌, ◌≤◌, List, length, Option, None, Some}
+use Rattle.stored_pages.specs.declared.layout.TheConstants.{PAGE}
+use Rattle.page_format.specs.declared.layout.TheConstants.{RECORDS}
 use Rattle.page_format.specs.Words.{count_of, record_len_of, records_of}
 use Rattle.btree.specs.declared.tree.Tree.{Tree}
 use Rattle.btree_merge.specs.Merges.{Shrinks}
@@ -7,11 +9,11 @@ use Rattle.btree_split.specs.Halves.{child_under}
 
 -- the records of both pages have room in one
 abbrev pub FitTogether : List ℕ → List ℕ → Type 0
-FitTogether left right = 208 + (count_of left + count_of right) * record_len_of left ≤ 4096
+FitTogether left right = RECORDS + (count_of left + count_of right) * record_len_of left ≤ PAGE
 
 -- less than half of the records that a page has room for: twice as many have room, and one more
 abbrev pub HoldsFew : List ℕ → Type 0
-HoldsFew bytes = 208 + (2 * count_of bytes + 1) * record_len_of bytes ≤ 4096
+HoldsFew bytes = RECORDS + (2 * count_of bytes + 1) * record_len_of bytes ≤ PAGE
 
 -- The parent has a record of that number and one behind it, and the leaves that they lead to would fit into one page.
 pub record CanMerge (tree : Tree) (pages : ℕ → List ℕ) (u j : ℕ) : Type 0 where

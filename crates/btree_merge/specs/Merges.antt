@@ -1,5 +1,7 @@
 -- Two leaves under one parent that become one, and a page that is given back, by the bytes of the pages.
 use Rattle.std.specs.Prelude.{◌≡◌, ◌≢◌, ◌⊎◌, ℕ, suc, ◌<◌, List, [], ◌∷◌, ◌++◌, remove, replicate, slice_index_or}
+use Rattle.stored_pages.specs.declared.layout.TheConstants.{PAGE}
+use Rattle.store_api.specs.declared.limits.TheConstants.{MOST_PAGES}
 use Rattle.page_format.specs.Words.{level_of, index_of, record_len_of, low_of, high_of, right_of, records_of}
 use Rattle.page_format.specs.Shape.{HasTreeFields}
 use Rattle.page_format.specs.Changes.{KeepsFields}
@@ -41,8 +43,8 @@ pub record MergesLeaves (j u p q : ℕ) (old new : ℕ → List ℕ) : Type 0 wh
 -- The page is zeros, and marked as free. Other pages keep their marks, and all but the map's are as before.
 pub record FreesPage (page : ℕ) (old new : ℕ → List ℕ) : Type 0 where
   pub free : mark_of new page ≡ 0
-  pub marks : (other : ℕ) → other < 65536 → other ≢ page → mark_of new other ≡ mark_of old other
-  pub blank : new page ≡ replicate 4096 0
+  pub marks : (other : ℕ) → other < MOST_PAGES → other ≢ page → mark_of new other ≡ mark_of old other
+  pub blank : new page ≡ replicate PAGE 0
   pub others : (other : ℕ) → other ≢ page → (other < 2) ⊎ (4 < other) → new other ≡ old other
 
 -- The tree has the same pairs, on its pages but for this one, which stands in it no longer; and no page stands in it that didn't.
@@ -59,6 +61,6 @@ pub record LosesPage (tree : Tree) (page : ℕ) (old new : ℕ → List ℕ) : T
 pub record Shrinks (tree : Tree) (freed : ℕ) (old new : ℕ → List ℕ) : Type 0 where
   pub loses : LosesPage tree freed old new
   pub free : mark_of new freed ≡ 0
-  pub marks : (page : ℕ) → page < 65536 → page ≢ freed → mark_of new page ≡ mark_of old page
-  pub blank : new freed ≡ replicate 4096 0
+  pub marks : (page : ℕ) → page < MOST_PAGES → page ≢ freed → mark_of new page ≡ mark_of old page
+  pub blank : new freed ≡ replicate PAGE 0
   pub others : (page : ℕ) → StandsNowhere page (levels_of tree old) → (page < 2) ⊎ (4 < page) → new page ≡ old page

@@ -15,8 +15,8 @@ use stored_pages::read_u16;
 
 /// Whether the records of both pages have room in one.
 pub fn fit_together(left: &[u8], right: &[u8]) -> bool
-    requires left_size { length left.now ≡ 4096 }
-    requires right_size { length right.now ≡ 4096 }
+    requires left_size { length left.now ≡ PAGE }
+    requires right_size { length right.now ≡ PAGE }
     ensures { MatchBool result (FitTogether left.now right.now) (FitTogether left.now right.now → ⊥) }
 {
     let count = usize::from(read_u16(left, COUNT)) + usize::from(read_u16(right, COUNT));
@@ -25,7 +25,7 @@ pub fn fit_together(left: &[u8], right: &[u8]) -> bool
 
 /// Whether a page has less than half of the records that have room on it.
 pub fn holds_few(bytes: &[u8]) -> bool
-    requires { length bytes.now ≡ 4096 }
+    requires { length bytes.now ≡ PAGE }
     ensures { MatchBool result (HoldsFew bytes.now) (HoldsFew bytes.now → ⊥) }
 {
     let more_than_twice = 2 * usize::from(read_u16(bytes, COUNT)) + 1;
@@ -34,8 +34,8 @@ pub fn holds_few(bytes: &[u8]) -> bool
 
 /// The left page with the records of the right one behind its own, up to where that one ends.
 pub fn joined(left: &[u8], right: &[u8]) -> [u8; PAGE]
-    requires left_size { length left.now ≡ 4096 }
-    requires right_size { length right.now ≡ 4096 }
+    requires left_size { length left.now ≡ PAGE }
+    requires right_size { length right.now ≡ PAGE }
     requires some { 0 < record_len_of left.now }
     requires alike { record_len_of right.now ≡ record_len_of left.now }
     requires fits { FitTogether left.now right.now }

@@ -3,6 +3,7 @@
 
 ghost use Rattle.std.specs.Prelude.{◌≡◌, ◌≢◌, ◌+◌, ◌≤◌, suc, length, IsTrue, IfOk, IfErr, IfSome, MatchOption};
 ghost use Rattle.store_api.specs.declared.visits.Visit.TheVariants.{Bad};
+ghost use Rattle.mtr.specs.declared.store.TheConstants.{MOST_VISITED};
 ghost use Rattle.page_format.specs.Words.{level_of, records_of};
 ghost use Rattle.btree.specs.Descents.{IsReadable};
 ghost use Rattle.btree_split.specs.Placed.{IsPlacedTree};
@@ -38,7 +39,7 @@ pub struct Siblings {
 
 /// The children of a record and of the next one, if there is a next one.
 fn couple_at(bytes: &[u8], tree: Tree, page: u32, place: u16) -> Result<Option<Couple>, Visit>
-    requires { length bytes.now ≡ 4096 }
+    requires { length bytes.now ≡ PAGE }
     ensures couple { IfOk result (λ couple. MatchOption couple (length (records_of bytes.now) ≤ suc place) (IsCouple tree bytes.now place)) }
     ensures refused { IfErr result (λ why. (why ≡ Bad page 1) × (IsReadable tree bytes.now → level_of bytes.now ≢ 0 → ⊥)) }
 {
@@ -69,7 +70,7 @@ pub fn look_at<M: Mtr>(
     parent: u32,
     place: u16,
 ) -> Result<Option<Siblings>, Visit>
-    requires few { 3 + length (M.state m.old).visited ≤ 24 }
+    requires few { 3 + length (M.state m.old).visited ≤ MOST_VISITED }
     requires tree { IsTrue (M.state m.old).told → IsPlacedTree tree (M.state m.old).seen }
     requires parent { IsTrue (M.state m.old).told → IsAboveLeaves tree (M.state m.old).seen parent }
     ensures reads { Reads 3 (M.state m.old) (M.state m.new) }

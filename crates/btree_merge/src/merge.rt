@@ -2,6 +2,8 @@
 //! that one, and its page is given back. Who calls commits or gives up.
 
 ghost use Rattle.std.specs.Prelude.{◌≡◌, ◌+◌, ◌<◌, ◌≤◌, length, drop, IsTrue, IfOk, IfErr, OnOk, OnErr};
+ghost use Rattle.stored_pages.specs.declared.layout.TheConstants.{PAGE};
+ghost use Rattle.mtr.specs.declared.store.TheConstants.{MOST_VISITED};
 ghost use Rattle.mtr.specs.Seen.{is_in, IsWithin};
 ghost use Rattle.mtr.specs.Calls.{Puts};
 ghost use Rattle.btree_split.specs.Placed.{IsPlacedTree};
@@ -21,7 +23,7 @@ use stored_pages::layout::FIELDS;
 
 /// Puts what an image has for a tree's page.
 fn put_image<M: Mtr>(m: &mut M, page: u32, image: &[u8]) -> Result<(), NoMemory>
-    requires size { length image.now ≡ 4096 }
+    requires size { length image.now ≡ PAGE }
     requires dealt_with { IsTrue (is_in page (M.state m.old).visited) }
     requires within { IsWithin page (M.state m.old) }
     ensures put { OnOk result (Puts page 20 (drop 20 image.now) (M.state m.old) (M.state m.new)) }
@@ -61,7 +63,7 @@ pub fn merge_in<M: Mtr>(
     parent: u32,
     place: u16,
 ) -> Result<Option<u32>, SpaceBad>
-    requires few { 8 + length (M.state m.old).visited ≤ 24 }
+    requires few { 8 + length (M.state m.old).visited ≤ MOST_VISITED }
     requires some { 0 < tree.key_len }
     requires tree { IsTrue (M.state m.old).told → IsPlacedTree tree (M.state m.old).seen }
     requires parent { IsTrue (M.state m.old).told → IsAboveLeaves tree (M.state m.old).seen parent }

@@ -2,6 +2,7 @@
 //! Only `look` and `tidying` ask here, and no page is changed by it.
 
 ghost use Rattle.std.specs.Prelude.{◌≡◌, ◌≤◌, [], ◌∷◌, length, IsTrue, IfOk, IfErr, OnOk};
+ghost use Rattle.mtr.specs.declared.store.TheConstants.{MOST_VISITED};
 ghost use Rattle.mtr.specs.Seen.{visit, is_in, IsShown};
 ghost use Rattle.mtr.specs.Calls.{Asks, Consults};
 ghost use Rattle.btree.specs.Walks.{IsReadableLeaf};
@@ -14,7 +15,7 @@ use stored_pages::layout::PAGE;
 
 /// The bytes of a page, asked for.
 fn asked<M: Mtr>(m: &mut M, page: u32) -> Result<[u8; PAGE], Visit>
-    requires { length (visit page (M.state m.old).visited) ≤ 24 }
+    requires { length (visit page (M.state m.old).visited) ≤ MOST_VISITED }
     ensures shown { IfOk result (λ bytes. IsTrue (M.state m.old).told → IsShown ((M.state m.old).seen page) bytes) }
     ensures asks { Asks page (M.state m.old) result (M.state m.new) }
 {
@@ -25,7 +26,7 @@ fn asked<M: Mtr>(m: &mut M, page: u32) -> Result<[u8; PAGE], Visit>
 
 /// The bytes of a page.
 pub fn copy_of<M: Mtr>(m: &mut M, page: u32) -> Result<[u8; PAGE], Visit>
-    requires { length (visit page (M.state m.old).visited) ≤ 24 }
+    requires { length (visit page (M.state m.old).visited) ≤ MOST_VISITED }
     ensures shown { IfOk result (λ bytes. IsTrue (M.state m.old).told → IsShown ((M.state m.old).seen page) bytes) }
     ensures looks { Consults (page ∷ []) (M.state m.old) (M.state m.new) }
     ensures dealt_with { OnOk result (IsTrue (is_in page (M.state m.new).visited)) }
@@ -36,7 +37,7 @@ pub fn copy_of<M: Mtr>(m: &mut M, page: u32) -> Result<[u8; PAGE], Visit>
 
 /// The bytes of a page that is a leaf.
 pub fn leaf_copy<M: Mtr>(m: &mut M, tree: Tree, page: u32) -> Result<[u8; PAGE], Visit>
-    requires few { length (visit page (M.state m.old).visited) ≤ 24 }
+    requires few { length (visit page (M.state m.old).visited) ≤ MOST_VISITED }
     requires leaf { IsTrue (M.state m.old).told → IsReadableLeaf tree ((M.state m.old).seen page) }
     ensures shown { IfOk result (λ bytes. IsTrue (M.state m.old).told → IsShown ((M.state m.old).seen page) bytes) }
     ensures readable { IfOk result (λ bytes. IsReadableLeaf tree bytes) }

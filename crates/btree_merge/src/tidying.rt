@@ -4,6 +4,8 @@
 ghost use Rattle.std.specs.Prelude.{◌≡◌, ◌≢◌, ◌+◌, ◌<◌, ◌≤◌, [], length, slice_index_or, IsTrue, IfOk, IfErr, OnOk, OnErr};
 ghost use Rattle.store_api.specs.declared.visits.SpaceBad.TheVariants.{NoMemory as NoSpaceMemory};
 ghost use Rattle.store_api.specs.declared.visits.Visit.TheVariants.{Bad};
+ghost use Rattle.stored_pages.specs.declared.layout.TheConstants.{PAGE};
+ghost use Rattle.mtr.specs.declared.store.TheConstants.{MOST_VISITED};
 ghost use Rattle.page_format.specs.Words.{level_of, count_of, records_of};
 ghost use Rattle.mtr.specs.Calls.{Commits, GivesUp};
 ghost use Rattle.law_flat_tree.specs.Pages.{child_of};
@@ -30,7 +32,7 @@ use stored_pages::read_u16;
 
 /// The record of an inner page that leads to the child for a key.
 fn place_for(bytes: &[u8], tree: Tree, page: u32, key: &[u8]) -> Result<u16, Visit>
-    requires { length bytes.now ≡ 4096 }
+    requires { length bytes.now ≡ PAGE }
     ensures laid_out { OnOk result (IsLaidOut tree bytes.now) }
     ensures inner { OnOk result (level_of bytes.now ≢ 0) }
     ensures within { IfOk result (λ place. place < count_of bytes.now) }
@@ -61,7 +63,7 @@ fn place_for(bytes: &[u8], tree: Tree, page: u32, key: &[u8]) -> Result<u16, Vis
 
 /// The parent's record that leads to the leaf of the key, if that leaf holds few records.
 fn find_sparse<M: Mtr>(m: &mut M, tree: Tree, parent: u32, key: &[u8]) -> Result<Option<u16>, Visit>
-    requires few { 2 + length (M.state m.old).visited ≤ 24 }
+    requires few { 2 + length (M.state m.old).visited ≤ MOST_VISITED }
     requires tree { IsTrue (M.state m.old).told → IsPlacedTree tree (M.state m.old).seen }
     requires parent { IsTrue (M.state m.old).told → IsParent tree (M.state m.old).seen key.now parent }
     ensures reads { Reads 2 (M.state m.old) (M.state m.new) }
@@ -86,7 +88,7 @@ fn merge_beside<M: Mtr>(
     parent: u32,
     place: u16,
 ) -> Result<Option<u32>, SpaceBad>
-    requires few { 16 + length (M.state m.old).visited ≤ 24 }
+    requires few { 16 + length (M.state m.old).visited ≤ MOST_VISITED }
     requires some { 0 < tree.key_len }
     requires tree { IsTrue (M.state m.old).told → IsPlacedTree tree (M.state m.old).seen }
     requires parent { IsTrue (M.state m.old).told → IsAboveLeaves tree (M.state m.old).seen parent }
@@ -107,7 +109,7 @@ fn merge_beside<M: Mtr>(
 
 /// Merges the leaf of the key with one beside it, where it holds few records and fits with one.
 fn tidy_in<M: Mtr>(m: &mut M, tree: Tree, parent: u32, key: &[u8]) -> Result<Option<u32>, SpaceBad>
-    requires few { 18 + length (M.state m.old).visited ≤ 24 }
+    requires few { 18 + length (M.state m.old).visited ≤ MOST_VISITED }
     requires some { 0 < tree.key_len }
     requires tree { IsTrue (M.state m.old).told → IsPlacedTree tree (M.state m.old).seen }
     requires parent { IsTrue (M.state m.old).told → IsParent tree (M.state m.old).seen key.now parent }

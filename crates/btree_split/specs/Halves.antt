@@ -1,6 +1,8 @@
 -- What the bytes of three pages say once a page was split.
 use Rattle.std.specs.Prelude.{◌≡◌, ◌≢◌, ℕ, suc, ◌^◌, ◌<◌, List, [], ◌++◌, length, take, insert, slice_index_or}
 use Rattle.std.specs.Int.{w32, to_be_bytes}
+use Rattle.stored_pages.specs.declared.layout.TheConstants.{PAGE, PAGE_COUNT}
+use Rattle.store_api.specs.declared.limits.TheConstants.{MOST_PAGES}
 use Rattle.page_format.specs.Words.{index_of, record_len_of, records_of}
 use Rattle.stored_pages.specs.Words.{u32_at}
 use Rattle.page_format.specs.Shape.{HasTreeFields}
@@ -19,8 +21,8 @@ child_under key_len pages u j = child_of key_len (slice_index_or (records_of (pa
 pub record IsTakenFor (tree : Tree) (pages : ℕ → List ℕ) (q : ℕ) : Type 0 where
   pub free : StandsNowhere q (levels_of tree pages)
   pub beyond : 20 < q
-  pub small : q < 65536
-  pub counted : q < u32_at 44 (pages 0)
+  pub small : q < MOST_PAGES
+  pub counted : q < u32_at PAGE_COUNT (pages 0)
   pub used : mark_of pages q ≡ 1
 
 -- What a page is that got the lower half of another page's bytes, and one that got the upper half.
@@ -39,7 +41,7 @@ pub record IsUpperPut (old : List ℕ) (i : ℕ) (key new : List ℕ) : Type 0 w
 -- Page p is cut at its i-th record, which begins with the key, page q gets what lies from there on, and the parent u gets a
 -- record for page q behind its j-th; no other page changes.
 pub record SplitsChild (tree : Tree) (key : List ℕ) (i j u p q : ℕ) (old new : ℕ → List ℕ) : Type 0 where
-  pub size : length (old p) ≡ 4096
+  pub size : length (old p) ≡ PAGE
   pub long : length key ≡ tree.key_len
   pub some : 0 < i
   pub within : i < length (records_of (old p))

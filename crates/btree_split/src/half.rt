@@ -14,10 +14,10 @@ use stored_pages::read_u16;
 
 /// The page with its records before a place, below the key and left of the page of that number.
 pub fn lower_half(bytes: &[u8], i: u16, key: &[u8], number: u32) -> [u8; PAGE]
-    requires size { length bytes.now ≡ 4096 }
+    requires size { length bytes.now ≡ PAGE }
     requires place { i ≤ count_of bytes.now }
-    requires inside { 208 + count_of bytes.now * record_len_of bytes.now ≤ 4096 }
-    requires key { length key.now ≤ 80 }
+    requires inside { RECORDS + count_of bytes.now * record_len_of bytes.now ≤ PAGE }
+    requires key { length key.now ≤ FENCE }
     ensures { HasTreeFields bytes.now → IsLowerHalf bytes.now i key.now number result }
 {
     let zeros = [0; PAGE];
@@ -36,10 +36,10 @@ pub fn lower_half(bytes: &[u8], i: u16, key: &[u8], number: u32) -> [u8; PAGE]
 
 /// The page of that number, with the records from a place on, from the key on.
 pub fn upper_half(bytes: &[u8], i: u16, key: &[u8], number: u32) -> [u8; PAGE]
-    requires size { length bytes.now ≡ 4096 }
+    requires size { length bytes.now ≡ PAGE }
     requires place { i ≤ count_of bytes.now }
-    requires inside { 208 + count_of bytes.now * record_len_of bytes.now ≤ 4096 }
-    requires key { length key.now ≤ 80 }
+    requires inside { RECORDS + count_of bytes.now * record_len_of bytes.now ≤ PAGE }
+    requires key { length key.now ≤ FENCE }
     ensures { HasTreeFields bytes.now → IsUpperHalf bytes.now i key.now number result }
 {
     let zeros = [0; PAGE];

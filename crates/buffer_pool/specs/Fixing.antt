@@ -4,6 +4,7 @@ use Rattle.store_api.specs.Areas.{Within, Looked}
 use Rattle.store_api.specs.declared.disk.Area.TheVariants.{Pages}
 use Rattle.store_api.specs.Causes.{Rose}
 use Rattle.store_api.specs.Past.{Past, Goes, Now}
+use Rattle.stored_pages.specs.declared.layout.TheConstants.{PAGE}
 use Rattle.page_format.specs.Refused.{IsRefused}
 use Rattle.page_format.specs.Shape.{IsPage}
 use Rattle.buffer_pool.specs.declared.fixing.FixBad.{FixBad}
@@ -13,7 +14,7 @@ use Rattle.buffer_pool.specs.Frames.{PoolView, next_idle, moved}
 
 -- the bytes of a page's place, with zeros past the end of the area
 abbrev pub page_in : ℕ → List ℕ → List ℕ
-page_in page area = take 4096 (drop (4096 * page) area ++ replicate 4096 0)
+page_in page area = take PAGE (drop (PAGE * page) area ++ replicate PAGE 0)
 
 -- the disk was looked at once, in its pages
 abbrev pub Looks : Past → Past → Type 0

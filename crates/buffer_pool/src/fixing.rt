@@ -46,7 +46,7 @@ impl From<PageBad> for FixBad {
 
 /// Writes a piece over the first bytes.
 fn write_front(bytes: &mut [u8; PAGE], piece: &[u8])
-    requires { length piece.now ≤ 4096 }
+    requires { length piece.now ≤ PAGE }
     ensures { bytes.new ≡ piece.now ++ drop (length piece.now) bytes.old }
 {
     bytes[..piece.len()].copy_from_slice(piece);

@@ -35,13 +35,14 @@ pub struct Frame {
 
 impl Model for Frame {
     ghost use Rattle.std.specs.Prelude.{◌≡◌, length};
+    ghost use Rattle.stored_pages.specs.declared.layout.TheConstants.{PAGE};
     ghost use Rattle.buffer_pool.specs.Frames.{FrameView};
 
     ghost Value = { FrameView };
 
     ghost view = { λ f. record { bytes = f.bytes.value; content = f.content; fixes = f.fixes } };
 
-    ghost invariant = { λ f. length f.bytes.value ≡ 4096 };
+    ghost invariant = { λ f. length f.bytes.value ≡ PAGE };
 }
 
 impl Frame {
@@ -59,7 +60,7 @@ impl Frame {
 
     pub fn bytes(&self) -> &[u8]
         ensures value { result.now ≡ self.now.bytes }
-        ensures size { length result.now ≡ 4096 }
+        ensures size { length result.now ≡ PAGE }
     {
         self.bytes.as_slice()
     }
@@ -99,7 +100,7 @@ impl Frame {
 
     /// The frame with this page in it, which is fixed once.
     pub fn brought(mut self, bytes: &[u8], content: Content) -> Frame
-        requires { length bytes.now ≡ 4096 }
+        requires { length bytes.now ≡ PAGE }
         ensures { result ≡ record { bytes = bytes.now; content = content; fixes = 1 } }
     {
         self.bytes.copy_from_slice(bytes);
@@ -130,7 +131,7 @@ impl Frame {
 
     /// The frame with other bytes, which the disk doesn't have.
     pub fn changed(mut self, bytes: &[u8]) -> Frame
-        requires { length bytes.now ≡ 4096 }
+        requires { length bytes.now ≡ PAGE }
         ensures { result ≡ changed bytes.now self }
     {
         self.bytes.copy_from_slice(bytes);

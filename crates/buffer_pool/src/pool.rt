@@ -124,7 +124,7 @@ impl Pool {
     pub fn bytes(&self, page: u32) -> &[u8]
         requires { IsTrue (is_pooled self.now page) }
         ensures value { result.now ≡ bytes_of self.now page }
-        ensures size { length result.now ≡ 4096 }
+        ensures size { length result.now ≡ PAGE }
     {
         match frame_at(&self.slots, page) {
             Some(frame) => frame.bytes(),
@@ -147,7 +147,7 @@ impl Pool {
     fn bring(&mut self, from: u32, page: u32, bytes: &[u8], content: Content)
         requires within { page < length self.old.slots }
         requires from { next_idle self.old ≡ Some from }
-        requires size { length bytes.now ≡ 4096 }
+        requires size { length bytes.now ≡ PAGE }
         ensures { self.new ≡ moved from page (record { bytes = bytes.now; content = content; fixes = 1 }) self.old }
     {
         move_frame(&mut self.slots, from, page, bytes, content);
@@ -184,7 +184,7 @@ impl Pool {
     pub fn fix_new(&mut self, page: u32) -> bool
         requires within { page < length self.old.slots }
         requires absent { is_pooled self.old page ≡ false }
-        ensures { MatchOption (next_idle self.old) ((result ≡ false) × (self.new ≡ self.old)) (λ from. (result ≡ true) × (self.new ≡ moved from page (record { bytes = replicate 4096 0; content = New; fixes = 1 }) self.old)) }
+        ensures { MatchOption (next_idle self.old) ((result ≡ false) × (self.new ≡ self.old)) (λ from. (result ≡ true) × (self.new ≡ moved from page (record { bytes = replicate PAGE 0; content = New; fixes = 1 }) self.old)) }
     {
         match last_idle(&self.order, &self.slots) {
             Some(from) => {
@@ -199,7 +199,7 @@ impl Pool {
     pub fn let_in(&mut self, page: u32, bytes: &[u8]) -> bool
         requires within { page < length self.old.slots }
         requires absent { is_pooled self.old page ≡ false }
-        requires size { length bytes.now ≡ 4096 }
+        requires size { length bytes.now ≡ PAGE }
         ensures { MatchOption (next_idle self.old) ((result ≡ false) × (self.new ≡ self.old)) (λ from. (result ≡ true) × (self.new ≡ moved from page (record { bytes = bytes.now; content = Clean; fixes = 1 }) self.old)) }
     {
         match last_idle(&self.order, &self.slots) {
@@ -222,7 +222,7 @@ impl Pool {
     /// Puts other bytes into a fixed page, which the disk doesn't have.
     pub fn change(&mut self, page: u32, bytes: &[u8])
         requires fixed { 0 < fixes_of self.old page }
-        requires size { length bytes.now ≡ 4096 }
+        requires size { length bytes.now ≡ PAGE }
         ensures { self.new ≡ at_slot page (changed bytes.now) self.old }
     {
         change_slot(&mut self.slots, page, bytes);

@@ -3,6 +3,7 @@
 
 ghost use Rattle.std.specs.Prelude.{◌≡◌, ◌-◌, ◌^◌, ◌<◌, length, replicate, slice_index_or, slice_set, true, option_map, option_copied, IfOk, IfSome, Some, None};
 ghost use Rattle.std.specs.List.{swap};
+ghost use Rattle.stored_pages.specs.declared.layout.TheConstants.{PAGE};
 ghost use Rattle.buffer_pool.specs.Frames as frames;
 
 use crate::frame::{Content, Frame};
@@ -54,7 +55,7 @@ fn unfixed(slot: Slot) -> Slot
 }
 
 fn changed(slot: Slot, bytes: &[u8]) -> Slot
-    requires { length bytes.now ≡ 4096 }
+    requires { length bytes.now ≡ PAGE }
     ensures { result ≡ option_map (frames.changed bytes.now) slot }
 {
     Some(slot?.changed(bytes))
@@ -67,7 +68,7 @@ fn placed(slot: Slot, lsn: u64) -> Slot
 }
 
 fn brought(slot: Slot, bytes: &[u8], content: Content) -> Slot
-    requires { length bytes.now ≡ 4096 }
+    requires { length bytes.now ≡ PAGE }
     ensures { result ≡ option_map (λ _. record { bytes = bytes.now; content = content; fixes = 1 }) slot }
 {
     Some(slot?.brought(bytes, content))
@@ -92,7 +93,7 @@ pub fn unfix_slot(slots: &mut Vec<Slot>, page: u32)
 
 pub fn change_slot(slots: &mut Vec<Slot>, page: u32, bytes: &[u8])
     requires within { page < length slots.old.items }
-    requires size { length bytes.now ≡ 4096 }
+    requires size { length bytes.now ≡ PAGE }
     ensures { slots.new.items ≡ slice_set slots.old.items page (option_map (frames.changed bytes.now) (slice_index_or slots.old.items page None)) }
 {
     let slot = put_slot(slots, page, None);
@@ -112,7 +113,7 @@ pub fn move_frame(slots: &mut Vec<Slot>, from: u32, page: u32, bytes: &[u8], con
     requires from { from < length slots.old.items }
     requires idle { frames.is_idle_at slots.old.items from ≡ true }
     requires within { page < length slots.old.items }
-    requires size { length bytes.now ≡ 4096 }
+    requires size { length bytes.now ≡ PAGE }
     ensures { slots.new.items ≡ slice_set (swap slots.old.items from page) page (Some (record { bytes = bytes.now; content = content; fixes = 1 })) }
 {
     slots.swap(from as usize, page as usize);

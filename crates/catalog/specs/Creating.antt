@@ -16,6 +16,9 @@ use Rattle.store_api.specs.declared.visits.Visit.{Visit}
 use Rattle.store_api.specs.declared.visits.Visit.TheVariants.{Failed, Again, Bad}
 use Rattle.store_api.specs.declared.visits.SpaceBad.{SpaceBad}
 use Rattle.store_api.specs.declared.visits.SpaceBad.TheVariants as space
+use Rattle.stored_pages.specs.declared.layout.TheConstants.{PAGE, FIRST_CATALOG_PAGE, FIXED_PAGES}
+use Rattle.page_format.specs.declared.layout.TheConstants.{LEAF}
+use Rattle.store_api.specs.declared.limits.TheConstants.{MOST_PAGES}
 use Rattle.mtr.specs.Seen.{MtrState, is_in, claim, capacity_of, AreDistinct, IsShut, with_bytes}
 use Rattle.mtr.specs.Calls.{Goes, SeesAt, IsReason}
 use Rattle.space_map.specs.Map.{map_page, byte_of, mark_of, IsFree, free_among}
@@ -36,8 +39,8 @@ pub record HasRoom (name : List ℕ) (pages : ℕ → List ℕ) : Type 0 where
 
 -- The first so many pages of the catalog are in use, and the others are not.
 pub record IsFilled (n : ℕ) (pages : ℕ → List ℕ) : Type 0 where
-  pub used : (k : ℕ) → k < n → slice_index (pages (5 + k)) 32 ≡ 1
-  pub unused : (k : ℕ) → n ≤ k → k < 16 → slice_index (pages (5 + k)) 32 ≡ 0
+  pub used : (k : ℕ) → k < n → slice_index (pages (FIRST_CATALOG_PAGE + k)) 32 ≡ 1
+  pub unused : (k : ℕ) → n ≤ k → k < 16 → slice_index (pages (FIRST_CATALOG_PAGE + k)) 32 ≡ 0
 
 -- a count that was known to lie less than two steps from here is less than one step from the next place
 abbrev pub Nears : ℕ → ℕ → ℕ → (ℕ → List ℕ) → Type 0
@@ -52,7 +55,7 @@ leaf_head index record_len = 3 ∷ 0 ∷ 0 ∷ 0 ∷ (to_be_bytes w32 index ++ (
 -- An empty leaf of the index of this number, alone on its level and open on both sides.
 pub record IsEmptyLeaf (index record_len : ℕ) (page : List ℕ) : Type 0 where
   pub fields : HasTreeFields page
-  pub kind : kind_of page ≡ 3
+  pub kind : kind_of page ≡ LEAF
   pub level : level_of page ≡ 0
   pub index_is : index_of page ≡ index
   pub right : right_of page ≡ 0
@@ -106,10 +109,10 @@ pub record ReservesPages (roots written : List ℕ) (old new : MtrState) : Type 
   pub fault : new.fault ≡ old.fault
   pub counted : capacity_of new ≡ capacity_of old
   pub distinct : AreDistinct roots
-  pub inside : (page : ℕ) → is_in page roots ≡ true → page < 65536
+  pub inside : (page : ℕ) → is_in page roots ≡ true → page < MOST_PAGES
   pub were_free : (page : ℕ) → is_in page roots ≡ true → IsFree old page
   pub used : (page : ℕ) → is_in page roots ≡ true → mark_of new.seen page ≡ 1
-  pub marks : (page : ℕ) → page < 65536 → is_in page roots ≡ false → mark_of new.seen page ≡ mark_of old.seen page
+  pub marks : (page : ℕ) → page < MOST_PAGES → is_in page roots ≡ false → mark_of new.seen page ≡ mark_of old.seen page
   pub free : free_among new.seen 0 (capacity_of old) + length roots ≡ free_among old.seen 0 (capacity_of old)
   pub map : KeepsMap roots old.seen new.seen
   pub elsewhere : (page : ℕ) → is_in page roots ≡ false → is_in page written ≡ false → is_in page the_map ≡ false → new.seen page ≡ old.seen page
@@ -122,7 +125,7 @@ pub record Reserves (roots written : List ℕ) (old new : MtrState) : Type 0 whe
 pub record MakesRoot (index record_len root : ℕ) (old new : MtrState) : Type 0 where
   pub reserves : Reserves (root ∷ []) [] old new
   pub counts : IsTrue new.told → HasPageCount old.seen
-  pub above : 21 ≤ root
+  pub above : FIXED_PAGES ≤ root
   pub leaf : IsTrue new.told → IsEmptyLeaf index record_len (new.seen root)
   pub deals : claim map_pages new.visited ≤ claim map_pages old.visited + 1
 
@@ -131,19 +134,19 @@ pub record MakesRoots (schema : Schema) (table count : ℕ) (roots : List ℕ) (
   pub count_is : length roots ≡ count
   pub reserves : Reserves roots [] old new
   pub counts : 0 < count → IsTrue new.told → HasPageCount old.seen
-  pub above : (page : ℕ) → is_in page roots ≡ true → 21 ≤ page
+  pub above : (page : ℕ) → is_in page roots ≡ true → FIXED_PAGES ≤ page
   pub leaves : IsTrue new.told → AreEmptyRoots schema table 0 roots new.seen
   pub deals : claim map_pages new.visited ≤ claim map_pages old.visited + count
 
 -- The entry of the table was put on its page.
 pub record PutsEntry (schema : Schema) (table : ℕ) (roots : List ℕ) (old new : MtrState) : Type 0 where
   pub goes : Goes old new
-  pub size : IsTrue new.told → length (old.seen (5 + table)) ≡ 4096
-  pub pages : IsTrue new.told → SeesAt (5 + table) (with_bytes 32 (1 ∷ (schema_bytes schema ++ flat_map u32_bytes roots)) (old.seen (5 + table))) old new
+  pub size : IsTrue new.told → length (old.seen (FIRST_CATALOG_PAGE + table)) ≡ PAGE
+  pub pages : IsTrue new.told → SeesAt (FIRST_CATALOG_PAGE + table) (with_bytes 32 (1 ∷ (schema_bytes schema ++ flat_map u32_bytes roots)) (old.seen (FIRST_CATALOG_PAGE + table))) old new
 
 -- What the table is as the pages hold it: its roots are empty leaves, and it stands behind the others.
 pub record IsCreated (schema : Schema) (table : ℕ) (roots : List ℕ) (old new : MtrState) : Type 0 where
-  pub above : (page : ℕ) → is_in page roots ≡ true → 21 ≤ page
+  pub above : (page : ℕ) → is_in page roots ≡ true → FIXED_PAGES ≤ page
   pub leaves : AreEmptyRoots schema table 0 roots new.seen
   pub behind : (tables : List Held) → IsCatalog tables old.seen → (table ≡ length tables) × IsCatalog (tables ++ record { schema = schema; roots = roots } ∷ []) new.seen
 
@@ -151,7 +154,7 @@ pub record IsCreated (schema : Schema) (table : ℕ) (roots : List ℕ) (old new
 pub record Creates (schema : Schema) (table : ℕ) (old new : MtrState) : Type 0 where
   pub roots : List ℕ
   pub count : length roots ≡ 1 + length schema.keys
-  pub takes : Reserves roots ((5 + table) ∷ []) old new
+  pub takes : Reserves roots ((FIRST_CATALOG_PAGE + table) ∷ []) old new
   pub created : IsTrue new.told → IsCreated schema table roots old new
 
 -- Where no table is made, some roots may have been taken and written so far, and the catalog is as before.
@@ -168,12 +171,12 @@ asked_pages = 0 ∷ 2 ∷ 3 ∷ 4 ∷ 5 ∷ 6 ∷ 7 ∷ 8 ∷ 9 ∷ 10 ∷ 11 �
 
 -- the map has a page of a fixed number as free, so that it would be used twice
 abbrev pub FreesFixed : ℕ → ℕ → (ℕ → List ℕ) → Type 0
-FreesFixed page rule pages = (page ≡ 2) × (rule ≡ 5) × ((fixed : ℕ) × (fixed < 21) × (mark_of pages fixed ≡ 0))
+FreesFixed page rule pages = (page ≡ 2) × (rule ≡ 5) × ((fixed : ℕ) × (fixed < FIXED_PAGES) × (mark_of pages fixed ≡ 0))
 
 -- The disk has failed, a page isn't at hand, or one breaks a rule: as it is read, by what it counts, or by what it frees.
 abbrev pub IsVisitReason : MtrState → MtrState → Visit → Type 0
 IsVisitReason old new Failed = Rose old.faults new.faults
-IsVisitReason old new Again = (page : ℕ) × ((is_in page asked_pages ≡ true) ⊎ (IsTrue new.told → (page < 65536) × IsFree old page)) × IsShut page new
+IsVisitReason old new Again = (page : ℕ) × ((is_in page asked_pages ≡ true) ⊎ (IsTrue new.told → (page < MOST_PAGES) × IsFree old page)) × IsShut page new
 IsVisitReason old new (Bad page rule) =
     (is_in page asked_pages ≡ true) × (IsTrue new.told → (old.fault page ≡ Some rule) ⊎ Miscounts page rule old.seen ⊎ FreesFixed page rule old.seen)
 

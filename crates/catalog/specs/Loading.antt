@@ -6,6 +6,7 @@ use Rattle.catalog.specs.declared.held.EntryBad.TheVariants.{Shape}
 use Rattle.catalog.specs.declared.held.EntryBad.TheVariants as entry
 use Rattle.store_api.specs.declared.visits.FindBad.{FindBad}
 use Rattle.store_api.specs.declared.visits.FindBad.TheVariants.{Visit, Malformed, NoMemory}
+use Rattle.stored_pages.specs.declared.layout.TheConstants.{FIRST_CATALOG_PAGE, FIXED_PAGES}
 use Rattle.mtr.specs.Seen.{MtrState}
 use Rattle.mtr.specs.Calls.{IsReason}
 use Rattle.catalog.specs.Makeable.{is_makeable}
@@ -31,11 +32,11 @@ IsNoTable count page entry.NoMemory = Unit {0}
 
 -- A CREATE TABLE could have put this table on this page behind those.
 abbrev pub Accepts : List Held → ℕ → Held → Type 0
-Accepts before page held = (page ≤ 5 + length before) × (is_makeable held.schema ≡ true) × (is_new_name held.schema.name before ≡ true)
+Accepts before page held = (page ≤ FIRST_CATALOG_PAGE + length before) × (is_makeable held.schema ≡ true) × (is_new_name held.schema.name before ≡ true)
 
 -- None could: there is an unused page before it, the schema is one that is refused, or another table has the name.
 abbrev pub Refuses : List Held → ℕ → Held → Type 0
-Refuses before page held = (5 + length before < page) ⊎ (is_makeable held.schema ≡ false) ⊎ (is_new_name held.schema.name before ≡ false)
+Refuses before page held = (FIRST_CATALOG_PAGE + length before < page) ⊎ (is_makeable held.schema ≡ false) ⊎ (is_new_name held.schema.name before ≡ false)
 
 pub record IsRefusedTable (before : List Held) (page : ℕ) (held : Held) (pages : ℕ → List ℕ) : Type 0 where
   pub holds : HoldsTable (page_count pages) held (pages page)
@@ -48,7 +49,7 @@ BreaksRule before page rule pages =
 
 -- The page is the first of the catalog that breaks a rule, and this is the first rule that it breaks.
 pub record IsFirstBroken (page rule : ℕ) (pages : ℕ → List ℕ) : Type 0 where
-  pub is_catalog : (5 ≤ page) × (page < 21)
+  pub is_catalog : (FIRST_CATALOG_PAGE ≤ page) × (page < FIXED_PAGES)
   pub before : List Held
   pub good : HoldsBelow before page pages
   pub breaks : BreaksRule before page rule pages

@@ -2,6 +2,7 @@
 -- of that number behind the first one. No table ever goes, so the pages in use come first.
 use Rattle.std.specs.Prelude.{◌≡◌, ℕ, ◌+◌, ◌<◌, ◌≤◌, Bool, true, not, List, length, take, drop, slice_get, slice_index, bytes_eq, All, Some}
 use Rattle.std.specs.List.{list_all}
+use Rattle.stored_pages.specs.declared.layout.TheConstants.{FIRST_CATALOG_PAGE, FIXED_PAGES, PAGE_COUNT}
 use Rattle.page_format.specs.Words.{kind_of}
 use Rattle.stored_pages.specs.Words.{u32_at}
 use Rattle.catalog.specs.declared.held.Held.{Held}
@@ -34,14 +35,14 @@ pub record IsTable (count : ℕ) (before : List Held) (held : Held) (page : List
 
 -- how many pages there are, as page 0 says
 abbrev pub page_count : (ℕ → List ℕ) → ℕ
-page_count pages = u32_at 44 (pages 0)
+page_count pages = u32_at PAGE_COUNT (pages 0)
 
 -- The pages of the catalog below this one hold these tables, and no others.
 pub record HoldsBelow (tables : List Held) (end : ℕ) (pages : ℕ → List ℕ) : Type 0 where
-  pub inside : 5 + length tables ≤ end
-  pub each : (i : ℕ) (held : Held) → slice_get tables i ≡ Some held → IsTable (page_count pages) (take i tables) held (pages (5 + i))
-  pub unused : (page : ℕ) → 5 + length tables ≤ page → page < end → IsUnused (pages page)
+  pub inside : FIRST_CATALOG_PAGE + length tables ≤ end
+  pub each : (i : ℕ) (held : Held) → slice_get tables i ≡ Some held → IsTable (page_count pages) (take i tables) held (pages (FIRST_CATALOG_PAGE + i))
+  pub unused : (page : ℕ) → FIRST_CATALOG_PAGE + length tables ≤ page → page < end → IsUnused (pages page)
 
 -- These are the tables of the catalog.
 abbrev pub IsCatalog : List Held → (ℕ → List ℕ) → Type 0
-IsCatalog tables pages = HoldsBelow tables 21 pages
+IsCatalog tables pages = HoldsBelow tables FIXED_PAGES pages

@@ -3,6 +3,7 @@
 
 ghost use Rattle.std.specs.Prelude.{◌≡◌, ℕ, ◌+◌, ◌*◌, ◌<◌, ◌≤◌, ◌∷◌, ◌++◌, length, true, IsTrue, IfOk, IfErr, OnOk, OnErr};
 ghost use Rattle.std.specs.List.{flat_map};
+ghost use Rattle.mtr.specs.declared.store.TheConstants.{MOST_VISITED};
 ghost use Rattle.mtr.specs.Seen.{claim, IsWithin};
 ghost use Rattle.mtr.specs.Calls.{Consults, IsReason};
 ghost use Rattle.space_map.specs.Taking.{map_pages, Miscounts};
@@ -24,7 +25,7 @@ use stored_pages::layout::FIRST_CATALOG_PAGE;
 fn pass<M: Mtr>(m: &mut M, place: u8, step: u8) -> Result<u8, Visit>
     requires inside { place + 2 * step ≤ 16 }
     requires some { 0 < step }
-    requires few { claim map_pages (M.state m.old).visited + 1 ≤ 24 }
+    requires few { claim map_pages (M.state m.old).visited + 1 ≤ MOST_VISITED }
     ensures inside { IfOk result (λ next. next + step ≤ 16) }
     ensures nears { IfOk result (λ next. IsTrue (M.state m.new).told → Nears place step next (M.state m.old).seen) }
     ensures consults { Consults asked_pages (M.state m.old) (M.state m.new) }
@@ -42,7 +43,7 @@ fn pass<M: Mtr>(m: &mut M, place: u8, step: u8) -> Result<u8, Visit>
 /// How many pages of the catalog are in use, where fewer than all are. It halves the pages in question each time, so that
 /// a mini-transaction deals with few of them.
 fn count_tables<M: Mtr>(m: &mut M) -> Result<u8, Visit>
-    requires { claim map_pages (M.state m.old).visited + 4 ≤ 24 }
+    requires { claim map_pages (M.state m.old).visited + 4 ≤ MOST_VISITED }
     ensures inside { IfOk result (λ table. table < 16) }
     ensures count { IfOk result (λ table. IsTrue (M.state m.new).told → (n : ℕ) → n < 16 → IsFilled n (M.state m.old).seen → table ≡ n) }
     ensures consults { Consults asked_pages (M.state m.old) (M.state m.new) }
@@ -78,7 +79,7 @@ fn put_entry_on<M: Mtr>(
     requires count { length roots.now ≡ 1 + length schema.now.keys }
     requires inside { table < 16 }
     requires within { IsWithin 20 (M.state m.old) }
-    requires few { claim map_pages (M.state m.old).visited + 1 ≤ 24 }
+    requires few { claim map_pages (M.state m.old).visited + 1 ≤ MOST_VISITED }
     ensures put { OnOk result (PutsEntry schema.now table roots.now (M.state m.old) (M.state m.new)) }
     ensures kept { OnErr result (Consults asked_pages (M.state m.old) (M.state m.new)) }
     ensures reason { IfErr result (IsPutReason (M.state m.old) (M.state m.new)) }
@@ -95,7 +96,7 @@ fn put_entry_on<M: Mtr>(
 pub fn create<M: Mtr>(alloc: Global, m: &mut M, schema: &Schema) -> Result<u8, SpaceBad>
     requires makeable { is_makeable schema.now ≡ true }
     requires room { IsTrue (M.state m.old).told → HasRoom schema.now.name (M.state m.old).seen }
-    requires few { claim map_pages (M.state m.old).visited + 10 ≤ 24 }
+    requires few { claim map_pages (M.state m.old).visited + 10 ≤ MOST_VISITED }
     ensures created { IfOk result (λ table. Creates schema.now table (M.state m.old) (M.state m.new)) }
     ensures kept { OnErr result (Attempts (1 + length schema.now.keys) (M.state m.old) (M.state m.new)) }
     ensures reason { IfErr result (IsCreateReason (1 + length schema.now.keys) (M.state m.old) (M.state m.new)) }

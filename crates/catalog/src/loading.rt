@@ -3,6 +3,7 @@
 
 ghost use Rattle.std.specs.Prelude.{◌≡◌, ◌≤◌, ◌∷◌, ◌++◌, [], IsTrue, IfOk, IfErr, OnOk, MatchBool, vec_len, length};
 ghost use Rattle.std.specs.List.{list_all};
+ghost use Rattle.mtr.specs.declared.store.TheConstants.{MOST_VISITED};
 ghost use Rattle.mtr.specs.Seen.{claim};
 ghost use Rattle.mtr.specs.Calls.{Consults};
 ghost use Rattle.catalog.specs.Tables.{is_new_name, IsCatalog};
@@ -67,7 +68,7 @@ fn add_shown(tables: &mut Vec<Held>, page: u32, shown: Option<Held>) -> Result<(
 /// The tables of the catalog in order of their numbers, each with its root pages.
 /// Malformed names the first page that breaks a rule, and the lowest rule that it breaks.
 pub fn load<M: Mtr>(alloc: Global, m: &mut M) -> Result<Schemas, FindBad>
-    requires { claim catalog_pages (M.state m.old).visited ≤ 24 }
+    requires { claim catalog_pages (M.state m.old).visited ≤ MOST_VISITED }
     ensures catalog { IfOk result (λ tables. IsTrue (M.state m.new).told → IsCatalog tables (M.state m.old).seen) }
     ensures consults { Consults catalog_pages (M.state m.old) (M.state m.new) }
     ensures reason { IfErr result (IsLoadReason (M.state m.old) (M.state m.new)) }

@@ -2,6 +2,8 @@
 //! What is asked here changes nothing.
 
 ghost use Rattle.std.specs.Prelude.{◌≡◌, ◌<◌, ◌≤◌, IsTrue, IfOk, IfErr};
+ghost use Rattle.stored_pages.specs.declared.layout.TheConstants.{FIRST_CATALOG_PAGE, FIXED_PAGES};
+ghost use Rattle.mtr.specs.declared.store.TheConstants.{MOST_VISITED};
 ghost use Rattle.mtr.specs.Seen.{claim};
 ghost use Rattle.mtr.specs.Calls.{Consults};
 ghost use Rattle.catalog.specs.Loading.{catalog_pages, Shows, IsTableReason};
@@ -19,9 +21,9 @@ pub fn table_on<M: Mtr>(
     page: u32,
     count: u32,
 ) -> Result<Option<Held>, FindBad>
-    requires from { 5 ≤ page }
-    requires to { page < 21 }
-    requires few { claim catalog_pages (M.state m.old).visited ≤ 24 }
+    requires from { FIRST_CATALOG_PAGE ≤ page }
+    requires to { page < FIXED_PAGES }
+    requires few { claim catalog_pages (M.state m.old).visited ≤ MOST_VISITED }
     ensures shown { IfOk result (λ shown. IsTrue (M.state m.new).told → Shows count ((M.state m.old).seen page) shown) }
     ensures consults { Consults catalog_pages (M.state m.old) (M.state m.new) }
     ensures reason { IfErr result (IsTableReason page count (M.state m.old) (M.state m.new)) }

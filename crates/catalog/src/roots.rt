@@ -2,6 +2,7 @@
 //! A tree's root keeps its page for good.
 
 ghost use Rattle.std.specs.Prelude.{◌≡◌, ◌+◌, ◌*◌, ◌<◌, ◌≤◌, ◌∷◌, ◌++◌, [], length, true, IsTrue, IfOk, IfErr, OnOk, OnErr};
+ghost use Rattle.mtr.specs.declared.store.TheConstants.{MOST_VISITED};
 ghost use Rattle.mtr.specs.Seen.{visit, claim, IsWithin};
 ghost use Rattle.mtr.specs.Calls.{Makes};
 ghost use Rattle.space_map.specs.Taking.{map_pages};
@@ -31,7 +32,7 @@ fn head_of_leaf(index: u32, record_len: u16) -> [u8; 16]
 }
 
 fn make_zeros<M: Mtr>(m: &mut M, page: u32) -> Result<(), SpaceBad>
-    requires few { length (visit page (M.state m.old).visited) ≤ 24 }
+    requires few { length (visit page (M.state m.old).visited) ≤ MOST_VISITED }
     requires within { IsWithin page (M.state m.old) }
     ensures made { OnOk result (Makes page (M.state m.old) (M.state m.new)) }
     ensures kept { OnErr result (M.state m.new ≡ M.state m.old) }
@@ -48,7 +49,7 @@ fn make_zeros<M: Mtr>(m: &mut M, page: u32) -> Result<(), SpaceBad>
 /// never free, and a map that says so breaks the rule on use.
 fn make_root<M: Mtr>(m: &mut M, index: u32, record_len: u16) -> Result<u32, SpaceBad>
     requires width { 0 < record_len }
-    requires few { claim map_pages (M.state m.old).visited + 1 ≤ 24 }
+    requires few { claim map_pages (M.state m.old).visited + 1 ≤ MOST_VISITED }
     ensures made { IfOk result (λ root. MakesRoot index record_len root (M.state m.old) (M.state m.new)) }
     ensures kept { OnErr result (Attempts 1 (M.state m.old) (M.state m.new)) }
     ensures reason { IfErr result (IsCreateReason 1 (M.state m.old) (M.state m.new)) }
@@ -106,7 +107,7 @@ pub fn make_roots<M: Mtr>(
     table: u8,
 ) -> Result<Vec<u32>, SpaceBad>
     requires makeable { is_makeable schema.now ≡ true }
-    requires few { claim map_pages (M.state m.old).visited + 5 ≤ 24 }
+    requires few { claim map_pages (M.state m.old).visited + 5 ≤ MOST_VISITED }
     ensures made { IfOk result (λ roots. MakesRoots schema.now table (1 + length schema.now.keys) roots.items (M.state m.old) (M.state m.new)) }
     ensures kept { OnErr result (Attempts (1 + length schema.now.keys) (M.state m.old) (M.state m.new)) }
     ensures reason { IfErr result (IsCreateReason (1 + length schema.now.keys) (M.state m.old) (M.state m.new)) }

@@ -2,6 +2,7 @@
 //! Nothing here asks for a page.
 
 ghost use Rattle.std.specs.Prelude.{◌≡◌, ◌<◌, length, slice_index, IfOk, IfErr, MatchBool, All};
+ghost use Rattle.stored_pages.specs.declared.layout.TheConstants.{PAGE};
 ghost use Rattle.page_format.specs.Words.{kind_of};
 ghost use Rattle.catalog.specs.Tables.{HoldsTable};
 ghost use Rattle.catalog.specs.Loading.{Shows, IsNoTable};
@@ -24,7 +25,7 @@ fn are_below(roots: &[u32], count: u32) -> bool
 
 /// The table that a page of the catalog in use holds.
 fn held_in(alloc: Global, page: &[u8], count: u32) -> Result<Held, EntryBad>
-    requires size { length page.now ≡ 4096 }
+    requires size { length page.now ≡ PAGE }
     requires kind { kind_of page.now ≡ 2 }
     requires in_use { slice_index page.now 32 ≡ 1 }
     ensures held { IfOk result (λ held. HoldsTable count held page.now) }
@@ -39,7 +40,7 @@ fn held_in(alloc: Global, page: &[u8], count: u32) -> Result<Held, EntryBad>
 
 /// The table that a page of the catalog holds, or None where it isn't in use.
 pub fn table_in(alloc: Global, page: &[u8], count: u32) -> Result<Option<Held>, EntryBad>
-    requires { length page.now ≡ 4096 }
+    requires { length page.now ≡ PAGE }
     ensures shown { IfOk result (λ shown. Shows count page.now shown) }
     ensures refused { IfErr result (IsNoTable count page.now) }
 {

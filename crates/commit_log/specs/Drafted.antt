@@ -1,6 +1,7 @@
 -- The bytes that a draft keeps, and the changes that they stand for.
 use Rattle.std.specs.Prelude.{◌≡◌, ℕ, ◌+◌, ◌*◌, ◌^◌, ◌<◌, ◌≤◌, Bool, true, List, [], ◌∷◌, ◌++◌, length, Option, Some, None}
 use Rattle.std.specs.List.{AllByRecursion}
+use Rattle.log_format.specs.declared.block.TheConstants.{BLOCK}
 use Rattle.inno_db.specs.declared.change.Change.{Change}
 use Rattle.schema_codec.specs.Reading.{list_at}
 use Rattle.log_format.specs.declared.group.Record.{Record}
@@ -29,7 +30,7 @@ pub record HasRoom (bytes changes promised has_bytes has_starts : ℕ) : Type 0 
   pub few : changes + 1 < 2 ^ 16
   pub bytes_fit : bytes + MOST_RECORD ≤ has_bytes
   pub starts_fit : changes + 1 ≤ has_starts
-  pub promise : 512 * blocks_for (14 + bytes + MOST_RECORD) ≤ promised
+  pub promise : BLOCK * blocks_for (14 + bytes + MOST_RECORD) ≤ promised
 
 -- The bytes spell the changes, and what was promised holds them.
 pub record IsDraft (changes : List Change) (bytes starts : List ℕ) (ready : Bool) (promised has_bytes has_starts : ℕ) : Type 0 where
@@ -38,5 +39,5 @@ pub record IsDraft (changes : List Change) (bytes starts : List ℕ) (ready : Bo
   pub starts_are : starts ≡ starts_of changes
   pub few : length changes < 2 ^ 16
   pub fits : promised < 2 ^ 32
-  pub promise : 0 < length changes → 512 * blocks_for (14 + length bytes) ≤ promised
+  pub promise : 0 < length changes → BLOCK * blocks_for (14 + length bytes) ≤ promised
   pub room : ready ≡ true → HasRoom (length bytes) (length changes) promised has_bytes has_starts

@@ -1,6 +1,7 @@
 -- What contracts see of a session's draft, and what calls make of it.
 use Rattle.std.specs.Prelude.{ℕ, ◌+◌, ◌*◌, Bool, true, false, List, [], ◌∷◌, length, slice_index_or}
 use Rattle.std.specs.List.{sum_by, flat_map}
+use Rattle.log_format.specs.declared.block.TheConstants.{BLOCK}
 use Rattle.inno_db.specs.declared.change.Change.{Change}
 use Rattle.inno_model.specs.Past.{oldest}
 use Rattle.log_format.specs.Group.{record_bytes}
@@ -31,7 +32,7 @@ bytes_of changes = flat_map record_bytes (records_of changes)
 
 -- how long their group is in the log at most, with the record of one change more
 abbrev pub room_with_one_more : List Change → ℕ
-room_with_one_more changes = 512 * blocks_for (14 + length (bytes_of changes) + MOST_RECORD)
+room_with_one_more changes = BLOCK * blocks_for (14 + length (bytes_of changes) + MOST_RECORD)
 
 abbrev pub readied : DraftView → DraftView
 readied draft = record { changes = draft.changes; ready = true; promised = room_with_one_more draft.changes }

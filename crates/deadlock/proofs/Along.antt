@@ -70,6 +70,10 @@ along_all start granted waiting path edges i way was past =
       through = subst (λ (ts : List ℕ). Contains ts start) (sym ws) (0, way.some, get_or_default path 0 start 0 way.some ∙ way.begins);
     }
 
+-- there are as many edges as transactions on the way
+pub along_long : (granted waiting : List Lock) (path : List ℕ) (edges : List Edge) (i : ℕ) → IsAlong granted waiting path edges i → length path ≤ i → length edges ≡ length path
+along_long granted waiting path edges i was past = sym (length-map edges (λ (x : Edge). x.waiter)) ∙ ap length (was.waiters_are ∙ take_all i path past)
+
 -- and it is the first that a depth-first search meets
 pub along_first : (start : ℕ) (granted waiting : List Lock) (path : List ℕ) (edges : List Edge) (i : ℕ) → IsWayRound start granted waiting path → IsAlong granted waiting path edges i → length path ≤ i → IsDepthFirst start granted waiting edges
 along_first start granted waiting path edges i way was past =

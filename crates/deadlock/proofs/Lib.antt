@@ -3,7 +3,7 @@ mod Circles
 mod DepthFirst
 mod Edges
 mod First
-mod Lists
+pub mod Lists
 mod Loop
 mod Order
 pub mod Rooms

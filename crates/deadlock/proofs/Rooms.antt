@@ -9,6 +9,7 @@ use Rattle.inno_types.specs.declared.lock.Lock.{Lock}
 use Rattle.lock_table.specs.declared.room.CycleRoom.{CycleRoom}
 use Rattle.lock_table.specs.Queue.{IsEdge}
 use Rattle.lock_table.specs.Room.{HasRoom, HasRooms}
+use Rattle.lock_table.proofs.Rooms.{less_room}
 use Rattle.deadlock.specs.Cycles.{HasNoCycle}
 use Rattle.deadlock.specs.Steps.{is_among, without, WaitsFor}
 use Rattle.deadlock.proofs.Lists.{length-without}
@@ -30,18 +31,9 @@ room_taken n rooms rest room has e =
       enough = omega (arith, has.enough, ap length e, length-append rest (room ∷ []));
     }
 
-room_fewer : (m n : ℕ) (room : CycleRoom) → m ≤ n → HasRoom n room → HasRoom m room
-room_fewer m n room fewer has = record {
-  list = record { empty = has.list.empty; holds = omega (arith, has.list.holds, fewer) };
-  path = record { empty = has.path.empty; holds = omega (arith, has.path.holds, fewer) };
-  visits = record { empty = has.visits.empty; holds = omega (arith, has.visits.holds, fewer) };
-  keys = omega (arith, has.keys, fewer);
-  keys_hold = has.keys_hold;
-}
-
 each_fewer : (m n : ℕ) (rooms : List CycleRoom) → m ≤ n → AllByRecursion (HasRoom n) rooms → AllByRecursion (HasRoom m) rooms
 each_fewer m n [] fewer has = tt
-each_fewer m n (room ∷ rooms) fewer has = (room_fewer m n room fewer has.0, each_fewer m n rooms fewer has.1)
+each_fewer m n (room ∷ rooms) fewer has = (less_room m n room fewer has.0, each_fewer m n rooms fewer has.1)
 
 -- room for cycles of many is room for cycles of fewer: so the search may go on once the victim's request is gone
 pub rooms_fewer : (m n : ℕ) (rooms : List CycleRoom) → m ≤ n → HasRooms n rooms → HasRooms m rooms

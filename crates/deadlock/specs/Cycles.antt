@@ -3,7 +3,9 @@ use Rattle.std.specs.Prelude.{◌≡◌, ℕ, ◌≤◌, List, [], ◌∷◌, �
 use Rattle.std.specs.List.{IsDistinct}
 use Rattle.inno_types.specs.declared.lock.Edge.{Edge}
 use Rattle.inno_types.specs.declared.lock.Lock.{Lock}
+use Rattle.lock_table.specs.Keys.{IsShort}
 use Rattle.lock_table.specs.Queue.{edges_of, IsEdge}
+use Rattle.deadlock.specs.declared.cycle.Cycle.{Cycle}
 
 -- the transactions of a cycle: each of them waits
 abbrev pub waiters : List Edge → List ℕ
@@ -43,3 +45,12 @@ pub record IsFollowedFirst (granted waiting : List Lock) (front : List Edge) (ed
 pub record IsDepthFirst (txn : ℕ) (granted waiting : List Lock) (cycle : List Edge) : Type 0 where
   pub begins : slice_index (waiters cycle) 0 ≡ txn
   pub first : (front back : List Edge) (edge : Edge) → cycle ≡ front ++ edge ∷ back → IsFollowedFirst granted waiting front edge
+
+-- the key of each lock is no longer than the longest key
+abbrev pub AreShort : List Edge → Type 0
+AreShort edges = All (λ e. IsShort e.lock.spot.key) edges
+
+-- the two copies are the cycle
+pub record AreCopies (cycle : Cycle) : Type 0 where
+  pub first_copy : cycle.first_copy ≡ cycle.edges
+  pub second_copy : cycle.second_copy ≡ cycle.edges

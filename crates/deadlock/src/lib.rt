@@ -2,8 +2,10 @@
 //! No engine asks yet, only tests do; granted locks and requests are read here and never changed.
 #![tactic(auto)]
 
+mod cycle;
 mod rollback;
 mod search;
 
+pub use cycle::{Cycle, copied_in};
 pub use rollback::{Size, Sizes, victim};
 pub use search::cycle_through;

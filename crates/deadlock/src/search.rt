@@ -5,14 +5,16 @@ ghost use Rattle.std.specs.Prelude.{◌≡◌, ◌<◌, ◌≤◌, ◌+◌, ◌-
 ghost use Rattle.std.specs.Bool.{OnTrue, OnFalse};
 ghost use Rattle.std.specs.List.{position_from};
 ghost use Rattle.lock_rules.specs.Conflicts.{conflicts};
-ghost use Rattle.lock_table.specs.Empty.{IsEmptyFor, HoldKeys};
+ghost use Rattle.lock_table.specs.Empty.{IsEmptyFor};
+ghost use Rattle.lock_table.specs.Keys.{IsShort};
 ghost use Rattle.lock_table.specs.Queue.{edge_to, edges_of};
-ghost use Rattle.lock_table.specs.Room.{HasRooms};
-ghost use Rattle.deadlock.specs.Cycles.{IsCycleThrough, HasNoCycle, IsDepthFirst};
+ghost use Rattle.lock_table.specs.Room.{HasEdges, HasRooms};
+ghost use Rattle.deadlock.specs.Cycles.{IsCycleThrough, HasNoCycle, IsDepthFirst, AreCopies, AreShort};
 ghost use Rattle.deadlock.specs.Steps.{is_wanted, next_edge, without, IsWayRound, WaitsFor};
 
+use crate::cycle::{Cycle, copied_in};
 use inno_types::{Edge, Edges};
-use lock_table::{CycleRoom, KeptLock, LockTable};
+use lock_table::{CycleRoom, EdgeRoom, KeptLock, LockTable};
 
 /// Whether a search wants to come to this transaction: one where it has not been, or the one where it began.
 fn is_wanted(txn: u64, start: u64, unvisited: &[u64]) -> bool
@@ -128,6 +130,7 @@ fn edge_between(locks: &LockTable, waiter: u64, holder: u64, key: Vec<u8>) -> Ed
     requires key { IsEmptyFor 67 key }
     ensures waiter { result.waiter ≡ waiter }
     ensures holder { result.holder ≡ holder }
+    ensures short { IsShort result.lock.spot.key }
     ensures first { next_edge result.holder [] (edges_of result.waiter locks.now.granted locks.now.waiting) ≡ Some result }
 {
     match next_lock(locks, waiter, holder, &[]) {
@@ -141,19 +144,17 @@ fn edge_between(locks: &LockTable, waiter: u64, holder: u64, key: Vec<u8>) -> Ed
 }
 
 /// The edges of the cycle whose transactions are on the path, in memory that is there.
-fn edges_along(locks: &LockTable, start: u64, room: CycleRoom) -> Edges
-    requires way { IsWayRound start locks.now.granted locks.now.waiting room.path.items }
-    requires edges { IsEmptyFor (length room.path.items) room.edges }
-    requires keys { length room.path.items ≤ length room.keys.items }
-    requires hold { HoldKeys room.keys.items }
+fn edges_along(locks: &LockTable, start: u64, path: &[u64], room: EdgeRoom) -> Edges
+    requires way { IsWayRound start locks.now.granted locks.now.waiting path.now }
+    requires room { HasEdges (length path.now) room }
     ensures cycle { IsCycleThrough start locks.now.granted locks.now.waiting result }
     ensures first { IsDepthFirst start locks.now.granted locks.now.waiting result }
+    ensures long { length result ≡ length path.now }
+    ensures short { AreShort result }
 {
-    let CycleRoom {
+    let EdgeRoom {
         mut edges,
         mut keys,
-        path,
-        visits: _,
     } = room;
     for (i, waiter) in path.iter().enumerate() {
         let holder = path.get(i + 1).copied().unwrap_or(start);
@@ -164,11 +165,39 @@ fn edges_along(locks: &LockTable, start: u64, room: CycleRoom) -> Edges
     Edges::from_vec(edges)
 }
 
+/// The cycle and its copies, in memory that is there.
+fn cycle_along(locks: &LockTable, start: u64, room: CycleRoom) -> Cycle
+    requires way { IsWayRound start locks.now.granted locks.now.waiting room.path.items }
+    requires cycle { HasEdges (length room.path.items) room.cycle }
+    requires first_copy { HasEdges (length room.path.items) room.first_copy }
+    requires second_copy { HasEdges (length room.path.items) room.second_copy }
+    ensures cycle { IsCycleThrough start locks.now.granted locks.now.waiting result.edges }
+    ensures first { IsDepthFirst start locks.now.granted locks.now.waiting result.edges }
+    ensures copies { AreCopies result }
+{
+    let CycleRoom {
+        cycle,
+        first_copy,
+        second_copy,
+        path,
+        visits: _,
+    } = room;
+    let edges = edges_along(locks, start, &path, cycle);
+    let first_copy = copied_in(&edges, first_copy);
+    let second_copy = copied_in(&edges, second_copy);
+    Cycle {
+        edges,
+        first_copy,
+        second_copy,
+    }
+}
+
 /// A cycle through the transaction, in the last of the rooms. Where there is none, the rooms are as before.
-fn cycle_in(locks: &LockTable, txn: u64, rooms: &mut Vec<CycleRoom>) -> Option<Edges>
+fn cycle_in(locks: &LockTable, txn: u64, rooms: &mut Vec<CycleRoom>) -> Option<Cycle>
     requires { HasRooms (length locks.now.waiting) rooms.old.items }
-    ensures found { IfSome result (IsCycleThrough txn locks.now.granted locks.now.waiting) }
-    ensures first { IfSome result (IsDepthFirst txn locks.now.granted locks.now.waiting) }
+    ensures found { IfSome result (λ cycle. IsCycleThrough txn locks.now.granted locks.now.waiting cycle.edges) }
+    ensures first { IfSome result (λ cycle. IsDepthFirst txn locks.now.granted locks.now.waiting cycle.edges) }
+    ensures copies { IfSome result AreCopies }
     ensures none { IfNone result (HasNoCycle txn locks.now.granted locks.now.waiting) }
     ensures rooms { HasRooms (if is_some result then length locks.now.waiting - 1 else length locks.now.waiting) rooms.new.items }
 {
@@ -177,7 +206,7 @@ fn cycle_in(locks: &LockTable, txn: u64, rooms: &mut Vec<CycleRoom>) -> Option<E
     let mut room = rooms.pop()?;
     others(locks.requests(), txn, &mut room.visits);
     if search(locks, txn, &mut room.visits, &mut room.path) {
-        return Some(edges_along(locks, txn, room));
+        return Some(cycle_along(locks, txn, room));
     }
     room.visits.clear();
     rooms.push_reserved(room);
@@ -186,14 +215,15 @@ fn cycle_in(locks: &LockTable, txn: u64, rooms: &mut Vec<CycleRoom>) -> Option<E
 
 /// A cycle of waits through the transaction, if there is one. Where there are several, it is the first that a depth-first
 /// search meets that goes along the edges of each transaction in order: granted locks by the time of their grant, then
-/// earlier requests. Takes no memory: it uses up the room for one cycle.
+/// earlier requests. Two copies go with it. Takes no memory: it uses up the room for one cycle.
 /// MySQL 8.0 Reference Manual, "Deadlock Detection".
-pub fn cycle_through(locks: &mut LockTable, txn: u64) -> Option<Edges>
+pub fn cycle_through(locks: &mut LockTable, txn: u64) -> Option<Cycle>
     requires { HasRooms (length locks.old.waiting) locks.old.rooms }
-    ensures found { IfSome result (IsCycleThrough txn locks.old.granted locks.old.waiting) }
-    ensures first { IfSome result (IsDepthFirst txn locks.old.granted locks.old.waiting) }
+    ensures found { IfSome result (λ cycle. IsCycleThrough txn locks.old.granted locks.old.waiting cycle.edges) }
+    ensures first { IfSome result (λ cycle. IsDepthFirst txn locks.old.granted locks.old.waiting cycle.edges) }
+    ensures copies { IfSome result AreCopies }
     ensures none { IfNone result (HasNoCycle txn locks.old.granted locks.old.waiting) }
-    ensures lists { (locks.new.granted ≡ locks.old.granted) × (locks.new.waiting ≡ locks.old.waiting) }
+    ensures rest { locks.new ≡ record locks.old { rooms = locks.new.rooms } }
     ensures rooms { HasRooms (if is_some result then length locks.old.waiting - 1 else length locks.old.waiting) locks.new.rooms }
 {
     let mut rooms = locks.take_rooms();

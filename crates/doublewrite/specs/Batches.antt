@@ -1,6 +1,7 @@
 -- What contracts see of a batch of pages, and of one whose copies are staged.
 use Rattle.std.specs.Prelude.{◌≡◌, ◌≢◌, ℕ, ◌*◌, ◌<◌, ◌≤◌, Option, Some, None, List, length}
 use Rattle.store_api.specs.Areas.{PassesSum, piece}
+use Rattle.stored_pages.specs.declared.layout.TheConstants.{PAGE, SLOTS, DOUBLE}
 use Rattle.stored_pages.specs.Words.{number_of}
 
 -- how many pages, and their bytes one behind the other
@@ -14,15 +15,15 @@ pub record StagedView : Type 0 where
   pub placed : ℕ
 
 abbrev pub page_at : BatchView → ℕ → List ℕ
-page_at batch k = piece 4096 k batch.bytes
+page_at batch k = piece PAGE k batch.bytes
 
 abbrev pub number_at : BatchView → ℕ → ℕ
 number_at batch k = number_of (page_at batch k)
 
 -- up to 64 sealed pages of distinct numbers
 pub record IsBatch (batch : BatchView) : Type 0 where
-  pub few : batch.count ≤ 64
-  pub whole : length batch.bytes ≡ 4096 * batch.count
+  pub few : batch.count ≤ SLOTS
+  pub whole : length batch.bytes ≡ PAGE * batch.count
   pub sealed : (k : ℕ) → k < batch.count → PassesSum (page_at batch k)
   pub distinct : (j k : ℕ) → j < k → k < batch.count → number_at batch j ≢ number_at batch k
 
@@ -40,4 +41,4 @@ IsInBatchToo batch number None = ⊥
 -- a batch, in a vector that has room for all its pages
 pub record HasRoom (batch : BatchView) (capacity : ℕ) : Type 0 where
   pub is_batch : IsBatch batch
-  pub room : 262144 ≤ capacity
+  pub room : DOUBLE ≤ capacity

@@ -1,6 +1,7 @@
 -- What the areas hold before, while and after a batch is staged and placed, and what a crash leaves of each page.
 use Rattle.std.specs.Prelude.{◌≡◌, ◌⊎◌, ℕ, ◌+◌, ◌*◌, ◌<◌, ◌≤◌, Option, Some, None, List, [], ◌++◌, take, drop, replicate, All}
 use Rattle.store_api.specs.Areas.{Write, Contents, State, Image, IsImage, IsHonest, PassesSum, WasWhole, piece, end_of}
+use Rattle.stored_pages.specs.declared.layout.TheConstants.{PAGE, SLOTS}
 use Rattle.stored_pages.specs.Words.{lsn_of}
 use Rattle.stored_pages.specs.Reading.{IsGoodPage, place_of, IsPageIn}
 use Rattle.doublewrite.specs.Batches.{BatchView, StagedView, IsInBatch, IsInBatchToo, page_at, number_at}
@@ -10,13 +11,13 @@ use Rattle.doublewrite.specs.Batches.{BatchView, StagedView, IsInBatch, IsInBatc
 -- a good copy of the page stood in Double at the last sync, or was written whole since
 pub record HadCopy (number : ℕ) (double : Contents) (bytes : List ℕ) : Type 0 where
   pub slot : ℕ
-  pub below : slot < 64
+  pub below : slot < SLOTS
   pub good : IsGoodPage number bytes
-  pub whole : WasWhole double (4096 * slot) bytes
+  pub whole : WasWhole double (PAGE * slot) bytes
 
 -- the write leaves the place of that page alone
 abbrev pub Spares : ℕ → Write → Type 0
-Spares number w = (end_of w ≤ 4096 * number) ⊎ (4096 * (number + 1) ≤ w.at)
+Spares number w = (end_of w ≤ PAGE * number) ⊎ (PAGE * (number + 1) ≤ w.at)
 
 -- every crash leaves the page good in its place: it stood there at the last sync, and nothing was written there since
 pub record IsSettled (number : ℕ) (pages : Contents) : Type 0 where
@@ -25,11 +26,11 @@ pub record IsSettled (number : ℕ) (pages : Contents) : Type 0 where
 
 -- the k-th page as a read gives it, with zeros past the end
 abbrev pub filled : ℕ → List ℕ → List ℕ
-filled k area = take 4096 (drop (4096 * k) area ++ replicate 4096 0)
+filled k area = take PAGE (drop (PAGE * k) area ++ replicate PAGE 0)
 
 -- no page that a read gives passes its sum by chance
 abbrev pub HasHonestReads : Contents → Type 0
-HasHonestReads c = (k : ℕ) → PassesSum (filled k c.seen) → WasWhole c (4096 * k) (filled k c.seen)
+HasHonestReads c = (k : ℕ) → PassesSum (filled k c.seen) → WasWhole c (PAGE * k) (filled k c.seen)
 
 -- ---- before a batch is staged
 
@@ -49,7 +50,7 @@ pub record IsPageReady (batch : BatchView) (s : State) (number : ℕ) : Type 0 w
 
 -- The page had this content in its place, whole, at the last sync or by a write since. It had none where its place wasn't good for good.
 abbrev pub WasPage : State → ℕ → Option (List ℕ) → Type 0
-WasPage s number (Some bytes) = IsGoodPage number bytes × WasWhole s.pages (4096 * number) bytes
+WasPage s number (Some bytes) = IsGoodPage number bytes × WasWhole s.pages (PAGE * number) bytes
 WasPage s number None = IsSettled number s.pages → ⊥
 
 -- ---- at each moment from then on
@@ -66,9 +67,9 @@ pub record KeepsPages (before : State) (batch : BatchView) (s : State) : Type 0 
 pub record IsStaged (before : State) (batch : BatchView) (s : State) : Type 0 where
   pub double : List ℕ
   pub double_is : s.double ≡ record { seen = double; synced = double; writes = [] }
-  pub copies : (k : ℕ) → k < batch.count → piece 4096 k double ≡ page_at batch k
-  pub others : (number k : ℕ) → batch.count ≤ k → IsGoodPage number (piece 4096 k double) → WasWhole before.double (4096 * k) (piece 4096 k double)
-  pub held : (number : ℕ) (bytes : List ℕ) → IsGoodPage number bytes → WasWhole s.pages (4096 * number) bytes → IsInBatch batch number bytes ⊎ WasWhole before.pages (4096 * number) bytes
+  pub copies : (k : ℕ) → k < batch.count → piece PAGE k double ≡ page_at batch k
+  pub others : (number k : ℕ) → batch.count ≤ k → IsGoodPage number (piece PAGE k double) → WasWhole before.double (PAGE * k) (piece PAGE k double)
+  pub held : (number : ℕ) (bytes : List ℕ) → IsGoodPage number bytes → WasWhole s.pages (PAGE * number) bytes → IsInBatch batch number bytes ⊎ WasWhole before.pages (PAGE * number) bytes
   pub settled : (number : ℕ) → ((bytes : List ℕ) → IsInBatch batch number bytes → ⊥) → IsSettled number before.pages → IsSettled number s.pages
   pub log_is : s.log ≡ before.log
 

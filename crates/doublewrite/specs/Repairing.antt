@@ -2,6 +2,8 @@
 use Rattle.std.specs.Prelude.{◌≡◌, ℕ, ◌*◌, ◌<◌, ◌≤◌, Option, Some, List, [], length, take}
 use Rattle.store_api.specs.Areas.{State, Image, IsImage, IsHonest, WasWhole, piece}
 use Rattle.store_api.specs.Causes.{Rose}
+use Rattle.stored_pages.specs.declared.layout.TheConstants.{PAGE, SLOTS, DOUBLE}
+use Rattle.store_api.specs.declared.limits.TheConstants.{MOST_PAGES}
 use Rattle.doublewrite.specs.declared.restoring.RepairBad.{RepairBad}
 use Rattle.doublewrite.specs.declared.restoring.RepairBad.TheVariants.{Failed, NoMemory}
 use Rattle.stored_pages.specs.Reading.{IsGoodPage, place_of, IsCopyIn, IsPageIn}
@@ -24,7 +26,7 @@ WasRead before number content = IsPageIn before.pages.synced before.double.synce
 
 -- a crash leaves each page as it was read before
 pub record ReadsAs (before s : State) : Type 0 where
-  pub each : (image : Image) → IsImage s image → IsHonest s image → (number : ℕ) (content : Option (List ℕ)) → number < 65536 → IsPageIn image.pages image.double number content → WasRead before number content
+  pub each : (image : Image) → IsImage s image → IsHonest s image → (number : ℕ) (content : Option (List ℕ)) → number < MOST_PAGES → IsPageIn image.pages image.double number content → WasRead before number content
   pub log_is : s.log ≡ before.log
 
 -- ---- while pages are written in place
@@ -35,7 +37,7 @@ pub record IsUnharmed (before s : State) : Type 0 where
   pub double_synced : s.double.synced ≡ before.double.synced
   pub double_rest : s.double.writes ≡ []
   pub log_is : s.log ≡ before.log
-  pub held : (number : ℕ) (bytes : List ℕ) → IsGoodPage number bytes → WasWhole s.pages (4096 * number) bytes → WasRead before number (Some bytes)
+  pub held : (number : ℕ) (bytes : List ℕ) → IsGoodPage number bytes → WasWhole s.pages (PAGE * number) bytes → WasRead before number (Some bytes)
   pub settled : (number : ℕ) → IsGoodPage number (place_of number before.pages.synced) → IsSettled number s.pages
 
 -- the pages of the first so many copies are good in their places
@@ -43,11 +45,11 @@ pub record IsRestoring (before : State) (upto : ℕ) (s : State) : Type 0 where
   pub unharmed : IsUnharmed before s
   pub double_seen : s.double.seen ≡ before.double.synced
   pub honest : HasHonestReads s.pages
-  pub restored : (slot number : ℕ) → slot < upto → number < 65536 → IsGoodPage number (piece 4096 slot before.double.synced) → IsGoodPage number (place_of number s.pages.seen)
+  pub restored : (slot number : ℕ) → slot < upto → number < MOST_PAGES → IsGoodPage number (piece PAGE slot before.double.synced) → IsGoodPage number (place_of number s.pages.seen)
 
 -- these bytes are the copies
 abbrev pub IsRestoringFrom : State → List ℕ → ℕ → State → Type 0
-IsRestoringFrom before double upto s = (double ≡ take 262144 before.double.synced) × IsRestoring before upto s
+IsRestoringFrom before double upto s = (double ≡ take DOUBLE before.double.synced) × IsRestoring before upto s
 
 -- ---- while copies are overwritten
 
@@ -57,20 +59,20 @@ pub record IsRestored (before s : State) : Type 0 where
   pub seen : s.pages.seen ≡ s.pages.synced
   pub held : (number : ℕ) (bytes : List ℕ) → IsGoodPage number bytes → place_of number s.pages.synced ≡ bytes → WasRead before number (Some bytes)
   pub settled : (number : ℕ) → IsGoodPage number (place_of number before.pages.synced) → IsGoodPage number (place_of number s.pages.synced)
-  pub restored : (slot number : ℕ) → slot < 64 → number < 65536 → IsGoodPage number (piece 4096 slot before.double.synced) → IsGoodPage number (place_of number s.pages.synced)
-  pub copies : (slot number : ℕ) (bytes : List ℕ) → slot < 64 → IsGoodPage number bytes → WasWhole s.double (4096 * slot) bytes → piece 4096 slot before.double.synced ≡ bytes
+  pub restored : (slot number : ℕ) → slot < SLOTS → number < MOST_PAGES → IsGoodPage number (piece PAGE slot before.double.synced) → IsGoodPage number (place_of number s.pages.synced)
+  pub copies : (slot number : ℕ) (bytes : List ℕ) → slot < SLOTS → IsGoodPage number bytes → WasWhole s.double (PAGE * slot) bytes → piece PAGE slot before.double.synced ≡ bytes
   pub log_is : s.log ≡ before.log
 
 -- of the first so many slots none holds a good copy, and the others are as they were
 pub record IsClearing (before : State) (upto : ℕ) (s : State) : Type 0 where
   pub restored : IsRestored before s
-  pub cleared : (slot number : ℕ) → slot < upto → IsGoodPage number (piece 4096 slot s.double.seen) → ⊥
+  pub cleared : (slot number : ℕ) → slot < upto → IsGoodPage number (piece PAGE slot s.double.seen) → ⊥
   pub others : (slot : ℕ) → upto ≤ slot → filled slot s.double.seen ≡ filled slot before.double.synced
   pub long : length s.double.seen ≡ length before.double.synced
 
 -- these bytes are the copies as they were
 abbrev pub IsClearingFrom : State → List ℕ → ℕ → State → Type 0
-IsClearingFrom before double upto s = (double ≡ take 262144 before.double.synced) × IsClearing before upto s
+IsClearingFrom before double upto s = (double ≡ take DOUBLE before.double.synced) × IsClearing before upto s
 
 -- Nothing is pending, and no good copy is left.
 pub record IsRepaired (s : State) : Type 0 where

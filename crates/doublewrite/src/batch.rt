@@ -3,6 +3,7 @@
 
 ghost use Rattle.std.specs.Prelude.{◌≡◌, ◌≢◌, [], ◌+◌, ◌*◌, ◌<◌, ◌≤◌, ◌++◌, ℕ, length, vec_len, vec_capacity, IfOk, MatchBool};
 ghost use Rattle.store_api.specs.Areas.{PassesSum};
+ghost use Rattle.stored_pages.specs.declared.layout.TheConstants.{SLOTS};
 ghost use Rattle.stored_pages.specs.Words.{number_of};
 ghost use Rattle.doublewrite.specs.Batches.{IsBatch, page_at, number_at};
 
@@ -10,7 +11,7 @@ use page_format::Page;
 use std::alloc::Global;
 use std::marker::Model;
 use store_api::NoMemory;
-use stored_pages::layout::{PAGE, SLOTS};
+use stored_pages::layout::{DOUBLE, PAGE};
 use stored_pages::number_in;
 
 /// Up to 64 sealed pages of distinct numbers.
@@ -47,14 +48,14 @@ impl Batch {
     {
         Ok(Batch {
             count: 0,
-            bytes: Vec::with_capacity(alloc, SLOTS * PAGE)?,
+            bytes: Vec::with_capacity(alloc, DOUBLE)?,
         })
     }
 
     pub fn len(&self) -> usize
         ensures is_batch { IsBatch self.now }
         ensures value { result ≡ self.now.count }
-        ensures few { result ≤ 64 }
+        ensures few { result ≤ SLOTS }
     {
         self.count
     }
@@ -64,7 +65,7 @@ impl Batch {
         requires { slot < self.now.count }
         ensures is_batch { IsBatch self.now }
         ensures value { result.now ≡ page_at self.now slot }
-        ensures size { length result.now ≡ 4096 }
+        ensures size { length result.now ≡ PAGE }
     {
         &self.bytes[slot * PAGE..(slot + 1) * PAGE]
     }
@@ -91,7 +92,7 @@ impl Batch {
 
     /// Takes a page, which is sealed and isn't in the batch yet. It takes no memory.
     pub fn add(&mut self, page: &Page)
-        requires room { self.old.count < 64 }
+        requires room { self.old.count < SLOTS }
         requires sealed { PassesSum page.now }
         requires distinct { (k : ℕ) → k < self.old.count → number_at self.old k ≢ number_of page.now }
         ensures { self.new ≡ record { count = self.old.count + 1; bytes = self.old.bytes ++ page.now } }
@@ -101,8 +102,8 @@ impl Batch {
 
     /// Takes the bytes of a page, as `add` does.
     pub fn add_bytes(&mut self, page: &[u8])
-        requires room { self.old.count < 64 }
-        requires size { length page.now ≡ 4096 }
+        requires room { self.old.count < SLOTS }
+        requires size { length page.now ≡ PAGE }
         requires sealed { PassesSum page.now }
         requires distinct { (k : ℕ) → k < self.old.count → number_at self.old k ≢ number_of page.now }
         ensures batch { self.new ≡ record { count = self.old.count + 1; bytes = self.old.bytes ++ page.now } }

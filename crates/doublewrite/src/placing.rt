@@ -5,6 +5,7 @@ ghost use Rattle.std.specs.Prelude.{◌≡◌, ◌↔◌, ◌+◌, ◌*◌, ◌<
 ghost use Rattle.store_api.specs.Areas.{State};
 ghost use Rattle.store_api.specs.Causes.{HasCause};
 ghost use Rattle.store_api.specs.Past.{Now, Meanwhile};
+ghost use Rattle.stored_pages.specs.declared.layout.TheConstants.{SLOTS};
 ghost use Rattle.doublewrite.specs.Batches.{BatchView, StagedView, IsBatch, page_at, number_at};
 ghost use Rattle.doublewrite.specs.Kept.{IsReadyAs, IsStaged, IsStagedHonestly, KeepsPages, HasPlaced};
 ghost use Rattle.doublewrite.specs.Places.{Leads, LeavesPages, PutsPage};
@@ -49,7 +50,7 @@ fn copy_all<D: Disk>(disk: &mut D, batch: &Batch) -> Result<(), Failed>
 /// Writes one page in place, and syncs after the last one. It answers whether pages are left.
 fn place_page<D: Disk>(disk: &mut D, batch: &Batch, slot: usize) -> Result<bool, Failed>
     requires { slot < batch.now.count }
-    ensures few { slot < 64 }
+    ensures few { slot < SLOTS }
     ensures is_batch { IsBatch batch.now }
     ensures more { IfOk result (λ more. IsTrue more ↔ (slot + 1 < batch.now.count)) }
     ensures cause { HasCause (D.past disk.old).faults (D.past disk.new).faults result }

@@ -12,7 +12,7 @@ ghost use Rattle.doublewrite.specs.Repairing.{IsQuietAs, ReadsAs, IsRestoringFro
 
 use std::alloc::{AllocError, Global};
 use store_api::{Area, Disk, Failed};
-use stored_pages::layout::{PAGE, SLOTS};
+use stored_pages::layout::{DOUBLE, PAGE, SLOTS};
 use stored_pages::{copy_at, good_number, newest_slot, number_of_copy, restorable};
 
 /// Why a repair gave up. It may be made again.
@@ -57,8 +57,8 @@ fn is_in_place<D: Disk>(disk: &mut D, number: u32) -> Result<bool, Failed>
 
 /// Writes a page in place from its newest copy, unless it is good there.
 fn restore<D: Disk>(disk: &mut D, double: &[u8], number: u32, slot: usize) -> Result<(), Failed>
-    requires slot { slot < 64 }
-    requires good { IsGoodPage number (piece 4096 slot double.now) }
+    requires slot { slot < SLOTS }
+    requires good { IsGoodPage number (piece PAGE slot double.now) }
     ensures cause { HasCause (D.past disk.old).faults (D.past disk.new).faults result }
     ensures stands { (before : State) → Now (IsRestoringFrom before double.now slot) (D.past disk.old) → OnOk result (Now (IsRestoringFrom before double.now (slot + 1)) (D.past disk.new)) }
     ensures crash { (before : State) → Now (IsRestoringFrom before double.now slot) (D.past disk.old) → Meanwhile (ReadsAs before) (D.past disk.old) (D.past disk.new) }
@@ -72,7 +72,7 @@ fn restore<D: Disk>(disk: &mut D, double: &[u8], number: u32, slot: usize) -> Re
 }
 
 fn restore_copy<D: Disk>(disk: &mut D, double: &[u8], slot: usize) -> Result<(), Failed>
-    requires { slot < 64 }
+    requires { slot < SLOTS }
     ensures cause { HasCause (D.past disk.old).faults (D.past disk.new).faults result }
     ensures stands { (before : State) → Now (IsRestoringFrom before double.now slot) (D.past disk.old) → OnOk result (Now (IsRestoringFrom before double.now (slot + 1)) (D.past disk.new)) }
     ensures crash { (before : State) → Now (IsRestoringFrom before double.now slot) (D.past disk.old) → Meanwhile (ReadsAs before) (D.past disk.old) (D.past disk.new) }
@@ -97,7 +97,7 @@ fn restore_all<D: Disk>(disk: &mut D, double: &[u8]) -> Result<(), Failed>
 }
 
 fn clear_copy<D: Disk>(disk: &mut D, double: &[u8], slot: usize) -> Result<(), Failed>
-    requires { slot < 64 }
+    requires { slot < SLOTS }
     ensures cause { HasCause (D.past disk.old).faults (D.past disk.new).faults result }
     ensures stands { (before : State) → Now (IsClearingFrom before double.now slot) (D.past disk.old) → OnOk result (Now (IsClearingFrom before double.now (slot + 1)) (D.past disk.new)) }
     ensures crash { (before : State) → Now (IsClearingFrom before double.now slot) (D.past disk.old) → Meanwhile (ReadsAs before) (D.past disk.old) (D.past disk.new) }
@@ -126,9 +126,9 @@ fn clear_all<D: Disk>(disk: &mut D, double: &[u8]) -> Result<(), Failed>
 
 /// Reads all copies into a vector of their size, and answers how many bytes there are.
 fn read_copies<D: Disk>(disk: &mut D, into: &mut Vec<u8>) -> Result<usize, Failed>
-    requires { vec_len into.old ≡ 262144 }
+    requires { vec_len into.old ≡ DOUBLE }
     ensures count { IfOk result (λ n. n ≤ length into.new.items) }
-    ensures bytes { IfOk result (λ n. Now (λ s. take n into.new.items ≡ take 262144 s.double.seen) (D.past disk.old)) }
+    ensures bytes { IfOk result (λ n. Now (λ s. take n into.new.items ≡ take DOUBLE s.double.seen) (D.past disk.old)) }
     ensures goes { Goes (Within Double (Looked (is_ok result))) (D.past disk.old) (D.past disk.new) }
     ensures cause { HasCause (D.past disk.old).faults (D.past disk.new).faults result }
 {
@@ -158,7 +158,7 @@ pub fn repair<D: Disk>(alloc: Global, disk: &mut D) -> Result<(), RepairBad>
     // At each moment of the call a crash leaves each page as it was read before.
     ensures crash { (before : State) → Now (IsQuietAs before) (D.past disk.old) → Meanwhile (ReadsAs before) (D.past disk.old) (D.past disk.new) }
 {
-    let mut copies = vec![in alloc; 0; SLOTS * PAGE]?;
+    let mut copies = vec![in alloc; 0; DOUBLE]?;
     let len = read_copies(disk, &mut copies)?;
     repair_from(disk, &copies[..len])?;
     Ok(())

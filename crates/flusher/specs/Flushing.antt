@@ -1,6 +1,8 @@
 -- What the disk holds of a run while its pages are flushed, and what whatever a crash leaves stands for.
 use Rattle.std.specs.Prelude.{◌≡◌, ◌⊎◌, ℕ, ◌<◌, ◌≤◌, true, false, Option, Some, None, List, length, replicate, All}
 use Rattle.store_api.specs.Areas.{State}
+use Rattle.stored_pages.specs.declared.layout.TheConstants.{PAGE}
+use Rattle.store_api.specs.declared.limits.TheConstants.{MOST_PAGES}
 use Rattle.stored_pages.specs.Words.{number_of}
 use Rattle.log_format.specs.declared.group.Group.{Group}
 use Rattle.redo_log.specs.View.{LogView}
@@ -78,7 +80,7 @@ Places (Some staged) before s = PutsPage (number_at staged.batch staged.placed) 
 
 -- All groups have left zeros of the page, and nobody has written it.
 pub record IsNowhere (page : ℕ) (bytes : List ℕ) (s : State) : Type 0 where
-  pub zeros : bytes ≡ replicate 4096 0
+  pub zeros : bytes ≡ replicate PAGE 0
   pub no_page : (other : List ℕ) → WasPage s page (Some other) → ⊥
 
 -- The page is in its place for good as all groups have left it, or nobody has written it.
@@ -88,7 +90,7 @@ IsKept groups base page s =
 
 -- each page that isn't changed in the pool is kept
 abbrev pub AreKept : List Group → (ℕ → List ℕ) → PoolView → State → Type 0
-AreKept groups base pool s = (page : ℕ) → page < 65536 → is_dirty pool page ≡ false → IsKept groups base page s
+AreKept groups base pool s = (page : ℕ) → page < MOST_PAGES → is_dirty pool page ≡ false → IsKept groups base page s
 
 -- no group of these names the page
 abbrev pub AreSilent : ℕ → List Group → Type 0

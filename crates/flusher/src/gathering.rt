@@ -18,7 +18,7 @@ use sum64::fnv;
 
 /// The bytes with the page's number.
 fn with_number(page: u32, bytes: &[u8]) -> [u8; PAGE]
-    requires { length bytes.now ≡ 4096 }
+    requires { length bytes.now ≡ PAGE }
     ensures { result ≡ take 8 bytes.now ++ (to_be_bytes w32 page ++ drop 12 bytes.now) }
 {
     let mut numbered = [0; PAGE];
@@ -31,7 +31,7 @@ fn with_number(page: u32, bytes: &[u8]) -> [u8; PAGE]
 fn with_sum(bytes: &[u8; PAGE]) -> [u8; PAGE]
     ensures sum { PassesSum result }
     ensures behind { drop 8 result ≡ drop 8 bytes.now }
-    ensures size { length result ≡ 4096 }
+    ensures size { length result ≡ PAGE }
     ensures front { AreBytes 8 result }
 {
     let sum = fnv(bytes.split_at(NUMBER).1);
@@ -42,7 +42,7 @@ fn with_sum(bytes: &[u8; PAGE]) -> [u8; PAGE]
 
 /// The page with its number and its sum.
 fn sealed(page: u32, bytes: &[u8]) -> [u8; PAGE]
-    requires { length bytes.now ≡ 4096 }
+    requires { length bytes.now ≡ PAGE }
     ensures { IsSealed page bytes.now result }
 {
     with_sum(&with_number(page, bytes))
@@ -50,7 +50,7 @@ fn sealed(page: u32, bytes: &[u8]) -> [u8; PAGE]
 
 /// Takes the page if it was changed.
 fn gather_page(pool: &Pool, page: u32, batch: &mut Batch)
-    requires room { batch.old.count < 64 }
+    requires room { batch.old.count < SLOTS }
     requires gathered { Gathers page pool.now batch.old }
     ensures { Gathers (suc page) pool.now batch.new }
 {

@@ -2,6 +2,7 @@
 //! The flusher alone asks here.
 
 ghost use Rattle.std.specs.Prelude.{◌≡◌, length};
+ghost use Rattle.stored_pages.specs.declared.layout.TheConstants.{PAGE};
 ghost use Rattle.flusher.specs.Cleaning.{Cleans, CleansOne};
 
 use buffer_pool::Pool;
@@ -11,7 +12,7 @@ use stored_pages::{read_u32, read_u64};
 
 /// A page is in its place as these bytes. It is clean, unless it was changed since.
 fn settle_page(pool: &mut Pool, bytes: &[u8])
-    requires { length bytes.now ≡ 4096 }
+    requires { length bytes.now ≡ PAGE }
     ensures { CleansOne bytes.now pool.old pool.new }
 {
     let page = read_u32(bytes, NUMBER);

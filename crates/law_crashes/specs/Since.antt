@@ -2,6 +2,7 @@
 use Rattle.std.specs.Prelude.{◌≡◌, ℕ, ◌+◌, ◌*◌, ◌<◌, ◌≤◌, List, [], ◌∷◌, ◌++◌, length, Some, All}
 use Rattle.store_api.specs.Areas.{Contents, State, Image, MayLeave, IsImage, IsHonestArea, IsHonest}
 use Rattle.store_api.specs.Past.{Past, Ticks, Now}
+use Rattle.log_format.specs.declared.block.TheConstants.{BLOCK}
 use Rattle.inno_db.specs.Database.{Database}
 use Rattle.inno_model.specs.declared.event.Event.{Event}
 use Rattle.inno_model.specs.declared.event.Event.TheVariants.{Opened}
@@ -75,13 +76,13 @@ LogRests past = Now (λ s. s.log.writes ≡ []) past
 pub record IsScanned (run first block : ℕ) (base : List Group) (rest : ℕ) (double pages : Contents) (s : State) : Type 0 where
   pub scan : IsRowScan run first s.log.seen base
   pub ends : EndsAt run block s.log.seen base
-  pub long : length s.log.seen ≡ 512 * block + rest
+  pub long : length s.log.seen ≡ BLOCK * block + rest
   pub double_is : s.double ≡ double
   pub pages_is : s.pages ≡ pages
 
 -- whatever a crash leaves of the log scans to these groups
 pub record StillScans (run first : ℕ) (base : List Group) (double pages : Contents) (s : State) : Type 0 where
-  pub log : (image : List ℕ) → MayLeave s.log image → IsHonestArea 512 s.log image → IsRowScan run first image base
+  pub log : (image : List ℕ) → MayLeave s.log image → IsHonestArea BLOCK s.log image → IsRowScan run first image base
   pub double_is : s.double ≡ double
   pub pages_is : s.pages ≡ pages
 

@@ -20,6 +20,33 @@ use Rattle.law_histories.proofs.OneOutcome.{plain_same}
 
 -- ---- conditions
 
+leaf_same : (f g : Filter) → tree.Leaf f ≡ filter_tree g → f ≡ g
+leaf_same f (filter.Not' p g) e = absurd (cc)
+leaf_same f (filter.And' p g q h) e = absurd (cc)
+leaf_same f (filter.Or' p g q h) e = absurd (cc)
+leaf_same f other e = cc
+
+atom_leaf : {xs ys : List Token} {f : Filter} → Atom xs f ys → tree.Leaf f ≡ filter_tree f
+atom_leaf (grammar.compare o p) = refl
+atom_leaf (grammar.between n l h) = refl
+atom_leaf (grammar.not_between n l h) = refl
+atom_leaf (grammar.among n t) = refl
+atom_leaf (grammar.not_among n t) = refl
+atom_leaf (grammar.is_null n) = refl
+atom_leaf (grammar.is_not_null n) = refl
+
+condition_again : {s : Strength} {xs ys : List Token} {f : Filter} → Condition s xs f ys → (g : Filter) → filter_tree f ≡ filter_tree g → Condition s xs g ys
+condition_again {xs = xs} {ys = ys} {f = f} (grammar.atom a) g e = grammar.atom (subst (λ (f : Filter). Atom xs f ys) (leaf_same f g (atom_leaf a ∙ e)) a)
+condition_again (grammar.brackets c) g e = grammar.brackets (condition_again c g e)
+condition_again (grammar.neg c) g e = grammar.neg (condition_again c g e)
+condition_again (grammar.conj c) g e = grammar.conj (condition_again c g e)
+condition_again (grammar.not c) (filter.Not' p g) e = grammar.not (condition_again c g (cc))
+condition_again (grammar.not c) other e = absurd (cc)
+condition_again (grammar.and c d) (filter.And' p g q h) e = grammar.and (condition_again c g (cc)) (condition_again d h (cc))
+condition_again (grammar.and c d) other e = absurd (cc)
+condition_again (grammar.or c d) (filter.Or' p g q h) e = grammar.or (condition_again c g (cc)) (condition_again d h (cc))
+condition_again (grammar.or c d) other e = absurd (cc)
+
 where_again : {xs ys : List Token} {f : Option Filter} → Where xs f ys → (g : Option Filter) → where_tree f ≡ where_tree g → Where xs g ys
 where_again grammar.each None e = grammar.each
 where_again grammar.each (Some g) e = absurd (cc)

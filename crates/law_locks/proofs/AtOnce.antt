@@ -1,33 +1,29 @@
 -- An insertion whose intention is granted in the same step keeps what everybody guards.
 -- The laws of insertions cite it, and so do those of places (`law_other_places`). No request waits in between.
-use Rattle.std.proofs.Common.{arith, ◌≡◌, ◌≢◌, ◌∙◌, ℕ, ◌+◌, true, false, List, [], ◌∷◌, ◌++◌, inl, inr, refl, sym, ap, subst, length, length-append}
-use Rattle.std.proofs.lemmas.Bool.{eq-eqb}
-use Rattle.std.proofs.lemmas.List.Folds.{list_any-append}
-use Rattle.std.proofs.lemmas.List.Sums.{sum_by-append}
+use Rattle.std.proofs.Common.{arith, ◌≡◌, ◌≢◌, ◌∙◌, ℕ, ◌+◌, true, false, List, [], ◌∷◌, ◌++◌, inl, inr, refl, sym, ap, subst, length}
 use Rattle.std.specs.Prelude.{◌==◌, ◌&&◌, ◌||◌, not, cond, Some, is_some}
 use Rattle.std.specs.List.{list_any}
 use Rattle.inno_types.specs.declared.lock.LockKind.TheVariants.{Intent}
 use Rattle.inno_types.specs.declared.lock.Spot.{Spot}
 use Rattle.inno_types.specs.declared.lock.Lock.{Lock}
 use Rattle.store_api.specs.declared.answers.Undo.{Undo}
-use Rattle.store_api.specs.declared.answers.Asked.{Asked}
 use Rattle.store_api.specs.declared.answers.Asked.TheVariants.{Granted}
-use Rattle.lock_rules.specs.Kinds.{is_shared, locks_gap, locks_record}
+use Rattle.lock_rules.specs.Kinds.{is_intent, is_shared, locks_record}
 use Rattle.lock_rules.specs.Spots.{same_spot}
-use Rattle.lock_rules.specs.Conflicts.{conflicts, covers, kind_at, kind_of, kind_covers, kinds_conflict}
+use Rattle.lock_rules.specs.Conflicts.{conflicts, covers, kind_at, kind_of, kind_covers}
 use Rattle.lock_rules.proofs.Booleans.{and_false, or_false, or_false-left, split}
 use Rattle.lock_table.specs.Queue.{is_blocked, is_covered}
 use Rattle.lock_table.specs.Coverage.{IsInsertion, MayInsert}
-use Rattle.lock_table.specs.Records.{copies, is_own_gap, own_gaps}
-use Rattle.lock_table.specs.View.{Table, HasPlaces, IsAnswered, IsGranted, granted_with}
+use Rattle.lock_table.specs.Records.{copies, own_gaps}
+use Rattle.lock_table.specs.View.{Table, HasPlaces, IsGranted, after_insertion, granted_with}
 use Rattle.law_locks.specs.Guards.{Guards, Guarded, has_gap, has_record, has_alone}
 use Rattle.law_locks.specs.Stand.{AllStand, Inserts}
 use Rattle.law_locks.proofs.Granting.{granted_record, granted_alone}
 use Rattle.law_locks.proofs.Guarding.{KeepsLocks, answered_locks, more_locks, guards_kept, inserted_guards, inserted_pins}
 use Rattle.law_locks.proofs.Locks.{only_inserter}
-use Rattle.law_locks.proofs.Places.{new_is_free, granted_with_room}
+use Rattle.law_locks.proofs.Places.{new_is_free}
 use Rattle.law_locks.proofs.Spots.{new_spot}
-use Rattle.law_locks.specs.AtOnce.{IsIntention, TakesNew, InsertsAtOnce}
+use Rattle.law_locks.specs.AtOnce.{IsAlone, IsIntention, TakesNew, InsertsAtOnce}
 
 -- ---- an intention is never covered, so it is asked for, and blocked by others' locks of the gap
 
@@ -40,10 +36,6 @@ uncovered asked kind (lock ∷ held) =
     ∙ ap (λ b. b && (is_shared asked.mode || not (is_shared lock.mode))) (and_false (lock.txn == asked.txn && same_spot lock.spot asked.spot)))
     (uncovered asked kind held)
 
-not_itself : (asked : Lock) → conflicts asked asked ≡ false
-not_itself asked = ap (λ b. not b && same_spot asked.spot asked.spot && kinds_conflict (kind_of asked) asked.mode (kind_of asked) asked.mode)
-    (eq-eqb asked.txn asked.txn refl)
-
 module _ (txn : ℕ) (next : Spot) (intention : Lock) (is : IsIntention txn next intention) (old asked : Table) (granted : IsGranted old asked intention) where
   none_covers : is_covered old.granted intention ≡ false
   none_covers = uncovered intention is.kind old.granted
@@ -51,31 +43,25 @@ module _ (txn : ℕ) (next : Spot) (intention : Lock) (is : IsIntention txn next
   free : is_blocked old.granted old.waiting intention ≡ false
   free = ap (λ b. not b && is_blocked old.granted old.waiting intention) (sym none_covers) ∙ granted.free
 
-  granted_is : asked.granted ≡ old.granted ++ intention ∷ []
-  granted_is = ap (λ (t : Table). t.granted) granted.lists ∙ ap (λ b. cond b old.granted (old.granted ++ intention ∷ [])) none_covers
+  -- it adds nothing
+  granted_is : asked.granted ≡ old.granted
+  granted_is = ap (λ (t : Table). t.granted) granted.lists
+      ∙ ap (λ b. cond (b || is_intent intention.kind) old.granted (old.granted ++ intention ∷ [])) none_covers
+      ∙ ap (λ k. cond (is_intent k) old.granted (old.granted ++ intention ∷ [])) is.kind
 
   may_insert : MayInsert txn next asked.granted intention
   may_insert = record {
     own = is.own;
     kind = is.kind;
     spot = is.spot;
-    free = subst (λ (ls : List Lock). list_any (λ held. conflicts held intention) ls ≡ false) (sym granted_is)
-        (list_any-append (λ held. conflicts held intention) old.granted (intention ∷ [])
-        ∙ or_false _ _ (or_false-left _ _ free) (or_false _ _ (not_itself intention) refl));
+    free = subst (λ (ls : List Lock). list_any (λ held. conflicts held intention) ls ≡ false) (sym granted_is) (or_false-left _ _ free);
   }
 
-  -- it is no lock of the gap, and takes one place
-  no_gap : own_gaps txn next (intention ∷ []) ≡ 0
-  no_gap = ap (λ b. 0 + cond b 1 0) (ap (λ k. intention.txn == txn && same_spot intention.spot next && locks_gap k) is.kind
-      ∙ and_false (intention.txn == txn && same_spot intention.spot next))
-
-  pub room_left : HasPlaces (own_gaps txn next old.granted + 2) old → HasPlaces (own_gaps txn next asked.granted + 1) asked
+  -- and takes no place
+  pub room_left : HasPlaces (own_gaps txn next old.granted + 1) old → HasPlaces (own_gaps txn next asked.granted + 1) asked
   room_left room =
-      let gaps : own_gaps txn next asked.granted ≡ own_gaps txn next old.granted + 0 =
-      ap (own_gaps txn next) granted_is ∙ sum_by-append (λ lock. cond (is_own_gap txn next lock) 1 0) old.granted (intention ∷ [])
-      ∙ ap (λ n. own_gaps txn next old.granted + n) no_gap in
       let waits : length asked.waiting ≡ length old.waiting = ap (λ (t : Table). length t.waiting) granted.lists in
-      omega (arith, room, gaps, waits, ap length granted_is, length-append old.granted (intention ∷ []), granted.stays)
+      omega (arith, room, ap (own_gaps txn next) granted_is, waits, ap length granted_is, granted.stays)
 
 -- ---- the inserter has the record
 
@@ -106,7 +92,7 @@ module _ (txn : ℕ) (key : List ℕ) (new next : Spot) (own : Lock) (old last :
   more_of : (more : List Lock) × (last.granted ≡ old.granted ++ copies txn new next old.granted ++ more)
   more_of =
       let lists : last.granted ≡ granted_with takes.copied.granted own = ap (λ (t : Table). t.granted) takes.has.lists in
-      split (is_covered takes.copied.granted own)
+      split (is_covered takes.copied.granted own || is_intent own.kind)
       (λ covered. (
         [],
         lists ∙ ap (λ b. cond b takes.copied.granted (takes.copied.granted ++ own ∷ [])) covered ∙ takes.granted_is
@@ -192,15 +178,26 @@ module _ (txn : ℕ) (records : List (List ℕ)) (key : List ℕ) (new next : Sp
       (subst (λ i. has_gap other i next.key asked.granted ≡ true) (sym step.insertion.one_index)
       ((guards_asked other key was).gap next.key (new_spot records key key next.key step.insertion.next_stands step.insertion.follows)))
 
--- ---- with room, and where all locks stand on records, nothing fails behind the intention
+-- ---- where all locks stand on records, the copies and the record's lock are made by one call
 
-pub taken_for_sure : (txn : ℕ) (records : List (List ℕ)) (key : List ℕ) (new next : Spot) (old copied last : Table) (own : Lock) (answer : Asked)
-    → IsInsertion records key new next → AllStand new.index records old.granted old.waiting
-    → copied.granted ≡ old.granted ++ copies txn new next old.granted → copied.waiting ≡ old.waiting → HasPlaces 1 copied → own.txn ≡ txn → own.spot ≡ new
-    → IsAnswered copied last own answer → IsGranted copied last own
-taken_for_sure txn records key new next old copied last own answer insertion all granted waiting room mine at is =
-    let free : is_blocked copied.granted copied.waiting own ≡ false =
-    subst (λ (ls : List Lock). is_blocked ls copied.waiting own ≡ false) (sym granted)
-    (subst (λ (ws : List Lock). is_blocked (old.granted ++ copies txn new next old.granted) ws own ≡ false) (sym waiting)
-    (new_is_free records key new next insertion txn old.granted old.waiting own all mine at)) in
-    granted_with_room copied last own answer free room is
+pub new_is_taken : (txn : ℕ) (records : List (List ℕ)) (key named : List ℕ) (new next : Spot) (old last : Table) (own : Lock)
+    → IsInsertion records key new next → AllStand new.index records old.granted old.waiting → IsAlone txn new own
+    → last ≡ record old { granted = after_insertion next own old.granted } → TakesNew txn named new next own old last
+new_is_taken txn records key named new next old last own insertion all mine is =
+    record {
+      own_is = mine;
+      copied = copied;
+      granted_is = ap (λ t. old.granted ++ copies t own.spot next old.granted) mine.own ∙ ap (λ (s : Spot). old.granted ++ copies txn s next old.granted) mine.spot;
+      waiting_is = refl;
+      has = record {
+        free = ap (λ b. not (is_covered copied.granted own) && b) free ∙ and_false (not (is_covered copied.granted own));
+        lists = is ∙ ap (λ n. record copied { granted = granted_with copied.granted own; capacity = n }) (sym (ap (λ (t : Table). t.capacity) is));
+        stays = omega (arith, ap (λ (t : Table). t.capacity) is);
+      };
+    } where
+      copied : Table
+      copied = record old { granted = old.granted ++ copies own.txn own.spot next old.granted }
+
+      free : is_blocked copied.granted old.waiting own ≡ false
+      free = subst (λ (s : Spot). is_blocked (old.granted ++ copies own.txn s next old.granted) old.waiting own ≡ false) (sym mine.spot)
+          (new_is_free records key new next insertion own.txn old.granted old.waiting own all refl mine.spot)

@@ -1,17 +1,17 @@
 -- Each call of a lock table but two leaves no cycle that did not stand before; a request that waits closes cycles through its own transaction alone.
-use Rattle.std.specs.Prelude.{◌≡◌, ◌≢◌, ℕ, ◌==◌, ◌&&◌, Bool, true, false, cond, List, [], ◌∷◌, ◌++◌, filter, Contains}
+use Rattle.std.specs.Prelude.{◌≡◌, ◌≢◌, ℕ, ◌==◌, ◌&&◌, ◌||◌, Bool, true, false, cond, List, [], ◌∷◌, ◌++◌, filter, Contains}
 use Rattle.std.proofs.Common.{◌⊎◌, inl, inr, sym, ap, ◌∙◌, subst}
 use Rattle.std.proofs.lemmas.Bool.{cases_eq, eqb-true}
 use Rattle.inno_types.specs.declared.lock.Spot.{Spot}
 use Rattle.inno_types.specs.declared.lock.Edge.{Edge}
 use Rattle.inno_types.specs.declared.lock.Lock.{Lock}
-use Rattle.lock_rules.specs.Kinds.{locks_gap}
+use Rattle.lock_rules.specs.Kinds.{locks_gap, is_intent}
 use Rattle.lock_rules.specs.Spots.{same_spot}
 use Rattle.lock_rules.specs.Rules.{number_of}
 use Rattle.lock_rules.specs.declared.rule.Rule.TheVariants.{CopiedOnInsert}
 use Rattle.lock_rules.proofs.Booleans.{first, split, true_false}
 use Rattle.lock_table.specs.Queue.{serve, is_covered, is_waiting, AreSingle}
-use Rattle.lock_table.specs.Records.{copies, as_gap}
+use Rattle.lock_table.specs.Records.{uncovered, own_copies, copies, as_gap}
 use Rattle.lock_table.specs.View.{Table, IsGranted}
 use Rattle.lock_table.proofs.Soundness.{single_filter}
 use Rattle.deadlock.specs.Cycles.{waiters, IsCycle}
@@ -51,7 +51,7 @@ pub granted_less : (old : Table) (lock : Lock) (new : Table) → IsGranted old n
     → IsLess old.granted old.waiting new.granted new.waiting
 granted_less old lock new is dead =
     subst (λ (t : Table). IsLess old.granted old.waiting t.granted t.waiting) (sym is.lists)
-    (record { part = part_itself old.waiting; locks = λ other there. one_more (is_covered old.granted lock) other there })
+    (record { part = part_itself old.waiting; locks = λ other there. one_more (is_covered old.granted lock || is_intent lock.kind) other there })
   where
     one_more : (b : Bool) (other : Lock) → IsIn (cond b old.granted (old.granted ++ lock ∷ [])) other
         → IsIn old.granted other ⊎ (is_waiting other.txn old.waiting ≡ false)
@@ -91,19 +91,30 @@ released_less kept granted waiting single = record {
 
 -- ---- a record is inserted
 
-copies_own : (txn : ℕ) (new next : Spot) (locks : List Lock) (lock : Lock) → IsIn (copies txn new next locks) lock → lock.txn ≡ txn
-copies_own txn new next [] lock there = absurd there
-copies_own txn new next (w ∷ locks) lock there =
+own_are_own : (txn : ℕ) (new next : Spot) (locks : List Lock) (lock : Lock) → IsIn (own_copies txn new next locks) lock → lock.txn ≡ txn
+own_are_own txn new next [] lock there = absurd there
+own_are_own txn new next (w ∷ locks) lock there =
     split (w.txn == txn && same_spot w.spot next && locks_gap w.kind)
     (λ copied.
-    elim (let now : (as_gap (number_of CopiedOnInsert) new w ≡ lock) ⊎ IsIn (copies txn new next locks) lock
-    = subst (λ b. IsIn (cond b (as_gap (number_of CopiedOnInsert) new w ∷ copies txn new next locks) (copies txn new next locks)) lock) copied there in now) [
+    elim (let now : (as_gap (number_of CopiedOnInsert) new w ≡ lock) ⊎ IsIn (own_copies txn new next locks) lock
+    = subst (λ b. IsIn (cond b (as_gap (number_of CopiedOnInsert) new w ∷ own_copies txn new next locks) (own_copies txn new next locks)) lock) copied there in now) [
       | inl here ↦ sym (ap (λ (l : Lock). l.txn) here) ∙ eqb-true w.txn txn (first (w.txn == txn) _ (first (w.txn == txn && same_spot w.spot next) _ copied))
-      | inr rest ↦ copies_own txn new next locks lock rest
+      | inr rest ↦ own_are_own txn new next locks lock rest
     ])
     (λ not_copied.
-    copies_own txn new next locks lock
-    (subst (λ b. IsIn (cond b (as_gap (number_of CopiedOnInsert) new w ∷ copies txn new next locks) (copies txn new next locks)) lock) not_copied there))
+    own_are_own txn new next locks lock
+    (subst (λ b. IsIn (cond b (as_gap (number_of CopiedOnInsert) new w ∷ own_copies txn new next locks) (own_copies txn new next locks)) lock) not_copied there))
+
+pub uncovered_in : (held ws : List Lock) (lock : Lock) → IsIn (uncovered held ws) lock → IsIn ws lock
+uncovered_in held [] lock there = there
+uncovered_in held (w ∷ ws) lock there = go (is_covered held w) (uncovered_in held ws lock) (uncovered_in (held ++ w ∷ []) ws lock) there where
+  go : (b : Bool) → (IsIn (uncovered held ws) lock → IsIn ws lock) → (IsIn (uncovered (held ++ w ∷ []) ws) lock → IsIn ws lock)
+      → IsIn (cond b (uncovered held ws) (w ∷ uncovered (held ++ w ∷ []) ws)) lock → IsIn (w ∷ ws) lock
+  go true left more rest = inr (left rest)
+  go false left more there = elim there [ inl here ↦ inl here | inr rest ↦ inr (more rest) ]
+
+copies_own : (txn : ℕ) (new next : Spot) (locks : List Lock) (lock : Lock) → IsIn (copies txn new next locks) lock → lock.txn ≡ txn
+copies_own txn new next locks lock there = own_are_own txn new next locks lock (uncovered_in locks (own_copies txn new next locks) lock there)
 
 pub inserted_less : (txn : ℕ) (new next : Spot) (granted waiting : List Lock) → is_waiting txn waiting ≡ false
     → IsLess granted waiting (granted ++ copies txn new next granted) waiting

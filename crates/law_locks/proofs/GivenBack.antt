@@ -109,8 +109,11 @@ module _ (lock : Lock) where
     stays p kinds has =
         any_served p (without_lock lock new.granted) [] new.waiting
         (subst (λ (t : Table). list_any p (without_lock lock t.granted) ≡ true) (sym is.lists)
-        (subst (λ b. list_any p (without_lock lock (cond b old.granted (old.granted ++ lock ∷ []))) ≡ true) (sym free)
-        (front_stays p old.granted (lock ∷ []) (older_stay p kinds old.granted free has))))
+        (subst (λ b. list_any p (without_lock lock (cond (b || is_intent lock.kind) old.granted (old.granted ++ lock ∷ []))) ≡ true) (sym free)
+        (elim (is_intent lock.kind) as (λ b. list_any p (without_lock lock (cond b old.granted (old.granted ++ lock ∷ []))) ≡ true) [
+          | true ↦ older_stay p kinds old.granted free has
+          | false ↦ front_stays p old.granted (lock ∷ []) (older_stay p kinds old.granted free has)
+        ])))
 
     pub given_back_at_once : (txn index : ℕ) → KeepsLocks txn index old.granted after
     given_back_at_once txn index = record {

@@ -1,7 +1,7 @@
 -- What is guarded stays guarded.
 use Rattle.std.proofs.Common.{◌≡◌, ◌≢◌, ◌∙◌, ℕ, Bool, true, false, List, [], ◌∷◌, ◌++◌, inl, inr, sym, ap, subst}
 use Rattle.std.proofs.lemmas.Bool.{cases_eq, eq-eqb, eqb-true}
-use Rattle.std.specs.Prelude.{◌==◌, ◌&&◌, not, nat_eq, cond, Option, None, Some}
+use Rattle.std.specs.Prelude.{◌==◌, ◌&&◌, ◌||◌, not, nat_eq, cond, Option, None, Some}
 use Rattle.std.specs.List.{list_any, AllByRecursion}
 use Rattle.std.specs.Cmp.Lexicographic.{pointwise, bytes_decides}
 use Rattle.inno_types.specs.declared.lock.Spot.{Spot}
@@ -9,7 +9,7 @@ use Rattle.inno_types.specs.declared.lock.Lock.{Lock}
 use Rattle.store_api.specs.declared.answers.Asked.{Asked}
 use Rattle.store_api.specs.declared.answers.Undo.{Undo}
 use Rattle.store_api.specs.declared.answers.Asked.TheVariants.{Granted, Waits, NoMemory}
-use Rattle.lock_rules.specs.Kinds.{is_shared, same_kind, same_mode}
+use Rattle.lock_rules.specs.Kinds.{is_intent, is_shared, same_kind, same_mode}
 use Rattle.lock_rules.specs.Spots.{same_spot}
 use Rattle.lock_rules.specs.Conflicts.{same_lock, same_reason}
 use Rattle.lock_rules.specs.Coverage.{stands_in, without_record}
@@ -19,10 +19,11 @@ use Rattle.lock_rules.proofs.Beside.{spot_same}
 use Rattle.lock_table.specs.Queue.{serve, without, without_lock, is_covered}
 use Rattle.lock_table.specs.Records.{copies, after_removal, after_end}
 use Rattle.lock_table.specs.View.{Table, IsAnswered}
+use Rattle.lock_table.proofs.Covering.{gone_apart}
 use Rattle.law_locks.specs.Guards.{IsSpotOf, is_lock_at, is_gap_lock_at, is_record_lock_at, has_gap, has_record, has_alone, Guards, Guarded, Pins}
 use Rattle.law_locks.specs.Stand.{Inserts, Removes}
 use Rattle.law_locks.proofs.Spots.{Stands, new_spot, spot_before, stood, stays, gone_not, spot_after}
-use Rattle.law_locks.proofs.Locks.{any_front, any_behind, any_served, any_kept, lock_at, only_inserter, has_copy, moved_keeps, moved_gap, any_removed}
+use Rattle.law_locks.proofs.Locks.{any_front, any_served, any_kept, lock_at, only_inserter, has_copy, moved_keeps, moved_gap, any_removed}
 
 -- ---- the tests on a transaction's locks
 
@@ -73,7 +74,7 @@ pub answered_locks : (txn index : ℕ) (old new : Table) (lock : Lock) (answer :
     → KeepsLocks txn index old.granted new.granted
 answered_locks txn index old new lock Granted is =
     subst (λ (t : Table). KeepsLocks txn index old.granted t.granted) (sym is.lists)
-    (elim (is_covered old.granted lock) as (λ b. KeepsLocks txn index old.granted (cond b old.granted (old.granted ++ lock ∷ []))) [
+    (elim (is_covered old.granted lock || is_intent lock.kind) as (λ b. KeepsLocks txn index old.granted (cond b old.granted (old.granted ++ lock ∷ []))) [
       | true ↦ all_locks txn index old.granted old.granted (λ p own has. has)
       | false ↦ more_locks txn index old.granted (lock ∷ [])
     ])
@@ -137,13 +138,12 @@ module _ (txn inserter : ℕ) (records : List (List ℕ)) (new_key key : List �
   gap_of_new : has_gap txn new.index next.key old ≡ true → has_gap txn new.index (Some new_key) locks ≡ true
   gap_of_new has =
       let same = its_own has in
-      let copied : has_gap inserter new.index new.key (copies inserter new next old) ≡ true = has_copy inserter new next old
+      let copied : has_gap inserter new.index new.key (old ++ copies inserter new next old) ≡ true = has_copy inserter new next old
       (subst (λ t. has_gap t next.index next.key old ≡ true) same (at_next has)) in
       subst (λ t. has_gap t new.index (Some new_key) locks ≡ true) (sym same)
       (subst (λ (s : Option (List ℕ)). has_gap inserter new.index s locks ≡ true) inserts.insertion.new_key
       (subst (λ (ls : List Lock). has_gap inserter new.index new.key ls ≡ true) (sym inserts.locks_are)
-      (any_front (is_gap_lock_at inserter new.index new.key) (old ++ copies inserter new next old) inserts.more
-      (any_behind (is_gap_lock_at inserter new.index new.key) old (copies inserter new next old) copied))))
+      (any_front (is_gap_lock_at inserter new.index new.key) (old ++ copies inserter new next old) inserts.more copied)))
 
   pub inserted_guards : Guards txn new.index records old key → Guards txn new.index (new_key ∷ records) locks key
   inserted_guards was = record {
@@ -205,7 +205,7 @@ module _ (txn : ℕ) (by : Option ℕ) (records : List (List ℕ)) (gone_key key
   moved_to_next fit has =
       subst (λ i. has_gap txn i next.key after ≡ true) removes.removal.one_index
       (any_removed by gone next (is_gap_lock_at txn next.index next.key) granted waiting
-      (moved_gap by gone next txn granted fit (subst (λ (s : Option (List ℕ)). has_gap txn gone.index s granted ≡ true) (sym removes.removal.gone_key) has)))
+      (moved_gap by gone next (gone_apart records gone_key gone next removes.removal) txn granted fit (subst (λ (s : Option (List ℕ)). has_gap txn gone.index s granted ≡ true) (sym removes.removal.gone_key) has)))
 
   pub removed_guards : AllByRecursion FitsItsRule granted → Guards txn gone.index records granted key → Guards txn gone.index left after key
   removed_guards fit was = record {

@@ -16,3 +16,4 @@ mod Rounds
 mod Starting
 pub mod AtOnce
 pub mod InsertionSpots
+mod Ended

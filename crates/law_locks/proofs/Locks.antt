@@ -12,16 +12,17 @@ use Rattle.inno_types.specs.declared.lock.Spot.{Spot}
 use Rattle.inno_types.specs.declared.lock.Lock.{Lock}
 use Rattle.lock_rules.specs.declared.rule.Rule.{Rule}
 use Rattle.lock_rules.specs.declared.rule.Rule.TheVariants.{UniqueFound, UniqueMarked, UniqueAbsent, RangeRecord, PastRange, ClusteredOfEntry, ToInsert, Inserted, DuplicateCheck, Changed, LowerSearch, RecordWent, CopiedOnInsert}
-use Rattle.lock_rules.specs.Kinds.{locks_gap, locks_record, is_intent, is_upper, same_kind, same_mode, same_level}
+use Rattle.lock_rules.specs.Kinds.{locks_gap, locks_record, is_intent, is_shared, is_upper, same_kind, same_mode, same_level}
 use Rattle.lock_rules.specs.Spots.{same_key, same_spot}
 use Rattle.lock_rules.specs.Conflicts.{conflicts, kind_at, kind_of, kinds_conflict}
 use Rattle.lock_rules.specs.Rules.{FitsItsRule, gives_some, is_case_of, is_for, number_of, rule_kind, rule_mode, rule_of}
 use Rattle.lock_rules.proofs.Booleans.{and_false, first, second, both, or_left, or_right, or_cases, true_false, split}
 use Rattle.lock_rules.proofs.Beside.{key_refl, key_same, spot_refl}
 use Rattle.lock_table.specs.Queue.{serve, is_blocked}
-use Rattle.lock_table.specs.Records.{is_undone, becomes_gap, as_gap, moved, left_by, elsewhere, copies, after_removal}
+use Rattle.lock_table.specs.Records.{is_undone, becomes_gap, as_gap, moved, left_by, elsewhere, uncovered, own_copies, copies, after_removal}
 use Rattle.lock_table.specs.Coverage.{MayInsert}
-use Rattle.law_locks.specs.Guards.{is_lock_at, is_gap_lock_at, has_gap}
+use Rattle.lock_table.proofs.Stronger.{GoesOver, one_txn, one_spot, stronger_gap, stronger_record, stronger_mode, any_uncovered, any_elsewhere, any_moved}
+use Rattle.law_locks.specs.Guards.{is_lock_at, is_gap_lock_at, is_record_lock_at, has_gap}
 
 -- ---- some lock of a list
 
@@ -75,6 +76,32 @@ module _ (txn index : ℕ) (spot : Option (List ℕ)) (lock : Lock) where
   pub at_lock : IsLockAt txn index spot lock → is_lock_at txn index spot lock ≡ true
   at_lock at = both _ _ (both _ _ (eq-eqb lock.txn txn at.own) (eq-eqb lock.spot.index index at.here)) (ap (λ k. same_key k spot) at.key ∙ key_refl spot)
 
+-- a lock that covers another one has what the other has
+module _ (txn index : ℕ) (spot : Option (List ℕ)) where
+  pub lock_over : GoesOver (is_lock_at txn index spot)
+  lock_over held lock is has =
+      let at = lock_at txn index spot lock has in
+      let one = one_spot held lock is in
+      at_lock txn index spot held
+      (record { own = one_txn held lock is ∙ at.own; here = ap (λ (s : Spot). s.index) one ∙ at.here; key = ap (λ (s : Spot). s.key) one ∙ at.key })
+
+  pub gap_over : GoesOver (is_gap_lock_at txn index spot)
+  gap_over held lock is has = both _ _ (lock_over held lock is (first (is_lock_at txn index spot lock) _ has))
+      (stronger_gap held lock is (second (is_lock_at txn index spot lock) _ has))
+
+module _ (txn index : ℕ) (key : List ℕ) where
+  pub record_over : GoesOver (is_record_lock_at txn index key)
+  record_over held lock is has = both _ _ (lock_over txn index (Some key) held lock is (first (is_lock_at txn index (Some key) lock) _ has))
+      (stronger_record held lock is (second (is_lock_at txn index (Some key) lock) _ has))
+
+  pub alone_over : GoesOver (λ lock. is_record_lock_at txn index key lock && not (is_shared lock.mode))
+  alone_over held lock is has = both _ _ (record_over held lock is (first (is_record_lock_at txn index key lock) _ has))
+      (ap not (stronger_mode held lock is (not_shared (is_shared lock.mode) (second (is_record_lock_at txn index key lock) _ has))))
+    where
+      not_shared : (b : Bool) → not b ≡ true → b ≡ false
+      not_shared true h = cc
+      not_shared false h = refl
+
 gap_kind : (b : Bool) (kind : LockKind) → locks_gap (kind_at b kind) ≡ locks_gap kind
 gap_kind b Rec = refl
 gap_kind b Gap = refl
@@ -107,11 +134,10 @@ module _ (inserter : ℕ) (next : Spot) (intention : Lock) where
       true_false _ (any_other (is_gap_lock_at txn next.index next.key) (λ held. conflicts held intention) (blocks txn differ may.own may.kind may.spot) locks
       has) may.free
 
--- and has it on the new record too
-pub has_copy : (txn : ℕ) (new next : Spot) (locks : List Lock) → has_gap txn next.index next.key locks ≡ true
-    → has_gap txn new.index new.key (copies txn new next locks) ≡ true
-has_copy txn new next [] has = has
-has_copy txn new next (lock ∷ locks) has =
+has_own : (txn : ℕ) (new next : Spot) (locks : List Lock) → has_gap txn next.index next.key locks ≡ true
+    → has_gap txn new.index new.key (own_copies txn new next locks) ≡ true
+has_own txn new next [] has = has
+has_own txn new next (lock ∷ locks) has =
     elim (or_cases (is_gap_lock_at txn next.index next.key lock) _ has) [
       | inl this ↦
           let at = lock_at txn next.index next.key lock (first (is_lock_at txn next.index next.key lock) _ this) in
@@ -119,19 +145,25 @@ has_copy txn new next (lock ∷ locks) has =
           both _ _ (both _ _ (eq-eqb lock.txn txn at.own) (ap (λ (s : Spot). same_spot s next) (spot_is lock.spot next at.here at.key) ∙ spot_refl next))
           (sym (gap_kind (is_some lock.spot.key) lock.kind) ∙ second (is_lock_at txn next.index next.key lock) _ this) in
           subst (λ b. list_any (is_gap_lock_at txn new.index new.key)
-          (cond b (as_gap (number_of CopiedOnInsert) new lock ∷ copies txn new next locks) (copies txn new next locks)) ≡ true)
+          (cond b (as_gap (number_of CopiedOnInsert) new lock ∷ own_copies txn new next locks) (own_copies txn new next locks)) ≡ true)
           (sym copied)
           (or_left _ _ (both _ _ (at_lock txn new.index new.key (as_gap (number_of CopiedOnInsert) new lock)
           (record { own = at.own; here = refl; key = refl })) refl))
       | inr rest ↦
-          let more = has_copy txn new next locks rest in
+          let more = has_own txn new next locks rest in
           elim (lock.txn == txn && same_spot lock.spot next && locks_gap lock.kind) as
           (λ b. list_any (is_gap_lock_at txn new.index new.key)
-          (cond b (as_gap (number_of CopiedOnInsert) new lock ∷ copies txn new next locks) (copies txn new next locks)) ≡ true) [
+          (cond b (as_gap (number_of CopiedOnInsert) new lock ∷ own_copies txn new next locks) (own_copies txn new next locks)) ≡ true) [
             | true ↦ or_right _ _ more
             | false ↦ more
           ]
     ]
+
+-- and has it on the new record too
+pub has_copy : (txn : ℕ) (new next : Spot) (locks : List Lock) → has_gap txn next.index next.key locks ≡ true
+    → has_gap txn new.index new.key (locks ++ copies txn new next locks) ≡ true
+has_copy txn new next locks has =
+    any_uncovered (is_gap_lock_at txn new.index new.key) (gap_over txn new.index new.key) locks (own_copies txn new next locks) (has_own txn new next locks has)
 
 -- ---- a record goes
 
@@ -238,63 +270,29 @@ module _ (by : Option ℕ) (gone next : Spot) where
   -- locks on other spots stay
   pub moved_keeps : (p : Lock → Bool) → ((lock : Lock) → p lock ≡ true → same_spot lock.spot gone ≡ false) → (locks : List Lock) → list_any p locks ≡ true
       → list_any p (moved by gone next locks) ≡ true
-  moved_keeps p elsewhere [] has = has
-  moved_keeps p elsewhere (lock ∷ locks) has =
-      elim (or_cases (p lock) _ has) [
-        | inl this ↦ subst (λ b. list_any p (cond b
-            (cond (becomes_gap by lock) (as_gap (number_of RecordWent) next lock ∷ moved by gone next locks) (moved by gone next locks))
-            (lock ∷ moved by gone next locks)) ≡ true)
-            (sym (elsewhere lock this)) (or_left _ _ this)
-        | inr rest ↦ moved_more p lock locks (moved_keeps p elsewhere locks rest)
-      ]
-    where
-      moved_more : (p : Lock → Bool) (lock : Lock) (locks : List Lock) → list_any p (moved by gone next locks) ≡ true
-          → list_any p (moved by gone next (lock ∷ locks)) ≡ true
-      moved_more p lock locks more =
-          elim (same_spot lock.spot gone) as (λ b. list_any p
-          (cond b (cond (becomes_gap by lock) (as_gap (number_of RecordWent) next lock ∷ moved by gone next locks) (moved by gone next locks))
-          (lock ∷ moved by gone next locks)) ≡ true) [
-            | true ↦ elim (becomes_gap by lock) as (λ b. list_any p
-                (cond b (as_gap (number_of RecordWent) next lock ∷ moved by gone next locks) (moved by gone next locks)) ≡ true)
-                [ true ↦ or_right _ _ more | false ↦ more ]
-            | false ↦ or_right _ _ more
-          ]
+  moved_keeps p elsewhere locks has = any_elsewhere by gone next p elsewhere [] locks has
 
   -- and whoever had the gap of the record that went has that of the next spot
-  pub moved_gap : (txn : ℕ) (locks : List Lock) → AllByRecursion FitsItsRule locks → has_gap txn gone.index gone.key locks ≡ true
+  pub moved_gap : same_spot next gone ≡ false → (txn : ℕ) (locks : List Lock) → AllByRecursion FitsItsRule locks → has_gap txn gone.index gone.key locks ≡ true
       → has_gap txn next.index next.key (moved by gone next locks) ≡ true
-  moved_gap txn [] fit has = has
-  moved_gap txn (lock ∷ locks) fit has =
-      elim (or_cases (is_gap_lock_at txn gone.index gone.key lock) _ has) [
-        | inl this ↦
-            let at = lock_at txn gone.index gone.key lock (first (is_lock_at txn gone.index gone.key lock) _ this) in
-            let here : same_spot lock.spot gone ≡ true = ap (λ (s : Spot). same_spot s gone) (spot_is lock.spot gone at.here at.key) ∙ spot_refl gone in
-            let outlives = gap_outlives by lock fit.0 (second (is_lock_at txn gone.index gone.key lock) _ this) in
-            subst (λ b. list_any p (cond b (cond (becomes_gap by lock) (gap lock ∷ moved by gone next locks) (moved by gone next locks))
-            (lock ∷ moved by gone next locks)) ≡ true)
-            (sym here)
-            (subst (λ b. list_any p (cond b (gap lock ∷ moved by gone next locks) (moved by gone next locks)) ≡ true) (sym outlives)
-            (or_left _ _ (both _ _ (at_lock txn next.index next.key (gap lock) (record { own = at.own; here = refl; key = refl })) refl)))
-        | inr rest ↦
-            let more = moved_gap txn locks fit.1 rest in
-            elim (same_spot lock.spot gone) as (λ b. list_any p
-            (cond b (cond (becomes_gap by lock) (gap lock ∷ moved by gone next locks) (moved by gone next locks)) (lock ∷ moved by gone next locks)) ≡
-            true) [
-              | true ↦ elim (becomes_gap by lock) as (λ b. list_any p (cond b (gap lock ∷ moved by gone next locks) (moved by gone next locks)) ≡ true)
-                  [ true ↦ or_right _ _ more | false ↦ more ]
-              | false ↦ or_right _ _ more
-            ]
-      ]
+  moved_gap apart txn locks fit has =
+      any_moved by gone next FitsItsRule (is_gap_lock_at txn gone.index gone.key) (is_gap_lock_at txn next.index next.key) apart
+      (gap_over txn next.index next.key)
+      (λ lock fits is here. (
+        gap_outlives by lock fits (second (is_lock_at txn gone.index gone.key lock) _ is),
+        both _ _ (at_lock txn next.index next.key (as_gap (number_of RecordWent) next lock)
+            (record { own = (at_gone lock is).own; here = refl; key = refl })) refl,
+      ))
+      (λ lock fits is elsewhere. absurd (true_false _
+      (ap (λ (s : Spot). same_spot s gone) (spot_is lock.spot gone (at_gone lock is).here (at_gone lock is).key) ∙ spot_refl gone) elsewhere))
+      [] locks fit has
     where
-      p : Lock → Bool
-      p = is_gap_lock_at txn next.index next.key
-
-      gap : Lock → Lock
-      gap lock = as_gap (number_of RecordWent) next lock
+      at_gone : (lock : Lock) → is_gap_lock_at txn gone.index gone.key lock ≡ true → IsLockAt txn gone.index gone.key lock
+      at_gone lock is = lock_at txn gone.index gone.key lock (first (is_lock_at txn gone.index gone.key lock) _ is)
 
   -- what is in the list of those moved is granted in the end
   pub any_removed : (p : Lock → Bool) (granted waiting : List Lock) → list_any p (moved by gone next granted) ≡ true
       → list_any p (after_removal by gone next granted waiting).granted ≡ true
   any_removed p granted waiting has =
-      any_served p (moved by gone next granted ++ left_by by gone next waiting) [] (elsewhere gone waiting)
-      (any_front p (moved by gone next granted) (left_by by gone next waiting) has)
+      any_served p (moved by gone next granted ++ uncovered (moved by gone next granted) (left_by by gone next waiting)) [] (elsewhere gone waiting)
+      (any_front p (moved by gone next granted) (uncovered (moved by gone next granted) (left_by by gone next waiting)) has)

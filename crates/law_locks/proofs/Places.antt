@@ -1,28 +1,24 @@
 -- Each lock stays on a record of its index, or on the supremum.
 use Rattle.std.proofs.Common.{◌≡◌, ◌≢◌, ◌∙◌, ℕ, Bool, true, false, List, [], ◌∷◌, ◌++◌, refl, sym, ap, subst}
-use Rattle.std.proofs.lemmas.Bool.{eq-eqb, eqb-true}
 use Rattle.std.proofs.lemmas.List.Folds.{list_any-append}
-use Rattle.std.specs.Prelude.{◌==◌, ◌&&◌, not, nat_eq, cond, filter, Option, None, Some}
+use Rattle.std.specs.Prelude.{◌==◌, ◌&&◌, ◌||◌, not, nat_eq, cond, filter, Option, None, Some}
 use Rattle.std.specs.List.{list_any, AllByRecursion}
 use Rattle.std.specs.Cmp.Lexicographic.{pointwise}
 use Rattle.inno_types.specs.declared.lock.Spot.{Spot}
 use Rattle.inno_types.specs.declared.lock.Lock.{Lock}
 use Rattle.store_api.specs.declared.answers.Asked.{Asked}
 use Rattle.store_api.specs.declared.answers.Asked.TheVariants.{Granted, Waits, NoMemory}
-use Rattle.lock_rules.specs.declared.rule.Rule.TheVariants.{RecordWent, CopiedOnInsert}
-use Rattle.inno_types.specs.declared.lock.LockKind.TheVariants.{Gap}
-use Rattle.lock_rules.specs.Kinds.{locks_gap}
+use Rattle.lock_rules.specs.Kinds.{is_intent}
 use Rattle.lock_rules.specs.Spots.{same_spot}
 use Rattle.lock_rules.specs.Conflicts.{conflicts, kind_of, kinds_conflict, same_lock}
 use Rattle.lock_rules.specs.Coverage.{stands_in, without_record}
-use Rattle.lock_rules.specs.Rules.{number_of}
-use Rattle.lock_rules.proofs.Booleans.{and_false, first, or_false, or_left, or_right, true_false, split}
+use Rattle.lock_rules.proofs.Booleans.{and_false, or_false, or_left, or_right, true_false, split}
 use Rattle.lock_rules.proofs.Beside.{spot_refl, spot_same, key_refl}
 use Rattle.lock_table.specs.Queue.{serve, without, without_lock, is_blocked, is_covered}
-use Rattle.lock_table.specs.Records.{becomes_gap, as_gap, copies, moved, left_by, elsewhere, after_removal, after_end}
+use Rattle.lock_table.specs.Records.{uncovered, copies, moved, left_by, elsewhere, after_removal, after_end}
 use Rattle.lock_table.specs.Coverage.{IsInsertion}
 use Rattle.lock_table.specs.View.{Table, HasPlaces, IsAnswered, IsGranted, must_wait}
-use Rattle.lock_table.proofs.Soundness.{all_left, all_copies, all_served}
+use Rattle.lock_table.proofs.Soundness.{all_left, all_copies, all_moved_to, all_uncovered, all_served, copies_free}
 use Rattle.law_locks.specs.Stand.{LocksStand, AllStand, Removes}
 use Rattle.law_locks.proofs.Spots.{stays, new_not}
 
@@ -62,7 +58,7 @@ module _ (index : ℕ) (records : List (List ℕ)) where
   answered_stand old new lock Granted is there all =
       subst (λ (t : Table). AllStand index records t.granted t.waiting) (sym is.lists)
       (record {
-        granted_stand = elim (is_covered old.granted lock) as (λ b. LocksStand index records (cond b old.granted (old.granted ++ lock ∷ []))) [
+        granted_stand = elim (is_covered old.granted lock || is_intent lock.kind) as (λ b. LocksStand index records (cond b old.granted (old.granted ++ lock ∷ []))) [
           | true ↦ all.granted_stand
           | false ↦ all_append IsThere old.granted (lock ∷ []) all.granted_stand (there, tt)
         ];
@@ -129,31 +125,20 @@ module _ (records : List (List ℕ)) (new_key : List ℕ) (new next : Spot) (ins
       ∙ ap (λ b. b && kinds_conflict (kind_of lock) lock.mode (kind_of asked) asked.mode) (and_false (not (lock.txn == asked.txn)))))
       (none_on_new locks all.1 asked at)
 
-  -- the copies are the inserter's own
-  own_copies : (txn : ℕ) (locks : List Lock) (asked : Lock) → asked.txn ≡ txn → list_any (λ lock. conflicts lock asked) (copies txn new next locks) ≡ false
-  own_copies txn [] asked own = refl
-  own_copies txn (lock ∷ locks) asked own =
-      let rest = own_copies txn locks asked own in
-      split (lock.txn == txn && same_spot lock.spot next && locks_gap lock.kind)
-      (λ copied. subst (λ b. list_any (λ held. conflicts held asked)
-      (cond b (as_gap (number_of CopiedOnInsert) new lock ∷ copies txn new next locks) (copies txn new next locks)) ≡ false)
-      (sym copied)
-      (or_false (conflicts (as_gap (number_of CopiedOnInsert) new lock) asked) _
-      (ap (λ b. not b && same_spot new asked.spot && kinds_conflict Gap lock.mode (kind_of asked) asked.mode)
-      (eq-eqb lock.txn asked.txn (eqb-true lock.txn txn (first (lock.txn == txn) _ (first (lock.txn == txn && same_spot lock.spot next) _ copied)) ∙ sym
-      own)))
-      rest))
-      (λ not_copied. subst (λ b. list_any (λ held. conflicts held asked)
-      (cond b (as_gap (number_of CopiedOnInsert) new lock ∷ copies txn new next locks) (copies txn new next locks)) ≡ false) (sym not_copied) rest)
-
   -- so the inserter's lock of it is granted at once
   pub new_is_free : (txn : ℕ) (granted waiting : List Lock) (asked : Lock) → AllStand new.index records granted waiting → asked.txn ≡ txn
       → asked.spot ≡ new → is_blocked (granted ++ copies txn new next granted) waiting asked ≡ false
   new_is_free txn granted waiting asked all own at =
       or_false _ _
       (list_any-append (λ lock. conflicts lock asked) granted (copies txn new next granted) ∙ or_false _ _ (none_on_new granted all.granted_stand asked at)
-      (own_copies txn granted asked own))
+      (copies_free txn new next granted asked own))
       (none_on_new waiting all.waiting_stand asked at)
+
+  pub new_needs_no_wait : (table : Table) (asked : Lock) → AllStand new.index records table.granted table.waiting → asked.spot ≡ new → must_wait table asked ≡ false
+  new_needs_no_wait table asked all at =
+      ap (λ b. not (is_covered table.granted asked) && b)
+      (or_false _ _ (none_on_new table.granted all.granted_stand asked at) (none_on_new table.waiting all.waiting_stand asked at))
+      ∙ and_false (not (is_covered table.granted asked))
 
 need_not : (table : Table) (asked : Lock) → is_blocked table.granted table.waiting asked ≡ false → must_wait table asked ≡ false
 need_not table asked free = ap (λ b. not (is_covered table.granted asked) && b) free ∙ and_false (not (is_covered table.granted asked))
@@ -184,22 +169,9 @@ module _ (by : Option ℕ) (records : List (List ℕ)) (gone_key : List ℕ) (go
       (there here)
 
   moved_stand : (locks : List Lock) → LocksStand gone.index records locks → LocksStand gone.index left (moved by gone next locks)
-  moved_stand [] all = tt
-  moved_stand (lock ∷ locks) all =
-      let rest = moved_stand locks all.1 in
-      split (same_spot lock.spot gone)
-      (λ same. subst (λ b. LocksStand gone.index left
-      (cond b (cond (becomes_gap by lock) (as_gap (number_of RecordWent) next lock ∷ moved by gone next locks) (moved by gone next locks))
-      (lock ∷ moved by gone next locks)))
-      (sym same)
-      (elim (becomes_gap by lock) as (λ b. LocksStand gone.index left
-      (cond b (as_gap (number_of RecordWent) next lock ∷ moved by gone next locks) (moved by gone next locks)))
-      [ true ↦ ((λ here. removes.next_stands), rest) | false ↦ rest ]))
-      (λ other. subst (λ b. LocksStand gone.index left
-      (cond b (cond (becomes_gap by lock) (as_gap (number_of RecordWent) next lock ∷ moved by gone next locks) (moved by gone next locks))
-      (lock ∷ moved by gone next locks)))
-      (sym other)
-      (left_there lock other all.0, rest))
+  moved_stand locks all =
+      all_moved_to (IsThere gone.index left) (IsThere gone.index records) by gone next (λ lock here. removes.next_stands)
+      (λ lock there elsewhere. left_there lock elsewhere there) [] locks tt all
 
   elsewhere_stand : (queue : List Lock) → LocksStand gone.index records queue → LocksStand gone.index left (elsewhere gone queue)
   elsewhere_stand [] all = tt
@@ -213,7 +185,9 @@ module _ (by : Option ℕ) (records : List (List ℕ)) (gone_key : List ℕ) (go
   pub removed_stand : (granted waiting : List Lock) → AllStand gone.index records granted waiting
       → AllStand gone.index left (after_removal by gone next granted waiting).granted (after_removal by gone next granted waiting).waiting
   removed_stand granted waiting all =
-      served_stand gone.index left (moved by gone next granted ++ left_by by gone next waiting) (elsewhere gone waiting)
-      (all_append (IsThere gone.index left) (moved by gone next granted) (left_by by gone next waiting) (moved_stand granted all.granted_stand)
-      (all_left (IsThere gone.index left) by gone next (λ lock here. removes.next_stands) waiting))
+      served_stand gone.index left (moved by gone next granted ++ uncovered (moved by gone next granted) (left_by by gone next waiting)) (elsewhere gone waiting)
+      (all_append (IsThere gone.index left) (moved by gone next granted) (uncovered (moved by gone next granted) (left_by by gone next waiting))
+      (moved_stand granted all.granted_stand)
+      (all_uncovered (IsThere gone.index left) (moved by gone next granted) (left_by by gone next waiting)
+      (all_left (IsThere gone.index left) by gone next (λ lock here. removes.next_stands) waiting)))
       (elsewhere_stand waiting all.waiting_stand)

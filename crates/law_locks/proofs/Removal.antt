@@ -16,11 +16,12 @@ use Rattle.lock_rules.specs.declared.rule.Rule.TheVariants.{RecordWent}
 use Rattle.lock_rules.proofs.Booleans.{first, second, both, true_false}
 use Rattle.lock_rules.proofs.Beside.{spot_same, spot_refl}
 use Rattle.lock_table.specs.Queue.{serve, is_waiting, AreSingle}
-use Rattle.lock_table.specs.Records.{moved, left_by, elsewhere as requests_elsewhere, becomes_gap, as_gap, after_removal}
-use Rattle.lock_table.proofs.Soundness.{single_filter}
+use Rattle.lock_table.specs.Records.{moved, left_by, uncovered, elsewhere as requests_elsewhere, becomes_gap, as_gap, after_removal}
+use Rattle.lock_table.proofs.Soundness.{all_moved, single_filter}
 use Rattle.deadlock.specs.Cycles.{waiters, IsCycle}
 use Rattle.law_locks.specs.Waits.{inserters, Meets}
-use Rattle.law_locks.proofs.Members.{IsIn, in_cases, in_map, filter_in, contains_from_in}
+use Rattle.law_locks.proofs.Calls.{uncovered_in}
+use Rattle.law_locks.proofs.Members.{IsIn, all_in, in_all, in_cases, in_map, filter_in, contains_from_in}
 use Rattle.law_locks.proofs.Parts.{IsPart, part_of_part, filtered_part, served_part, served_locks}
 use Rattle.law_locks.proofs.Edges.{elsewhere}
 
@@ -30,17 +31,9 @@ module _ (by : Option ℕ) (gone next : Spot) where
   IsGap lock = (w : Lock) × (as_gap (number_of RecordWent) next w ≡ lock)
 
   moved_from : (locks : List Lock) (lock : Lock) → IsIn (moved by gone next locks) lock → IsIn locks lock ⊎ IsGap lock
-  moved_from [] lock there = absurd there
-  moved_from (w ∷ locks) lock there = go (same_spot w.spot gone) (becomes_gap by w) (moved_from locks lock) there where
-    go : (b d : Bool) → (IsIn (moved by gone next locks) lock → IsIn locks lock ⊎ IsGap lock)
-        → IsIn (cond b (cond d (as_gap (number_of RecordWent) next w ∷ moved by gone next locks) (moved by gone next locks)) (w ∷ moved by gone next locks))
-        lock
-        → IsIn (w ∷ locks) lock ⊎ IsGap lock
-    go true true rest (inl here) = inr (w, here)
-    go true true rest (inr behind) = elim (rest behind) [ inl before ↦ inl (inr before) | inr gap ↦ inr gap ]
-    go true false rest behind = elim (rest behind) [ inl before ↦ inl (inr before) | inr gap ↦ inr gap ]
-    go false d rest (inl here) = inl (inl here)
-    go false d rest (inr behind) = elim (rest behind) [ inl before ↦ inl (inr before) | inr gap ↦ inr gap ]
+  moved_from locks lock there =
+      all_in (λ l. IsIn locks l ⊎ IsGap l) (moved by gone next locks) lock
+      (all_moved (λ l. IsIn locks l ⊎ IsGap l) by gone next (λ w. inr (w, refl)) locks (in_all (λ l. IsIn locks l ⊎ IsGap l) locks (λ l is. inl is))) there
 
   left_from : (queue : List Lock) (lock : Lock) → IsIn (left_by by gone next queue) lock → IsGap lock
   left_from [] lock there = absurd there
@@ -87,7 +80,7 @@ module _ (by : Option ℕ) (gone next : Spot) where
 
   module _ (granted waiting : List Lock) (single : AreSingle waiting) where
     abbrev held : List Lock
-    held = moved by gone next granted ++ left_by by gone next waiting
+    held = moved by gone next granted ++ uncovered (moved by gone next granted) (left_by by gone next waiting)
 
     abbrev left : List Lock
     left = requests_elsewhere gone waiting
@@ -100,9 +93,9 @@ module _ (by : Option ℕ) (gone next : Spot) where
         → IsIn granted lock ⊎ IsGap lock
     lock_from lock there waits = elim (served_locks held [] left (single_filter (λ asked. not (same_spot asked.spot gone)) waiting single) lock there) [
       | inr done ↦ absurd (true_false _ waits done)
-      | inl before ↦ elim (in_cases (moved by gone next granted) (left_by by gone next waiting) lock before) [
+      | inl before ↦ elim (in_cases (moved by gone next granted) (uncovered (moved by gone next granted) (left_by by gone next waiting)) lock before) [
         | inl one ↦ moved_from granted lock one
-        | inr one ↦ inr (left_from waiting lock one)
+        | inr one ↦ inr (left_from waiting lock (uncovered_in (moved by gone next granted) (left_by by gone next waiting) lock one))
       ]
     ]
 

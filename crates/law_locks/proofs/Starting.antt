@@ -6,7 +6,7 @@ use Rattle.inno_types.specs.declared.lock.Edge.{Edge}
 use Rattle.inno_types.specs.declared.lock.Lock.{Lock}
 use Rattle.lock_rules.specs.Spots.{same_spot}
 use Rattle.lock_table.specs.Queue.{AreSound}
-use Rattle.lock_table.specs.Records.{moved, left_by, elsewhere, after_removal}
+use Rattle.lock_table.specs.Records.{moved, left_by, uncovered, elsewhere, after_removal}
 use Rattle.lock_table.specs.View.{Table, IsQueued}
 use Rattle.lock_table.proofs.Soundness.{served, locks_moved, requests_left}
 use Rattle.deadlock.specs.Cycles.{IsCycle}
@@ -28,9 +28,9 @@ module _ (by : Option ℕ) (gone next : Spot) (granted waiting : List Lock) (sou
   pub sound_removed : AreSound (after_removal by gone next granted waiting).granted (after_removal by gone next granted waiting).waiting
   sound_removed =
       let locks = locks_moved granted waiting sound by gone next (moved by gone next granted)
-      (moved by gone next granted ++ left_by by gone next waiting) refl refl in
+      (moved by gone next granted ++ uncovered (moved by gone next granted) (left_by by gone next waiting)) refl refl in
       let requests = requests_left granted waiting sound (λ asked. not (same_spot asked.spot gone)) (elsewhere gone waiting) refl in
-      served (moved by gone next granted ++ left_by by gone next waiting) (elsewhere gone waiting) locks.0 requests.0 locks.1 requests.1
+      served (moved by gone next granted ++ uncovered (moved by gone next granted) (left_by by gone next waiting)) (elsewhere gone waiting) locks.0 requests.0 locks.1 requests.1
 
   pub all_meet_inserters : AreFree granted waiting
       → AllMeet (inserters next waiting) (after_removal by gone next granted waiting).granted (after_removal by gone next granted waiting).waiting

@@ -11,11 +11,11 @@ ghost use Rattle.law_locks.specs.Guards.{Guards, Guarded, has_alone};
 ghost use Rattle.law_locks.specs.Stand.{Inserts};
 ghost use Rattle.law_locks.specs.AtOnce.{IsIntention, InsertsAtOnce};
 
-/// Of the room that was taken for it, the intention takes one place, and what the copies and the lock of the record need is left.
+/// The intention takes no place: the room that was taken for the copies and the lock of the record is left.
 pub fn room_lasts_behind_the_intention()
     ensures { (txn : ℕ) (next : Spot) (intention : Lock) (old asked : Table)
         → IsIntention txn next intention → IsGranted old asked intention
-        → HasPlaces (own_gaps txn next old.granted + 2) old → HasPlaces (own_gaps txn next asked.granted + 1) asked }
+        → HasPlaces (own_gaps txn next old.granted + 1) old → HasPlaces (own_gaps txn next asked.granted + 1) asked }
 {}
 
 /// It is an insertion as the laws on guards have it, over the locks behind the intention.

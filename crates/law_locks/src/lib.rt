@@ -1,7 +1,7 @@
 //! Laws of record locks. The keys that a transaction guards stay guarded through every call of a lock table, by whomever, its own
 //! rollback included, in lists of keys and in indexes of pairs; an insertion is made with its locks in one step; and it is told which
-//! calls can close a cycle of waits, and how rounds end all cycles.
-//! Each function has an empty body, and its contract is the law, but for `take_new`, which makes two calls. No engine takes such locks yet.
+//! calls can close a cycle of waits, how rounds end all cycles, and how a wait has ended.
+//! Each function has an empty body, and its contract is the law, but for `take_new`, which makes a call. No engine takes such locks yet.
 #![tactic(auto)]
 
 mod alone;
@@ -10,6 +10,7 @@ mod closing;
 mod guards;
 mod index;
 mod insertions;
+mod outcomes;
 mod pins;
 mod rooms;
 mod searching;
@@ -36,6 +37,9 @@ pub use index::{
 pub use insertions::{
     it_is_an_insertion, it_keeps_guards, nobody_else_guarded_the_new_key,
     room_lasts_behind_the_intention, the_inserter_has_the_record_alone,
+};
+pub use outcomes::{
+    requests_served_are_told, requests_taken_back_are_told, requests_whose_record_went_are_told,
 };
 pub use pins::{
     changes_keep_what_is_guarded, insertions_keep_what_is_guarded,

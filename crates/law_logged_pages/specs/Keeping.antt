@@ -1,6 +1,7 @@
 -- What a disk holds of the pages of a run at a moment, and what recovery makes of whatever a crash leaves then.
 use Rattle.std.specs.Prelude.{◌≡◌, ◌⊎◌, ℕ, ◌+◌, ◌-◌, ◌<◌, ◌≤◌, IsTrue, Option, None, List, length, take}
 use Rattle.store_api.specs.Areas.{State, Image, IsImage, IsHonest}
+use Rattle.store_api.specs.declared.limits.TheConstants.{MOST_PAGES}
 use Rattle.stored_pages.specs.Words.{lsn_of}
 use Rattle.log_format.specs.declared.group.Group.{Group}
 use Rattle.log_format.specs.Group.{AreGroups}
@@ -24,7 +25,7 @@ durable first flushed = flushed + 1 - first
 -- Whatever a crash leaves, its log holds the flushed groups and maybe more, and each page is found at one of its stages up to them.
 pub record Keeps (run first flushed : ℕ) (groups : List Group) (base : ℕ → List ℕ) (s : State) : Type 0 where
   pub log : LeavesPrefix run first groups flushed s.log
-  pub pages : (image : Image) → IsImage s image → IsHonest s image → (page : ℕ) (content : Option (List ℕ)) → page < 65536
+  pub pages : (image : Image) → IsImage s image → IsHonest s image → (page : ℕ) (content : Option (List ℕ)) → page < MOST_PAGES
       → IsPageIn image.pages image.double page content → IsStage base groups (durable first flushed) page content
 
 -- Its log is scanned to the first so many groups, among them the flushed ones, and these bring each page that is found on
@@ -34,9 +35,9 @@ pub record Recovers (run first flushed : ℕ) (groups : List Group) (base : ℕ 
   pub some : count ≤ length groups
   pub all_flushed : durable first flushed ≤ count
   pub scan : IsScan run first image.log (take count groups)
-  pub pages : (page : ℕ) (content : Option (List ℕ)) → page < 65536 → IsPageIn image.pages image.double page content
+  pub pages : (page : ℕ) (content : Option (List ℕ)) → page < MOST_PAGES → IsPageIn image.pages image.double page content
       → SameButSum (page_after page (take count groups) (or_zeros content)) (logical base groups count page)
-  pub made : (page : ℕ) → page < 65536 → IsPageIn image.pages image.double page None → IsTrue (begins_fresh page (records_in (take count groups)))
+  pub made : (page : ℕ) → page < MOST_PAGES → IsPageIn image.pages image.double page None → IsTrue (begins_fresh page (records_in (take count groups)))
 
 -- ---- where pages are placed
 
@@ -47,9 +48,9 @@ pub record IsOldCopy (base : ℕ → List ℕ) (groups : List Group) (count page
 
 -- No batch is under way: each page was good in its place for good, or has no copy. What stands there are stages, and copies are old.
 pub record IsPlaced (first flushed : ℕ) (groups : List Group) (base : ℕ → List ℕ) (s : State) : Type 0 where
-  pub stages : (page : ℕ) (content : Option (List ℕ)) → page < 65536 → WasPage s page content → IsStage base groups (durable first flushed) page content
-  pub settled : (page : ℕ) → page < 65536 → IsSettled page s.pages ⊎ ((bytes : List ℕ) → HadCopy page s.double bytes → ⊥)
-  pub copies : (page : ℕ) (bytes : List ℕ) → page < 65536 → HadCopy page s.double bytes → IsOldCopy base groups (durable first flushed) page bytes
+  pub stages : (page : ℕ) (content : Option (List ℕ)) → page < MOST_PAGES → WasPage s page content → IsStage base groups (durable first flushed) page content
+  pub settled : (page : ℕ) → page < MOST_PAGES → IsSettled page s.pages ⊎ ((bytes : List ℕ) → HadCopy page s.double bytes → ⊥)
+  pub copies : (page : ℕ) (bytes : List ℕ) → page < MOST_PAGES → HadCopy page s.double bytes → IsOldCopy base groups (durable first flushed) page bytes
 
 -- The batch's pages are what they are after all groups, and log before page: the last of these that changed them is flushed.
 pub record IsLoggedBefore (flushed : ℕ) (groups : List Group) (base : ℕ → List ℕ) (batch : BatchView) : Type 0 where
@@ -63,5 +64,5 @@ pub record MayBePlaced (first flushed : ℕ) (groups : List Group) (base : ℕ �
   pub is_batch : IsBatch batch
   pub are_bytes : (page : ℕ) (bytes : List ℕ) → IsInBatch batch page bytes → AreBytes 8 bytes
   pub stages : (page : ℕ) (bytes : List ℕ) → IsInBatch batch page bytes → WasOnce base groups (durable first flushed) page bytes
-  pub older : (page : ℕ) (bytes other : List ℕ) → page < 65536 → IsInBatch batch page bytes → HadCopy page before.double other
+  pub older : (page : ℕ) (bytes other : List ℕ) → page < MOST_PAGES → IsInBatch batch page bytes → HadCopy page before.double other
       → (other ≡ bytes) ⊎ (lsn_of other < lsn_of bytes)

@@ -1,6 +1,7 @@
 -- What the pages of a run read as: databases after some of its commits. D are the databases.
 use Rattle.std.specs.Prelude.{◌≡◌, ℕ, ◌<◌, ◌≤◌, Option, List, length}
 use Rattle.store_api.specs.Areas.{Image}
+use Rattle.store_api.specs.declared.limits.TheConstants.{MOST_PAGES}
 use Rattle.log_format.specs.declared.group.Group.{Group}
 use Rattle.log_format.specs.Scan.{IsScan}
 use Rattle.law_logged_pages.specs.Applied.{page_after, logical}
@@ -9,7 +10,7 @@ use Rattle.law_logged_pages.specs.Keeping.{durable}
 
 -- a way to read pages that looks at no sum
 pub record IgnoresSums {D : Type 0} (Reads : (ℕ → List ℕ) → D → Type 0) : Type 0 where
-  pub same : (a b : ℕ → List ℕ) → ((page : ℕ) → page < 65536 → SameButSum (a page) (b page)) → (d : D) → Reads b d → Reads a d
+  pub same : (a b : ℕ → List ℕ) → ((page : ℕ) → page < MOST_PAGES → SameButSum (a page) (b page)) → (d : D) → Reads b d → Reads a d
 
 -- The pages after each number of groups, from the flushed ones on, read as the database after so many commits as these
 -- groups hold. All groups hold all commits, and the flushed ones hold those that were acknowledged.

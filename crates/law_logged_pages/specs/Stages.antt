@@ -1,6 +1,7 @@
 -- Which contents of a page its groups of the log bring on to what it is.
 use Rattle.std.specs.Prelude.{◌≡◌, ℕ, ◌<◌, ◌≤◌, Bool, true, false, IsTrue, ◌==◌, if◌then◌else◌, Option, Some, None, List, [], ◌∷◌, length, drop, slice_index}
 use Rattle.std.specs.List.{flat_map}
+use Rattle.stored_pages.specs.declared.layout.TheConstants.{PAGE}
 use Rattle.stored_pages.specs.Words.{lsn_of}
 use Rattle.log_format.specs.declared.group.Group.{Group}
 use Rattle.log_format.specs.declared.group.Record.{Record}
@@ -19,7 +20,7 @@ AreBytes count bytes = (i : ℕ) → i < count → slice_index bytes i < 256
 
 -- a whole page, which no group of a run has changed that begins with this LSN
 pub record IsBase (first : ℕ) (bytes : List ℕ) : Type 0 where
-  pub size : length bytes ≡ 4096
+  pub size : length bytes ≡ PAGE
   pub before : lsn_of bytes < first
 
 -- of the records of that page the first one, if any, makes it zeros

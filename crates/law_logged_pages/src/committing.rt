@@ -2,6 +2,7 @@
 //! them. It is of one page at a time, and nothing in it meets the disk.
 
 ghost use Rattle.std.specs.Prelude.{◌≡◌, ℕ, ◌+◌, true, false, List, [], ◌∷◌, ◌++◌, length};
+ghost use Rattle.stored_pages.specs.declared.layout.TheConstants.{PAGE};
 ghost use Rattle.log_format.specs.declared.group.Group.{Group as GroupValue};
 ghost use Rattle.log_format.specs.Group.{AreGroups};
 ghost use Rattle.law_logged_pages.specs.Applied.{names, logical};
@@ -11,7 +12,7 @@ ghost use Rattle.law_logged_pages.specs.Committing.{IsCommitted, MayBe};
 /// A page that the group names is the next one, and each other page stays.
 pub fn a_commit_makes_the_next_pages()
     ensures named { (first page : ℕ) (groups : List GroupValue) (g : GroupValue) (base : ℕ → List ℕ) (old new : List ℕ)
-        → AreGroups first (groups ++ g ∷ []) → IsBase first (base page) → length old ≡ 4096
+        → AreGroups first (groups ++ g ∷ []) → IsBase first (base page) → length old ≡ PAGE
         → MayBe page g (logical base groups (length groups) page) old → names page g ≡ true → IsCommitted page g old new
         → SameButSum new (logical base (groups ++ g ∷ []) (length groups + 1) page) }
     ensures others { (first page : ℕ) (groups : List GroupValue) (g : GroupValue) (base : ℕ → List ℕ)

@@ -3,6 +3,7 @@
 
 ghost use Rattle.std.specs.Prelude.{◌≡◌, ◌≢◌, ℕ, Some, None, List};
 ghost use Rattle.store_api.specs.Areas.{State, Image, IsImage, IsHonest};
+ghost use Rattle.stored_pages.specs.declared.layout.TheConstants.{MAGIC, RUN, FIRST_LSN};
 ghost use Rattle.stored_pages.specs.Words.{u64_at};
 ghost use Rattle.log_format.specs.declared.group.Group.{Group as GroupValue};
 ghost use Rattle.log_format.specs.Group.{AreGroups};
@@ -22,8 +23,8 @@ pub fn an_image_says_its_run()
     ensures says { (run first flushed : ℕ) (groups : List GroupValue) (base : ℕ → List ℕ) (s : State) (image : Image) (bytes : List ℕ)
         → IsRun first groups base → SpareHead groups → Keeps run first flushed groups base s → IsImage s image → IsHonest s image
         → IsPageIn image.pages image.double 0 (Some bytes)
-        → (u64_at 32 bytes ≡ u64_at 32 (base 0)) × (u64_at 48 bytes ≡ u64_at 48 (base 0)) × (u64_at 56 bytes ≡ u64_at 56 (base 0)) }
+        → (u64_at MAGIC bytes ≡ u64_at MAGIC (base 0)) × (u64_at RUN bytes ≡ u64_at RUN (base 0)) × (u64_at FIRST_LSN bytes ≡ u64_at FIRST_LSN (base 0)) }
     ensures found { (run first flushed : ℕ) (groups : List GroupValue) (base : ℕ → List ℕ) (s : State) (image : Image)
-        → u64_at 32 (base 0) ≢ 0 → Keeps run first flushed groups base s → IsImage s image → IsHonest s image
+        → u64_at MAGIC (base 0) ≢ 0 → Keeps run first flushed groups base s → IsImage s image → IsHonest s image
         → IsPageIn image.pages image.double 0 None → ⊥ }
 {}

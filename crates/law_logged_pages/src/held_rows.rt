@@ -3,6 +3,7 @@
 
 ghost use Rattle.std.specs.Prelude.{◌≡◌, ℕ, ◌<◌, ◌≤◌, Option, List, ◌++◌, length};
 ghost use Rattle.store_api.specs.Areas.{State, Image, IsImage, IsHonest};
+ghost use Rattle.store_api.specs.declared.limits.TheConstants.{MOST_PAGES};
 ghost use Rattle.log_format.specs.declared.group.Group.{Group as GroupValue};
 ghost use Rattle.stored_pages.specs.Reading.{IsPageIn};
 ghost use Rattle.law_logged_pages.specs.Applied.{logical};
@@ -30,6 +31,6 @@ pub fn held_rows_outlast_a_crash()
         (base : ℕ → List ℕ) (s : State) (image : Image) (found : ℕ → Option (List ℕ)) → IgnoresSums (read_by show)
         → IsRun first groups base → ReadsAlong (read_by show) after commits acked first flushed groups base
         → Keeps run first flushed groups base s → IsImage s image → IsHonest s image
-        → ((page : ℕ) → page < 65536 → IsPageIn image.pages image.double page (found page))
+        → ((page : ℕ) → page < MOST_PAGES → IsPageIn image.pages image.double page (found page))
         → HoldsCommits (read_by show) after commits acked run first image found }
 {}

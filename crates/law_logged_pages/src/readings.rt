@@ -3,6 +3,7 @@
 
 ghost use Rattle.std.specs.Prelude.{◌≡◌, ℕ, ◌+◌, ◌<◌, ◌≤◌, Option, List, ◌++◌, length};
 ghost use Rattle.store_api.specs.Areas.{State, Image, IsImage, IsHonest};
+ghost use Rattle.store_api.specs.declared.limits.TheConstants.{MOST_PAGES};
 ghost use Rattle.inno_db.specs.Database.{Database};
 ghost use Rattle.log_format.specs.declared.group.Group.{Group as GroupValue};
 ghost use Rattle.stored_pages.specs.Reading.{IsPageIn};
@@ -21,7 +22,7 @@ pub fn a_crash_leaves_some_commits<R: PageReading>()
         (groups : List GroupValue) (base : ℕ → List ℕ) (s : State) (image : Image) (found : ℕ → Option (List ℕ))
         → IgnoresSums R.reads → IsRun first groups base → ReadsAlong R.reads after commits acked first flushed groups base
         → Keeps run first flushed groups base s → IsImage s image → IsHonest s image
-        → ((page : ℕ) → page < 65536 → IsPageIn image.pages image.double page (found page))
+        → ((page : ℕ) → page < MOST_PAGES → IsPageIn image.pages image.double page (found page))
         → HoldsCommits R.reads after commits acked run first image found }
 {}
 

@@ -3,6 +3,8 @@
 use Rattle.std.specs.Prelude.{◌≡◌, ◌≢◌, ℕ, ◌<◌, ◌≤◌, false, Option, Some, None, List}
 use Rattle.store_api.specs.Areas.{State, Image, IsImage, IsHonest, seen_image}
 use Rattle.store_api.specs.Past.{Past, Ticks}
+use Rattle.stored_pages.specs.declared.layout.TheConstants.{MAGIC, RUN, FIRST_LSN}
+use Rattle.store_api.specs.declared.limits.TheConstants.{MOST_PAGES}
 use Rattle.inno_db.specs.Database.{Database}
 use Rattle.inno_model.specs.declared.event.Event.{Event}
 use Rattle.inno_model.specs.Past.{opening, commits, db_after}
@@ -22,7 +24,7 @@ use Rattle.law_read_pages.specs.Stores.{Store, HoldsStore}
 pub record SaysRun (magic run first : ℕ) (image : Image) : Type 0 where
   pub there : IsPageIn image.pages image.double 0 None → ⊥
   pub each : (bytes : List ℕ) → IsPageIn image.pages image.double 0 (Some bytes)
-      → (u64_at 32 bytes ≡ magic) × (u64_at 48 bytes ≡ run) × (u64_at 56 bytes ≡ first)
+      → (u64_at MAGIC bytes ≡ magic) × (u64_at RUN bytes ≡ run) × (u64_at FIRST_LSN bytes ≡ first)
 
 -- files whose pages, brought on by the groups of the log, read as this database
 pub record StandsFor (image : Image) (db : Database) : Type 0 where
@@ -32,7 +34,7 @@ pub record StandsFor (image : Image) (db : Database) : Type 0 where
   pub groups : List Group
   pub says : SaysRun magic of_run begins image
   pub scan : IsScan of_run begins image.log groups
-  pub reads : (found : ℕ → Option (List ℕ)) → ((page : ℕ) → page < 65536 → IsPageIn image.pages image.double page (found page))
+  pub reads : (found : ℕ → Option (List ℕ)) → ((page : ℕ) → page < MOST_PAGES → IsPageIn image.pages image.double page (found page))
       → ReadAsDb (λ page. page_after page groups (or_zeros (found page))) db
 
 pub record Files (root now : Past) (db : Database) : Type 0 where
@@ -63,9 +65,9 @@ pub record IsDurable (root : Past) (past : List Event) (s : Store) : Type 0 wher
   pub base : ℕ → List ℕ
   pub acked : ℕ
   pub all_acked : (m : ℕ) → acked_by m past ≤ acked
-  pub magic : u64_at 32 (base 0) ≢ 0
-  pub run_is : s.failed ≡ false → u64_at 48 (base 0) ≡ s.log.run
-  pub first_is : u64_at 56 (base 0) ≡ first
+  pub magic : u64_at MAGIC (base 0) ≢ 0
+  pub run_is : s.failed ≡ false → u64_at RUN (base 0) ≡ s.log.run
+  pub first_is : u64_at FIRST_LSN (base 0) ≡ first
   pub holds : s.failed ≡ false → HoldsStore first groups base s
   pub along : s.failed ≡ false → ReadsAlong ReadAsDb (λ n. db_after n past) (commits past) acked first s.log.flushed groups base
   pub keeps : KeepsSince root s.disk past

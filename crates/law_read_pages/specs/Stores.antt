@@ -2,6 +2,7 @@
 -- `Durable` speaks of such files. No engine that runs keeps its rows in pages yet.
 use Rattle.std.specs.Prelude.{◌≡◌, ℕ, ◌+◌, ◌<◌, ◌≤◌, Bool, true, false, List, ◌++◌, length, None}
 use Rattle.store_api.specs.Past.{Past, Now, Meanwhile}
+use Rattle.store_api.specs.declared.limits.TheConstants.{MOST_PAGES}
 use Rattle.log_format.specs.declared.group.Group.{Group}
 use Rattle.redo_log.specs.View.{LogView}
 use Rattle.law_logged_pages.specs.Applied.{logical}
@@ -24,7 +25,7 @@ pub record HoldsStore (first : ℕ) (groups : List Group) (base : ℕ → List �
   pub heads : SpareHead groups
   pub holds : Now (HoldsRun first groups base None s.log) s.disk
   pub within : s.log.flushed < first + length groups
-  pub newest : (page : ℕ) → page < 65536 → SameButSum (logical base groups (length groups) page) (s.pages page)
+  pub newest : (page : ℕ) → page < MOST_PAGES → SameButSum (logical base groups (length groups) page) (s.pages page)
 
 -- A step has appended one group, or none; before that it may have flushed what was there.
 pub record Appends (first : ℕ) (groups : List Group) (base : ℕ → List ℕ) (old new : Store) : Type 0 where

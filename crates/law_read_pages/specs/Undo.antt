@@ -2,6 +2,7 @@
 -- Recovery is to ask no more than this of pages: nothing that stood in memory alone.
 use Rattle.std.specs.Prelude.{◌≡◌, ℕ, zero, suc, ◌+◌, ◌*◌, ◌<◌, Bool, false, ◌==◌, ◌&&◌, ◌||◌, not, if◌then◌else◌, Option, Some, List, length, take, drop}
 use Rattle.std.specs.Prelude.{slice_index, nat_lt}
+use Rattle.store_api.specs.declared.limits.TheConstants.{MOST_PAGES}
 use Rattle.inno_db.specs.Database.{Database}
 use Rattle.stored_pages.specs.Words.{u16_at, u32_at, u64_at}
 use Rattle.row_versions.specs.declared.kept.Kept.{Kept}
@@ -11,7 +12,7 @@ use Rattle.law_read_pages.specs.Pages.{StandForDb}
 
 -- the pages of a file, without what a commit and a flush write in front of them
 abbrev pub bare_pages : (ℕ → List ℕ) → ℕ → List ℕ
-bare_pages pages page = if nat_lt page 65536 then body_of (pages page) else blank
+bare_pages pages page = if nat_lt page MOST_PAGES then body_of (pages page) else blank
 
 -- At this place of the page stands the record that keeps this version.
 pub record HoldsRecord (page : List ℕ) (at : ℕ) (kept : Kept) : Type 0 where

@@ -1,4 +1,5 @@
 pub mod Results
+pub mod Requests
 pub mod Sound
 pub mod Indexed
 pub mod Logs

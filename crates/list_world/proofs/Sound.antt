@@ -12,7 +12,7 @@ use Rattle.world_parts.specs.Owed.{owed_of, owed_by_all, puts_of, puts_of_all}
 use Rattle.world_parts.specs.Holding.{AreApart, HaveBegun, txn_in, txn_at}
 use Rattle.row_versions.specs.declared.kept.Kept.{Kept}
 use Rattle.world_parts.specs.Slots.{filled_if}
-use Rattle.list_world.specs.Parts.{Parts, HasSlot, ArePromised, IsSound}
+use Rattle.list_world.specs.Parts.{Parts, Queue, HasSlot, ArePromised, IsSound}
 use Rattle.world_parts.proofs.Places.{get_set_here, get_set_elsewhere, element, kept_taken, kept_past, kept_elsewhere}
 
 -- a session of a world, as it stands in its parts
@@ -157,17 +157,18 @@ promised_filled slots sessions s old new kept promised there room spent = record
 -- ---- the whole
 
 -- One session is another now, which has opened nothing, and what is owed to it has changed by so much.
-pub sound_set : (room rows tables indexes : ℕ) (slots : List (Option Kept)) (begun : ℕ) (sessions : List Session) (s : ℕ) (old new : Session)
+pub sound_set : (room rows tables indexes : ℕ) (slots : List (Option Kept)) (begun : ℕ) (queue : Queue) (sessions : List Session) (s : ℕ) (old new : Session)
     (room' rows' : ℕ) (slots' : List (Option Kept))
-    → IsSound room rows tables indexes slots begun sessions → slice_get sessions s ≡ Some old
+    → IsSound room rows tables indexes slots begun queue sessions → slice_get sessions s ≡ Some old
     → OpensNone old new → ArePromised slots' (slice_set sessions s new)
-    → owed_by_all sessions + owed_of new ≤ room' + owed_of old → owed_by_all sessions + owed_of new < 2 ^ 64 + owed_of old
+    → owed_by_all sessions + queue.requests + owed_of new ≤ room' + owed_of old → owed_by_all sessions + queue.requests + owed_of new < 2 ^ 64 + owed_of old
     → rows' + (puts_of_all sessions + puts_of new) < 2 ^ 64 + puts_of old
-    → IsSound room' rows' tables indexes slots' begun (slice_set sessions s new)
-sound_set room rows tables indexes slots begun sessions s old new room' rows' slots' sound there opens promised enough small counted = record {
+    → IsSound room' rows' tables indexes slots' begun queue (slice_set sessions s new)
+sound_set room rows tables indexes slots begun queue sessions s old new room' rows' slots' sound there opens promised enough small counted = record {
   few = rw length-set sound.few;
   enough = omega (arith, sum_set owed_of sessions s old new there, enough);
   small = omega (arith, sum_set owed_of sessions s old new there, small);
+  victims = sound.victims;
   counted = omega (arith, sum_set puts_of sessions s old new there, counted);
   apart =
       λ a b txn at-a at-b. sound.apart a b txn (opens_none_at sessions s a txn old new there opens at-a)
@@ -178,28 +179,55 @@ sound_set room rows tables indexes slots begun sessions s old new room' rows' sl
 }
 
 -- One session is another now, to which no more is owed, and all else but slots is as it was.
-pub sound_quiet : (room rows tables indexes : ℕ) (slots : List (Option Kept)) (begun : ℕ) (sessions : List Session) (s : ℕ) (old new : Session)
+pub sound_quiet : (room rows tables indexes : ℕ) (slots : List (Option Kept)) (begun : ℕ) (queue : Queue) (sessions : List Session) (s : ℕ) (old new : Session)
     (slots' : List (Option Kept))
-    → IsSound room rows tables indexes slots begun sessions → slice_get sessions s ≡ Some old
+    → IsSound room rows tables indexes slots begun queue sessions → slice_get sessions s ≡ Some old
     → OpensNone old new → ArePromised slots' (slice_set sessions s new) → owed_of new ≤ owed_of old → puts_of new ≡ puts_of old
-    → IsSound room rows tables indexes slots' begun (slice_set sessions s new)
-sound_quiet room rows tables indexes slots begun sessions s old new slots' sound there opens promised owes puts =
-    sound_set room rows tables indexes slots begun sessions s old new room rows slots' sound there opens promised
+    → IsSound room rows tables indexes slots' begun queue (slice_set sessions s new)
+sound_quiet room rows tables indexes slots begun queue sessions s old new slots' sound there opens promised owes puts =
+    sound_set room rows tables indexes slots begun queue sessions s old new room rows slots' sound there opens promised
     (omega (arith, sound.enough, owes)) (omega (arith, sound.small, owes)) (omega (arith, sound.counted, puts))
 
-pub sound_taken : (room rows tables indexes : ℕ) (slots : List (Option Kept)) (begun : ℕ) (sessions : List Session)
-    → IsSound room rows tables indexes slots begun sessions
-    → IsSound room rows tables indexes (slots ++ None ∷ []) begun sessions
-sound_taken room rows tables indexes slots begun sessions sound = record {
+pub sound_taken : (room rows tables indexes : ℕ) (slots : List (Option Kept)) (begun : ℕ) (queue : Queue) (sessions : List Session)
+    → IsSound room rows tables indexes slots begun queue sessions
+    → IsSound room rows tables indexes (slots ++ None ∷ []) begun queue sessions
+sound_taken room rows tables indexes slots begun queue sessions sound = record {
   few = sound.few;
   enough = sound.enough;
   small = sound.small;
+  victims = sound.victims;
   counted = sound.counted;
   apart = sound.apart;
   are_begun = sound.are_begun;
   promised = promised_more slots sessions sound.promised;
   numbered = sound.numbered;
 }
+
+-- There are no more requests than before, or the history has room for each that has come.
+pub sound_queue : (room rows tables indexes : ℕ) (slots : List (Option Kept)) (begun : ℕ) (queue : Queue) (sessions : List Session) (room' : ℕ) (queue' : Queue)
+    → IsSound room rows tables indexes slots begun queue sessions
+    → owed_by_all sessions + queue'.requests ≤ room' → owed_by_all sessions + queue'.requests < 2 ^ 64 → queue'.fallen + queue'.requests ≤ queue'.places
+    → IsSound room' rows tables indexes slots begun queue' sessions
+sound_queue room rows tables indexes slots begun queue sessions room' queue' sound enough small victims = record {
+  few = sound.few;
+  enough = enough;
+  small = small;
+  victims = victims;
+  counted = sound.counted;
+  apart = sound.apart;
+  are_begun = sound.are_begun;
+  promised = sound.promised;
+  numbered = sound.numbered;
+}
+
+-- there are no more requests than before
+pub sound_fewer : (room rows tables indexes : ℕ) (slots : List (Option Kept)) (begun : ℕ) (queue : Queue) (sessions : List Session) (queue' : Queue)
+    → IsSound room rows tables indexes slots begun queue sessions
+    → queue'.requests ≤ queue.requests → queue'.fallen ≤ queue.fallen → queue.places ≤ queue'.places
+    → IsSound room rows tables indexes slots begun queue' sessions
+sound_fewer room rows tables indexes slots begun queue sessions queue' sound requests fallen places =
+    sound_queue room rows tables indexes slots begun queue sessions room queue' sound (omega (arith, sound.enough, requests))
+    (omega (arith, sound.small, requests)) (omega (arith, sound.victims, requests, fallen, places))
 
 -- ---- a transaction that begins
 
@@ -232,14 +260,15 @@ begun_all sessions s begun old new there opened all a txn at-a =
       | inr was ↦ omega (arith, all a txn was)
     ]
 
-pub sound_begun : (room rows tables indexes : ℕ) (slots : List (Option Kept)) (begun : ℕ) (sessions : List Session) (s : ℕ) (old new : Session)
-    → IsSound room rows tables indexes slots begun sessions → slice_get sessions s ≡ Some old
+pub sound_begun : (room rows tables indexes : ℕ) (slots : List (Option Kept)) (begun : ℕ) (queue : Queue) (sessions : List Session) (s : ℕ) (old new : Session)
+    → IsSound room rows tables indexes slots begun queue sessions → slice_get sessions s ≡ Some old
     → txn_of new.work ≡ Some (begun + 1) → ArePromised slots (slice_set sessions s new) → owed_of new ≤ owed_of old → puts_of new ≡ puts_of old
-    → IsSound room rows tables indexes slots (begun + 1) (slice_set sessions s new)
-sound_begun room rows tables indexes slots begun sessions s old new sound there opened promised owes puts = record {
+    → IsSound room rows tables indexes slots (begun + 1) queue (slice_set sessions s new)
+sound_begun room rows tables indexes slots begun queue sessions s old new sound there opened promised owes puts = record {
   few = rw length-set sound.few;
   enough = omega (arith, sum_set owed_of sessions s old new there, sound.enough, owes);
   small = omega (arith, sum_set owed_of sessions s old new there, sound.small, owes);
+  victims = sound.victims;
   counted = omega (arith, sum_set puts_of sessions s old new there, sound.counted, puts);
   apart = begun_apart sessions s begun old new there opened sound.apart sound.are_begun;
   are_begun = begun_all sessions s begun old new there opened sound.are_begun;
@@ -250,13 +279,14 @@ sound_begun room rows tables indexes slots begun sessions s old new sound there 
 -- ---- the calls of the engine
 
 -- there is a table more
-pub sound_tables : (room rows tables indexes : ℕ) (slots : List (Option Kept)) (begun : ℕ) (sessions : List Session) (tables' indexes' : ℕ)
-    → IsSound room rows tables indexes slots begun sessions
-    → indexes' ≡ 8 * tables' → IsSound room rows tables' indexes' slots begun sessions
-sound_tables room rows tables indexes slots begun sessions tables' indexes' sound numbered = record {
+pub sound_tables : (room rows tables indexes : ℕ) (slots : List (Option Kept)) (begun : ℕ) (queue : Queue) (sessions : List Session) (tables' indexes' : ℕ)
+    → IsSound room rows tables indexes slots begun queue sessions
+    → indexes' ≡ 8 * tables' → IsSound room rows tables' indexes' slots begun queue sessions
+sound_tables room rows tables indexes slots begun queue sessions tables' indexes' sound numbered = record {
   few = sound.few;
   enough = sound.enough;
   small = sound.small;
+  victims = sound.victims;
   counted = sound.counted;
   apart = sound.apart;
   are_begun = sound.are_begun;
@@ -284,14 +314,15 @@ joined_txn sessions new t txn idle at =
       | inr was ↦ ap txn_in was ∙ found.2
     ]
 
-pub sound_joined : (room rows tables indexes : ℕ) (slots : List (Option Kept)) (begun : ℕ) (sessions : List Session) (new : Session)
-    → IsSound room rows tables indexes slots begun sessions
+pub sound_joined : (room rows tables indexes : ℕ) (slots : List (Option Kept)) (begun : ℕ) (queue : Queue) (sessions : List Session) (new : Session)
+    → IsSound room rows tables indexes slots begun queue sessions
     → length sessions < 68 → new.work ≡ None → new.undo_room ≡ 0 → owed_of new ≡ 0 → puts_of new ≡ 0
-    → IsSound room rows tables indexes slots begun (sessions ++ new ∷ [])
-sound_joined room rows tables indexes slots begun sessions new sound few idle spent owes puts = record {
+    → IsSound room rows tables indexes slots begun queue (sessions ++ new ∷ [])
+sound_joined room rows tables indexes slots begun queue sessions new sound few idle spent owes puts = record {
   few = omega (arith, length-append sessions (new ∷ []), few);
   enough = omega (arith, sum_by_push owed_of sessions new, owes, sound.enough);
   small = omega (arith, sum_by_push owed_of sessions new, owes, sound.small);
+  victims = sound.victims;
   counted = omega (arith, sum_by_push puts_of sessions new, puts, sound.counted);
   apart = λ a b txn at-a at-b. sound.apart a b txn (joined_txn sessions new a txn idle at-a) (joined_txn sessions new b txn idle at-b);
   are_begun = λ a txn at-a. sound.are_begun a txn (joined_txn sessions new a txn idle at-a);

@@ -1,10 +1,14 @@
 -- What a world in memory is made of, and the world that statements see of it.
-use Rattle.std.specs.Prelude.{◌≡◌, ℕ, ◌+◌, ◌*◌, ◌<◌, ◌≤◌, ◌^◌, List, length, slice_get, Option, None, Some}
+use Rattle.std.specs.Prelude.{◌≡◌, ℕ, ◌+◌, ◌*◌, ◌<◌, ◌≤◌, ◌^◌, List, length, slice_get, vec_capacity, Option, None, Some}
+use Rattle.std.specs.declared.vec.Vec.{Vec}
+use Rattle.std.specs.declared.alloc.Global.{Global}
 use Rattle.inno_types.specs.declared.value.Schema.{Schema}
 use Rattle.inno_model.specs.declared.event.Event.{Event}
 use Rattle.entries.specs.Index.{Index}
 use Rattle.entries.specs.declared.list_index.ListIndex.{ListIndex}
 use Rattle.entries.specs.Lists.{shown, empty_index}
+use Rattle.inno_types.specs.declared.lock.Lock.{Lock}
+use Rattle.lock_table.specs.View.{Table}
 use Rattle.row_versions.specs.declared.kept.Kept.{Kept}
 use Rattle.txn_table.specs.Txns.{Txns}
 use Rattle.world.specs.State.{WorldState, Session}
@@ -23,6 +27,8 @@ pub record Parts : Type 0 where
   pub slots : List (Option Kept)
   pub txns : Txns
   pub sessions : List Session
+  pub locks : Table
+  pub fallen : List ℕ
 
 abbrev pub index_of_list : Option ListIndex → Index
 index_of_list None = empty_index
@@ -44,6 +50,8 @@ world_of parts =
           parts.slots;
       txns = parts.txns;
       sessions = parts.sessions;
+      locks = parts.locks;
+      fallen = parts.fallen;
       paged = None;
     }
 
@@ -59,13 +67,23 @@ pub record ArePromised (slots : List (Option Kept)) (sessions : List Session) : 
   pub apart : (s t : ℕ) (one other : Session) → slice_get sessions s ≡ Some one → slice_get sessions t ≡ Some other
       → 0 < one.undo_room → 0 < other.undo_room → one.next_pointer ≡ other.next_pointer → s ≡ t
 
+-- how many requests wait, how many victims have not ended, and for how many victims there is memory
+pub record Queue : Type 0 where
+  pub requests : ℕ
+  pub fallen : ℕ
+  pub places : ℕ
+
+abbrev pub queue_of : List Lock → Vec ℕ Global → Queue
+queue_of waiting fallen = record { requests = length waiting; fallen = length fallen.items; places = vec_capacity fallen }
+
 -- What holds of a world at all times, with so much room in its history, so many rows, tables and indexes, such slots,
--- and so many transactions begun.
-pub record IsSound (room rows tables indexes : ℕ) (slots : List (Option Kept)) (begun : ℕ) (sessions : List Session) : Type 0 where
+-- so many transactions begun, and such a queue.
+pub record IsSound (room rows tables indexes : ℕ) (slots : List (Option Kept)) (begun : ℕ) (queue : Queue) (sessions : List Session) : Type 0 where
   pub few : length sessions ≤ 68
-  -- the history has room for all that is owed
-  pub enough : owed_by_all sessions ≤ room
-  pub small : owed_by_all sessions < 2 ^ 64
+  -- the history has room for all that is owed, and for each request to end as a victim
+  pub enough : owed_by_all sessions + queue.requests ≤ room
+  pub small : owed_by_all sessions + queue.requests < 2 ^ 64
+  pub victims : queue.fallen + queue.requests ≤ queue.places
   pub counted : rows + puts_of_all sessions < 2 ^ 64
   pub apart : AreApart sessions
   pub are_begun : HaveBegun sessions begun

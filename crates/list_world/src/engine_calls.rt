@@ -52,7 +52,12 @@ impl EngineWorld for ListWorld {
     }
 
     fn start(&mut self, s: u32, j: u32, item: Item) -> Result<(), NoMemory> {
-        take_room(&mut self.history, &self.sessions, 2)?;
+        take_room(
+            &mut self.history,
+            &self.sessions,
+            self.locks.requests().len(),
+            2,
+        )?;
         self.sessions[s as usize].let_reply(true);
         self.history.add(Event::Started { s, j, item });
         Ok(())
@@ -70,7 +75,12 @@ impl EngineWorld for ListWorld {
     }
 
     fn add_signal(&mut self, name: Bytes) -> Result<(), NoMemory> {
-        take_room(&mut self.history, &self.sessions, 1)?;
+        take_room(
+            &mut self.history,
+            &self.sessions,
+            self.locks.requests().len(),
+            1,
+        )?;
         self.history.add(Event::Signal { name });
         Ok(())
     }
@@ -84,7 +94,12 @@ impl EngineWorld for ListWorld {
             drop(schema);
             return Err(NoMemory);
         };
-        let Ok(()) = take_room(&mut self.history, &self.sessions, 2) else {
+        let Ok(()) = take_room(
+            &mut self.history,
+            &self.sessions,
+            self.locks.requests().len(),
+            2,
+        ) else {
             drop(schema);
             return Err(NoMemory);
         };

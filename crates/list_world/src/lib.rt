@@ -4,6 +4,7 @@
 
 mod engine_calls;
 mod list_world;
+mod lock_calls;
 mod logging;
 mod opening;
 mod world_calls;

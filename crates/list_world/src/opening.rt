@@ -10,10 +10,11 @@ use crate::list_world::ListWorld;
 use inno_db::{Db, INDEXES_OF_TABLE};
 use inno_model::{Event, History};
 use inno_types::{Listed, Schema};
+use lock_table::LockTable;
 use std::alloc::Global;
 use store_api::NoMemory;
 use txn_table::TxnTable;
-use world_parts::Slots;
+use world_parts::{Slots, take_room};
 
 impl ListWorld {
     /// A world without tables, which is yet to be opened. Nobody has joined.
@@ -29,6 +30,8 @@ impl ListWorld {
             slots: Slots::new(alloc),
             txns: TxnTable::new(alloc, 1)?,
             sessions: Vec::new(alloc),
+            locks: LockTable::new(alloc),
+            fallen: Vec::new(alloc),
         })
     }
 
@@ -51,7 +54,12 @@ impl ListWorld {
         ensures ok { OnOk result (world_of self.new ≡ with_opening db rows (world_of self.old)) }
         ensures err { OnErr result (world_of self.new ≡ world_of self.old) }
     {
-        self.history.reserve(1)?;
+        take_room(
+            &mut self.history,
+            &self.sessions,
+            self.locks.requests().len(),
+            1,
+        )?;
         self.history.add(Event::Opened { db });
         self.rows = rows;
         Ok(())

@@ -1,7 +1,8 @@
 //! The calls by which statements and rollback drive a world, in memory. Each ends at once, but where another actor
 //! is awaited or memory is wanting.
 
-ghost use Rattle.std.specs.Prelude.{◌≡◌, ◌+◌, ◌<◌, ◌^◌, true};
+ghost use Rattle.std.specs.Prelude.{◌≡◌, ◌+◌, ◌<◌, ◌^◌, true, vec_capacity};
+ghost use Rattle.lock_table.specs.View.{others, without_transaction};
 ghost use Rattle.world_parts.specs.Owed.{bit};
 
 use crate::list_world::ListWorld;
@@ -9,6 +10,7 @@ use entries::{Entries, PairBuffers};
 use inno_db::Change;
 use inno_model::Event;
 use inno_types::{Bytes, Ids, Level, Row, Schema, Value};
+use lock_table::LockTable;
 use row_versions::ChainBad;
 use store_api::{Move, NoMemory, Standing, Undo, Version, Visit};
 use world::{UndoRoom, World};
@@ -23,6 +25,16 @@ fn may_count(owed: bool, rows: u64) -> bool
     ensures sure { owed ≡ true → result ≡ true }
 {
     owed || rows < MANY_ROWS
+}
+
+/// The transaction has ended: its locks and its request go, and it is no victim any more.
+fn give_back(locks: &mut LockTable, fallen: &mut Vec<u64>, txn: u64)
+    ensures locks { locks.new ≡ without_transaction txn locks.old }
+    ensures items { fallen.new.items ≡ others txn fallen.old.items }
+    ensures room { vec_capacity fallen.new ≡ vec_capacity fallen.old }
+{
+    locks.release_all(txn);
+    fallen.retain(|other| *other != txn);
 }
 
 impl World for ListWorld {
@@ -161,6 +173,7 @@ impl World for ListWorld {
             unreachable!()
         };
         self.txns.end(txn);
+        give_back(&mut self.locks, &mut self.fallen, txn);
         self.history.add(Event::Committed { s });
         Move::Done
     }
@@ -170,6 +183,7 @@ impl World for ListWorld {
             unreachable!()
         };
         self.txns.end(txn);
+        give_back(&mut self.locks, &mut self.fallen, txn);
         self.history.add(Event::RolledBack { s });
         Move::Done
     }
@@ -182,14 +196,25 @@ impl World for ListWorld {
         if self.rows >= MANY_ROWS {
             return Err(NoMemory);
         }
-        take_room(&mut self.history, &self.sessions, 5)?;
+        take_room(
+            &mut self.history,
+            &self.sessions,
+            self.locks.requests().len(),
+            5,
+        )?;
         self.sessions[s as usize].let_begin_and_change();
         Ok(())
     }
 
     fn add_begin(&mut self, s: u32, txn: u64, level: Level) -> Result<(), NoMemory> {
         let owed = self.sessions[s as usize].can_begin();
-        take_room_unless(owed, &mut self.history, &self.sessions, 3)?;
+        take_room_unless(
+            owed,
+            &mut self.history,
+            &self.sessions,
+            self.locks.requests().len(),
+            3,
+        )?;
         self.sessions[s as usize].begun();
         self.history.add(Event::Begin { s, txn, level });
         Ok(())
@@ -197,7 +222,12 @@ impl World for ListWorld {
 
     fn add_view(&mut self, s: u32, active: &Ids, next: u64) -> Result<(), NoMemory> {
         let active = copy_ids(self.alloc, active)?;
-        take_room(&mut self.history, &self.sessions, 1)?;
+        take_room(
+            &mut self.history,
+            &self.sessions,
+            self.locks.requests().len(),
+            1,
+        )?;
         self.sessions[s as usize].keep_view(SeenIds { active, next });
         self.history.add(Event::View { s });
         Ok(())
@@ -208,7 +238,13 @@ impl World for ListWorld {
         if !may_count(owed, self.rows) {
             return Err(NoMemory);
         }
-        take_room_unless(owed, &mut self.history, &self.sessions, 2)?;
+        take_room_unless(
+            owed,
+            &mut self.history,
+            &self.sessions,
+            self.locks.requests().len(),
+            2,
+        )?;
         self.sessions[s as usize].changed();
         self.rows += 1;
         let change = Change::Put { table, row };
@@ -218,7 +254,13 @@ impl World for ListWorld {
 
     fn add_remove(&mut self, s: u32, table: u8, key: Value) -> Result<(), NoMemory> {
         let owed = self.sessions[s as usize].can_change();
-        take_room_unless(owed, &mut self.history, &self.sessions, 2)?;
+        take_room_unless(
+            owed,
+            &mut self.history,
+            &self.sessions,
+            self.locks.requests().len(),
+            2,
+        )?;
         self.sessions[s as usize].changed();
         let change = Change::Remove { table, key };
         self.history.add(Event::Changed { s, change });

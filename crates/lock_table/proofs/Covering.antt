@@ -23,8 +23,9 @@ use Rattle.lock_rules.specs.Coverage.{is_below, is_before, is_in_gap, stands_in,
 use Rattle.lock_rules.proofs.Booleans.{first, second, both, or_left, or_right, or_cases, or_false-left, or_false-right, implies, implied, true_false, split}
 use Rattle.lock_rules.proofs.Beside.{key_refl, key_same, spot_refl, spot_same}
 use Rattle.lock_table.specs.Queue.{serve, is_blocked}
-use Rattle.lock_table.specs.Records.{becomes_gap, is_undone, moved, left_by, elsewhere, copies, as_gap, after_removal}
+use Rattle.lock_table.specs.Records.{becomes_gap, is_undone, moved, left_by, elsewhere, uncovered, own_copies, copies, as_gap, after_removal}
 use Rattle.lock_table.proofs.Places.{all_filter}
+use Rattle.lock_table.proofs.Stronger.{GoesOver, one_txn, one_spot, stronger_gap, stronger_record, any_uncovered, any_moved}
 use Rattle.lock_table.specs.Coverage.{IsRemoval, IsInsertion, AreUpper, StandOnRecords, MayInsert}
 
 less_of : (o : Ordering) → is_lt o ≡ true → o ≡ Less
@@ -174,6 +175,20 @@ module _ (txn index : ℕ) (records : List (List ℕ)) (key : List ℕ) (w : Loc
       ]
       )
 
+-- a lock that covers another covers each key that it covers
+over : (txn index : ℕ) (records : List (List ℕ)) (key : List ℕ) → GoesOver (test txn index records key)
+over txn index records key held lock is has =
+    let was = covers_from txn index records key lock has in
+    let spot = one_spot held lock is in
+    covers_to txn index records key held (record {
+      own = ap (λ n. n == txn) (one_txn held lock is) ∙ was.own;
+      here = ap (λ (s : Spot). s.index == index) spot ∙ was.here;
+      how = elim was.how [
+        | inl gap ↦ inl (stronger_gap held lock is gap.0, subst (λ (s : Spot). IsInGap records s.key key) (sym spot) gap.1)
+        | inr own ↦ inr (stronger_record held lock is own.0, ap (λ (s : Spot). s.key) spot ∙ own.1)
+      ];
+    })
+
 gap_kind : (b : Bool) (kind : LockKind) → locks_gap (kind_at b kind) ≡ locks_gap kind
 gap_kind b Rec = refl
 gap_kind b Gap = refl
@@ -181,7 +196,7 @@ gap_kind true NextKey = refl
 gap_kind false NextKey = refl
 gap_kind b Intent = refl
 
-no_intent : (b : Bool) (kind : LockKind) → (locks_gap (kind_at b kind) ≡ true) ⊎ (locks_record (kind_at b kind) ≡ true) → is_intent kind ≡ false
+pub no_intent : (b : Bool) (kind : LockKind) → (locks_gap (kind_at b kind) ≡ true) ⊎ (locks_record (kind_at b kind) ≡ true) → is_intent kind ≡ false
 no_intent b Rec h = refl
 no_intent b Gap h = refl
 no_intent b NextKey h = refl
@@ -244,18 +259,18 @@ module _ (records : List (List ℕ)) (new_key : List ℕ) (new next : Spot) (ins
       ]
 
   still_covered : (ws : List Lock) → StandOnRecords new.index records ws → intention.txn ≡ inserter → intention.kind ≡ Intent → intention.spot ≡ next → list_any (λ held. conflicts held intention) ws ≡ false
-      → covered txn new.index records ws key ≡ true → (covered txn new.index (new_key ∷ records) ws key ≡ true) ⊎ (covered txn new.index (new_key ∷ records) (copies inserter new next ws) key ≡ true)
+      → covered txn new.index records ws key ≡ true → (covered txn new.index (new_key ∷ records) ws key ≡ true) ⊎ (covered txn new.index (new_key ∷ records) (own_copies inserter new next ws) key ≡ true)
   still_covered [] stand own kind spot free is = inl is
   still_covered (w ∷ ws) stand own kind spot free is =
       elim (or_cases (test txn new.index records key w) _ is) [
         | inr rest ↦ elim (still_covered ws stand.1 own kind spot (or_false-right (conflicts w intention) _ free) rest) [
           | inl now ↦ inl (or_right _ _ now)
-          | inr copied ↦ inr (any_cond _ _ _ (copies inserter new next ws) copied)
+          | inr copied ↦ inr (any_cond _ _ _ (own_copies inserter new next ws) copied)
         ]
         | inl this ↦ elim (one_covered w stand.0 own kind spot (or_false-left (conflicts w intention) _ free) (covers_from txn new.index records key w this)) [
           | inl now ↦ inl (or_left _ _ now)
           | inr copied ↦ inr (
-              subst (λ b. list_any (test txn new.index (new_key ∷ records) key) (cond b (as_gap (number_of CopiedOnInsert) new w ∷ copies inserter new next ws) (copies inserter new next ws)) ≡ true) (sym copied.0)
+              subst (λ b. list_any (test txn new.index (new_key ∷ records) key) (cond b (as_gap (number_of CopiedOnInsert) new w ∷ own_copies inserter new next ws) (own_copies inserter new next ws)) ≡ true) (sym copied.0)
               (or_left _ _ copied.1)
               )
         ]
@@ -266,10 +281,17 @@ module _ (records : List (List ℕ)) (new_key : List ℕ) (new next : Spot) (ins
   covered_after_insertion ws stand may is =
       elim (still_covered ws stand may.own may.kind may.spot may.free is) [
         | inl now ↦ any_in_front (test txn new.index (new_key ∷ records) key) ws (copies inserter new next ws) now
-        | inr copied ↦ any_behind (test txn new.index (new_key ∷ records) key) ws (copies inserter new next ws) copied
+        | inr copied ↦ any_uncovered (test txn new.index (new_key ∷ records) key) (over txn new.index (new_key ∷ records) key) ws (own_copies inserter new next ws) copied
       ]
 
 -- a record goes
+pub gone_apart : (records : List (List ℕ)) (gone_key : List ℕ) (gone next : Spot) → IsRemoval records gone_key gone next → same_spot next gone ≡ false
+gone_apart records gone_key gone next removal =
+    split (same_spot next gone)
+    (λ same. absurd (below_itself gone_key (subst (λ (s : Option (List ℕ)). is_before gone_key s ≡ true)
+    (ap (λ (s : Spot). s.key) (spot_same next gone same) ∙ removal.gone_key) (first (is_before gone_key next.key) _ removal.follows))))
+    (λ is_not. is_not)
+
 module _ (records : List (List ℕ)) (gone_key : List ℕ) (gone next : Spot) (removal : IsRemoval records gone_key gone next) (by : Option ℕ) (key : List ℕ) (txn : ℕ) (not_undone : by ≢ Some txn) where
   undone_not : (by' : Option ℕ) → by' ≢ Some txn → (w : Lock) → w.txn ≡ txn → is_undone by' w ≡ false
   undone_not None ne w own = refl
@@ -310,30 +332,14 @@ module _ (records : List (List ℕ)) (gone_key : List ℕ) (gone next : Spot) (r
       })
 
   covered_when_moved : (ws : List Lock) → AreUpper txn ws → covered txn gone.index records ws key ≡ true → covered txn gone.index (without_record gone_key records) (moved by gone next ws) key ≡ true
-  covered_when_moved [] upper is = is
-  covered_when_moved (w ∷ ws) upper is =
-      elim (or_cases (test txn gone.index records key w) _ is) [
-        | inr rest ↦ later (same_spot w.spot gone) (becomes_gap by w) (covered_when_moved ws upper.1 rest)
-        | inl this ↦
-            let covers = covers_from txn gone.index records key w this in
-            split (same_spot w.spot gone)
-            (λ here. subst (λ b. list_any p (cond b (cond (becomes_gap by w) (gap ∷ moved by gone next ws) (moved by gone next ws)) (w ∷ moved by gone next ws)) ≡ true) (sym here)
-            (subst (λ b. list_any p (cond b (gap ∷ moved by gone next ws) (moved by gone next ws)) ≡ true) (sym (becomes w (upper.0 covers.own) covers)) (or_left _ _ (moved_covers w here covers))))
-            (λ not_here. subst (λ b. list_any p (cond b (cond (becomes_gap by w) (gap ∷ moved by gone next ws) (moved by gone next ws)) (w ∷ moved by gone next ws)) ≡ true) (sym not_here)
-            (or_left _ _ (stays_covered w covers)))
-      ] where
-        p : Lock → Bool
-        p = test txn gone.index (without_record gone_key records) key
-
-        gap : Lock
-        gap = as_gap (number_of RecordWent) next w
-
-        later : (b d : Bool) → list_any p (moved by gone next ws) ≡ true → list_any p (cond b (cond d (gap ∷ moved by gone next ws) (moved by gone next ws)) (w ∷ moved by gone next ws)) ≡ true
-        later true d h = any_cond p d gap (moved by gone next ws) h
-        later false d h = or_right (p w) _ h
+  covered_when_moved ws upper is =
+      any_moved by gone next (λ lock. (lock.txn == txn) ≡ true → is_upper lock.reason.level ≡ true) (test txn gone.index records key)
+      (test txn gone.index (without_record gone_key records) key) (gone_apart records gone_key gone next removal) (over txn gone.index (without_record gone_key records) key)
+      (λ w level has here. let covers = covers_from txn gone.index records key w has in (becomes w (level covers.own) covers, moved_covers w here covers))
+      (λ w level has elsewhere. stays_covered w (covers_from txn gone.index records key w has)) [] ws upper is
 
   pub covered_after_removal : (granted waiting : List Lock) → AreUpper txn granted → covered txn gone.index records granted key ≡ true
       → covered txn gone.index (without_record gone_key records) (after_removal by gone next granted waiting).granted key ≡ true
   covered_after_removal granted waiting upper is =
-      any_served (test txn gone.index (without_record gone_key records) key) (moved by gone next granted ++ left_by by gone next waiting) [] (elsewhere gone waiting)
-      (any_in_front (test txn gone.index (without_record gone_key records) key) (moved by gone next granted) (left_by by gone next waiting) (covered_when_moved granted upper is))
+      any_served (test txn gone.index (without_record gone_key records) key) (moved by gone next granted ++ uncovered (moved by gone next granted) (left_by by gone next waiting)) [] (elsewhere gone waiting)
+      (any_in_front (test txn gone.index (without_record gone_key records) key) (moved by gone next granted) (uncovered (moved by gone next granted) (left_by by gone next waiting)) (covered_when_moved granted upper is))

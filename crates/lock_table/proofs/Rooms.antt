@@ -7,8 +7,9 @@ use Rattle.std.specs.List.{AllByRecursion}
 use Rattle.std.specs.declared.vec.Vec.{Vec}
 use Rattle.std.specs.declared.alloc.Global.{Global}
 use Rattle.lock_table.specs.declared.room.CycleRoom.{CycleRoom}
+use Rattle.lock_table.specs.declared.room.EdgeRoom.{EdgeRoom}
 use Rattle.lock_table.specs.Empty.{IsEmptyFor, HoldKeys, is_ready}
-use Rattle.lock_table.specs.Room.{HasRoom, HasRooms, KeepsRooms}
+use Rattle.lock_table.specs.Room.{HasEdges, HasRoom, HasRooms, KeepsRooms}
 use Rattle.lock_rules.proofs.Booleans.{first, second}
 use Rattle.lock_table.proofs.Places.{all_push, all_weaker}
 
@@ -50,13 +51,16 @@ module _ {A : Type 0} (P : A → Type 0) where
 less_empty : {T : Type 0} (n m : ℕ) (list : Vec T Global) → n ≤ m → IsEmptyFor m list → IsEmptyFor n list
 less_empty n m list le h = record { empty = h.empty; holds = omega (arith, h.holds) }
 
-less_room : (n m : ℕ) (room : CycleRoom) → n ≤ m → HasRoom m room → HasRoom n room
+pub less_edges : (n m : ℕ) (room : EdgeRoom) → n ≤ m → HasEdges m room → HasEdges n room
+less_edges n m room le h = record { list = less_empty n m room.edges le h.list; keys = omega (arith, h.keys); keys_hold = h.keys_hold }
+
+pub less_room : (n m : ℕ) (room : CycleRoom) → n ≤ m → HasRoom m room → HasRoom n room
 less_room n m room le h = record {
-  list = less_empty n m room.edges le h.list;
+  cycle = less_edges n m room.cycle le h.cycle;
+  first_copy = less_edges n m room.first_copy le h.first_copy;
+  second_copy = less_edges n m room.second_copy le h.second_copy;
   path = less_empty n m room.path le h.path;
   visits = less_empty n m room.visits le h.visits;
-  keys = omega (arith, h.keys);
-  keys_hold = h.keys_hold;
 }
 
 pub keeps_trans : (a b c : List CycleRoom) → KeepsRooms a b → KeepsRooms b c → KeepsRooms a c

@@ -51,6 +51,14 @@ IsEdge granted waiting edge = Contains (edges_of edge.waiter granted waiting) ed
 abbrev pub is_waiting : ℕ → List Lock → Bool
 is_waiting txn waiting = list_any (λ asked. asked.txn == txn) waiting
 
+-- the transaction is one of these
+abbrev pub is_among : ℕ → List ℕ → Bool
+is_among txn txns = list_any (λ other. other == txn) txns
+
+-- nobody who waits is one of these
+abbrev pub AreOthers : List ℕ → List Lock → Type 0
+AreOthers txns waiting = AllByRecursion (λ asked. is_among asked.txn txns ≡ false) waiting
+
 -- the locks of the other transactions
 abbrev pub without : ℕ → List Lock → List Lock
 without txn locks = filter (λ lock. not (lock.txn == txn)) locks

@@ -7,7 +7,7 @@ use Rattle.lock_rules.specs.declared.rule.Rule.TheVariants.{Inserted, DuplicateC
 use Rattle.lock_rules.specs.Kinds.{is_upper, is_intent, locks_gap}
 use Rattle.lock_rules.specs.Spots.{same_spot}
 use Rattle.lock_rules.specs.Rules.{number_of}
-use Rattle.lock_table.specs.Queue.{Lists, serve, without}
+use Rattle.lock_table.specs.Queue.{Lists, serve, without, is_covered}
 
 -- the lock of a record that the rollback of its own transaction removes
 abbrev pub is_undone : Option ℕ → Lock → Bool
@@ -28,14 +28,25 @@ abbrev pub as_gap : ℕ → Spot → Lock → Lock
 as_gap rule spot lock =
     record { txn = lock.txn; spot = spot; kind = Gap; mode = lock.mode; reason = record { rule = rule; item = lock.reason.item; level = lock.reason.level } }
 
--- a record goes: each lock on it becomes a gap lock on the next spot, or goes
-abbrev pub moved : Option ℕ → Spot → Spot → List Lock → List Lock
-moved by gone next [] = []
-moved by gone next (lock ∷ locks) =
-    if same_spot lock.spot gone then (if becomes_gap by lock then as_gap (number_of RecordWent) next lock ∷ moved by gone next locks else moved by gone next locks)
-    else lock ∷ moved by gone next locks
+-- of these locks, in order, those that no granted lock of their transaction covers, nor one of these that is granted before
+abbrev pub uncovered : List Lock → List Lock → List Lock
+uncovered held [] = []
+uncovered held (lock ∷ locks) = if is_covered held lock then uncovered held locks else lock ∷ uncovered (held ++ lock ∷ []) locks
 
--- a record goes: each request on it ends its wait, and leaves the gap lock that its lock would have become
+-- A record goes: each lock on it becomes a gap lock on the next spot, or goes. It goes, too, where another granted lock of its transaction
+-- covers that gap lock. The first ones are done.
+abbrev pub moved_on : Option ℕ → Spot → Spot → List Lock → List Lock → List Lock
+moved_on by gone next done [] = done
+moved_on by gone next done (lock ∷ locks) =
+    if same_spot lock.spot gone then (
+    if becomes_gap by lock && not (is_covered done (as_gap (number_of RecordWent) next lock) || is_covered locks (as_gap (number_of RecordWent) next lock))
+    then moved_on by gone next (done ++ as_gap (number_of RecordWent) next lock ∷ []) locks else moved_on by gone next done locks)
+    else moved_on by gone next (done ++ lock ∷ []) locks
+
+abbrev pub moved : Option ℕ → Spot → Spot → List Lock → List Lock
+moved by gone next locks = moved_on by gone next [] locks
+
+-- a record goes: each request on it ends its wait, and gives the gap lock that its lock would have become
 abbrev pub left_by : Option ℕ → Spot → Spot → List Lock → List Lock
 left_by by gone next [] = []
 left_by by gone next (asked ∷ queue) =
@@ -46,7 +57,8 @@ abbrev pub elsewhere : Spot → List Lock → List Lock
 elsewhere gone queue = filter (λ asked. not (same_spot asked.spot gone)) queue
 
 abbrev pub after_removal : Option ℕ → Spot → Spot → List Lock → List Lock → Lists
-after_removal by gone next granted waiting = serve (moved by gone next granted ++ left_by by gone next waiting) [] (elsewhere gone waiting)
+after_removal by gone next granted waiting =
+    serve (moved by gone next granted ++ uncovered (moved by gone next granted) (left_by by gone next waiting)) [] (elsewhere gone waiting)
 
 -- the lock is one of the transaction, of the gap before the spot
 abbrev pub is_own_gap : ℕ → Spot → Lock → Bool
@@ -56,11 +68,16 @@ is_own_gap txn next lock = lock.txn == txn && same_spot lock.spot next && locks_
 abbrev pub own_gaps : ℕ → Spot → List Lock → ℕ
 own_gaps txn next locks = count_by (is_own_gap txn next) locks
 
--- a record is inserted: the inserter's own locks of the gap on the next spot are copied to the record
+-- the transaction's own locks of the gap before the next spot, as gap locks on the new one
+abbrev pub own_copies : ℕ → Spot → Spot → List Lock → List Lock
+own_copies txn new next [] = []
+own_copies txn new next (lock ∷ locks) =
+    if lock.txn == txn && same_spot lock.spot next && locks_gap lock.kind then as_gap (number_of CopiedOnInsert) new lock ∷ own_copies txn new next locks
+    else own_copies txn new next locks
+
+-- a record is inserted: the inserter's own locks of the gap on the next spot are copied to the record, but for copies that a granted lock covers
 abbrev pub copies : ℕ → Spot → Spot → List Lock → List Lock
-copies txn new next [] = []
-copies txn new next (lock ∷ locks) =
-    if lock.txn == txn && same_spot lock.spot next && locks_gap lock.kind then as_gap (number_of CopiedOnInsert) new lock ∷ copies txn new next locks else copies txn new next locks
+copies txn new next granted = uncovered granted (own_copies txn new next granted)
 
 -- a transaction ends: its locks and its request go, and requests are granted in order
 abbrev pub after_end : ℕ → List Lock → List Lock → Lists

@@ -55,7 +55,7 @@ fn kept_key(key: &Option<Bytes>) -> Option<ArrayVec<u8, MOST_BYTES_OF_KEY>>
 
 impl KeptLock {
     /// The same lock, kept.
-    pub(crate) fn new(lock: &Lock) -> Self
+    pub fn new(lock: &Lock) -> Self
         requires { IsShort lock.now.spot.key }
         ensures { result ≡ lock.now }
     {
@@ -73,7 +73,8 @@ impl KeptLock {
     pub fn lock_in(&self, buffer: Vec<u8>) -> Lock
         requires empty { buffer.items ≡ [] }
         requires holds { 67 ≤ vec_capacity buffer }
-        ensures { result ≡ self.now }
+        ensures same { result ≡ self.now }
+        ensures short { IsShort self.now.spot.key }
     {
         Lock {
             txn: self.txn,
@@ -153,7 +154,17 @@ impl KeptLock {
     }
 
     /// Whether its transaction need not ask for this lock.
-    pub(crate) fn covers(&self, asked: &Lock) -> bool
+    pub(crate) fn covers(&self, asked: &KeptLock) -> bool
+        ensures { result ≡ spec.covers self.now asked.now }
+    {
+        self.txn == asked.txn
+            && self.is_beside(asked)
+            && kind_covers(self.kind_here(), asked.kind_here())
+            && (is_shared(asked.mode) || !is_shared(self.mode))
+    }
+
+    /// The same of a lock that is not kept.
+    pub(crate) fn covers_lock(&self, asked: &Lock) -> bool
         ensures { result ≡ spec.covers self.now asked.now }
     {
         self.txn == asked.txn

@@ -8,8 +8,10 @@ mod laws;
 mod lists;
 mod room;
 mod table;
+mod wait;
 
 pub use kept::KeptLock;
 pub use laws::{insertion_keeps_coverage, removal_keeps_coverage};
-pub use room::CycleRoom;
+pub use room::{CycleRoom, EdgeRoom};
 pub use table::LockTable;
+pub use wait::Wait;

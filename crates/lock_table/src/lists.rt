@@ -1,13 +1,14 @@
 //! The lists of a lock table: what stands in the way of a request, and what a change makes of the requests that wait.
 //! The lock table alone calls these.
 
-ghost use Rattle.std.specs.Prelude.{◌≡◌, ◌+◌, ◌≤◌, [], ◌++◌, length, map, filter, vec_capacity, IfOk, OnOk};
+ghost use Rattle.std.specs.Prelude.{◌≡◌, ◌+◌, ◌<◌, ◌≤◌, ◌||◌, false, [], ◌∷◌, ◌++◌, length, take, drop, map, filter, vec_capacity, IfOk, OnOk};
 ghost use Rattle.std.specs.List.{list_any};
 ghost use Rattle.lock_rules.specs.Kinds as kinds;
-ghost use Rattle.lock_rules.specs.Conflicts.{conflicts};
+ghost use Rattle.lock_rules.specs.Conflicts.{conflicts, same_lock};
 ghost use Rattle.lock_table.specs.Keys.{IsShort};
 ghost use Rattle.lock_table.specs.Queue as queue;
 ghost use Rattle.lock_table.specs.Records as records;
+ghost use Rattle.lock_table.specs.View.{granted_with};
 
 use crate::kept::KeptLock;
 use inno_types::{Edge, Edges, Lock, LockKind, Spot};
@@ -18,6 +19,13 @@ fn any_conflicts(locks: &[KeptLock], asked: &KeptLock) -> bool
     ensures { result ≡ list_any (λ lock. conflicts lock asked.now) locks.now }
 {
     locks.iter().any(|lock| lock.conflicts(asked))
+}
+
+/// Whether one of the locks covers this one.
+pub fn is_covered(locks: &[KeptLock], asked: &KeptLock) -> bool
+    ensures { result ≡ queue.is_covered locks.now asked.now }
+{
+    locks.iter().any(|lock| lock.covers(asked))
 }
 
 /// Whether a granted lock or an earlier request keeps this one from being granted.
@@ -32,6 +40,20 @@ pub fn is_waiting(waiting: &[KeptLock], txn: u64) -> bool
     ensures { result ≡ queue.is_waiting txn waiting.now }
 {
     waiting.iter().any(|asked| asked.txn() == txn)
+}
+
+/// Whether this lock, by this reason, is one of the locks.
+pub fn stands(locks: &[KeptLock], lock: &Lock) -> bool
+    ensures { result ≡ list_any (λ held. same_lock held lock.now) locks.now }
+{
+    locks.iter().any(|held| held.is_same(lock))
+}
+
+/// Whether the transaction is one of these.
+pub fn is_among(txns: &[u64], txn: u64) -> bool
+    ensures { result ≡ queue.is_among txn txns.now }
+{
+    txns.contains(&txn)
 }
 
 /// Keeps what the other transactions have.
@@ -65,6 +87,7 @@ pub fn serve(granted: &mut Vec<KeptLock>, waiting: &mut Vec<KeptLock>)
     ensures granted { granted.new.items ≡ (queue.serve granted.old.items [] waiting.old.items).granted }
     ensures waiting { waiting.new.items ≡ (queue.serve granted.old.items [] waiting.old.items).waiting }
     ensures room { length granted.new.items + length waiting.new.items ≤ vec_capacity granted.new }
+    ensures fewer { length waiting.new.items ≤ length waiting.old.items }
     ensures capacity { vec_capacity granted.new ≡ vec_capacity granted.old }
 {
     let mut earlier = 0;
@@ -147,7 +170,7 @@ fn becomes_gap(by: Option<u64>, lock: &KeptLock) -> bool
     !is_intent(lock.kind()) && !undone && outlives_record(lock)
 }
 
-fn is_intent(kind: LockKind) -> bool
+pub fn is_intent(kind: LockKind) -> bool
     ensures { result ≡ kinds.is_intent kind }
 {
     match kind {
@@ -167,7 +190,15 @@ fn outlives_record(lock: &KeptLock) -> bool
         || reason.rule == Rule::CopiedOnInsert.number()
 }
 
-/// A record goes: each lock on it becomes a gap lock on the next spot, or goes.
+/// Whether a lock beside the one at the place covers this one.
+fn others_cover(locks: &[KeptLock], place: usize, asked: &KeptLock) -> bool
+    requires { place < length locks.now }
+    ensures { result ≡ (queue.is_covered (take place locks.now) asked.now || queue.is_covered (drop (place + 1) locks.now) asked.now) }
+{
+    is_covered(&locks[..place], asked) || is_covered(&locks[place + 1..], asked)
+}
+
+/// A record goes: each lock on it becomes a gap lock on the next spot, or goes. A gap lock that another lock covers goes too.
 pub fn move_locks(granted: &mut Vec<KeptLock>, by: Option<u64>, gone: &Spot, next: &Spot)
     requires { IsShort next.now.key }
     ensures items { granted.new.items ≡ records.moved by gone.now next.now granted.old.items }
@@ -179,12 +210,37 @@ pub fn move_locks(granted: &mut Vec<KeptLock>, by: Option<u64>, gone: &Spot, nex
         let lock = &granted[i];
         if !lock.is_at(gone) {
             i += 1;
-        } else if becomes_gap(by, lock) {
+        } else if becomes_gap(by, lock)
+            && !others_cover(granted, i, &lock.as_gap(Rule::RecordWent.number(), next))
+        {
             granted[i] = lock.as_gap(Rule::RecordWent.number(), next);
             i += 1;
         } else {
             let _ = granted.remove(i);
         }
+    }
+}
+
+/// Grants the gap lock, unless a granted lock covers it.
+fn add_gap(granted: &mut Vec<KeptLock>, gap: KeptLock)
+    requires { queue.is_covered granted.old.items gap ≡ false → length granted.old.items < vec_capacity granted.old }
+    ensures items { granted.new.items ≡ granted.old.items ++ records.uncovered granted.old.items (gap ∷ []) }
+    ensures capacity { vec_capacity granted.new ≡ vec_capacity granted.old }
+{
+    if !is_covered(granted, &gap) {
+        granted.push_reserved(gap);
+    }
+}
+
+/// Grants the lock, unless a granted lock covers it or it is an intention.
+pub fn add_lock(granted: &mut Vec<KeptLock>, lock: KeptLock)
+    requires { length granted.old.items < vec_capacity granted.old }
+    ensures items { granted.new.items ≡ granted_with granted.old.items lock }
+    ensures few { length granted.new.items ≤ length granted.old.items + 1 }
+    ensures capacity { vec_capacity granted.new ≡ vec_capacity granted.old }
+{
+    if !is_covered(granted, &lock) && !is_intent(lock.kind()) {
+        granted.push_reserved(lock);
     }
 }
 
@@ -198,14 +254,15 @@ pub fn leave_gaps(
 )
     requires short { IsShort next.now.key }
     requires room { length granted.old.items + length waiting.old.items ≤ vec_capacity granted.old }
-    ensures granted { granted.new.items ≡ granted.old.items ++ records.left_by by gone.now next.now waiting.old.items }
+    ensures granted { granted.new.items ≡ granted.old.items ++ records.uncovered granted.old.items (records.left_by by gone.now next.now waiting.old.items) }
     ensures waiting { waiting.new.items ≡ records.elsewhere gone.now waiting.old.items }
+    ensures fewer { length waiting.new.items ≤ length waiting.old.items }
     ensures room { length granted.new.items + length waiting.new.items ≤ vec_capacity granted.new }
     ensures capacity { vec_capacity granted.new ≡ vec_capacity granted.old }
 {
     for asked in waiting.iter() {
         if asked.is_at(gone) && becomes_gap(by, asked) {
-            granted.push_reserved(asked.as_gap(Rule::RecordWent.number(), next));
+            add_gap(granted, asked.as_gap(Rule::RecordWent.number(), next));
         }
     }
     keep_elsewhere(waiting, gone);
@@ -229,18 +286,20 @@ pub fn own_gaps(granted: &[KeptLock], txn: u64, next: &Spot) -> usize
         .count()
 }
 
-/// Copies the inserter's own locks of the gap into which a record was inserted to the record. There is room for them.
+/// Copies the inserter's own locks of the gap into which a record was inserted to the record. There is room for them. A copy
+/// that a granted lock covers is left out.
 pub fn copy_gaps(granted: &mut Vec<KeptLock>, txn: u64, new: &Spot, next: &Spot)
     requires short { IsShort new.now.key }
     requires room { length granted.old.items + records.own_gaps txn next.now granted.old.items ≤ vec_capacity granted.old }
     ensures items { granted.new.items ≡ granted.old.items ++ records.copies txn new.now next.now granted.old.items }
+    ensures few { length granted.new.items ≤ length granted.old.items + records.own_gaps txn next.now granted.old.items }
     ensures capacity { vec_capacity granted.new ≡ vec_capacity granted.old }
 {
     for i in 0..granted.len() {
         let lock = &granted[i];
         if is_own_gap(lock, txn, next) {
             let copy = lock.as_gap(Rule::CopiedOnInsert.number(), new);
-            granted.push_reserved(copy);
+            add_gap(granted, copy);
         }
     }
 }

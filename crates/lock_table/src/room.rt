@@ -4,45 +4,72 @@
 ghost use Rattle.std.specs.Prelude.{◌≡◌, ℕ, ◌≤◌, length, OnOk};
 ghost use Rattle.std.specs.List.{AllByRecursion};
 ghost use Rattle.lock_table.specs.Empty.{IsEmptyFor, HoldKeys, is_ready};
-ghost use Rattle.lock_table.specs.Room.{HasRoom, HasRooms, KeepsRooms};
+ghost use Rattle.lock_table.specs.Room.{HasEdges, HasRoom, HasRooms, KeepsRooms};
 
 use inno_types::Edge;
 use std::alloc::{AllocError, Global};
 use store_api::MOST_BYTES_OF_KEY;
 
-/// Memory for one cycle and for the search that finds it. All its lists are empty.
+/// Memory for a list of edges. It is empty.
 #[derive(Drop)]
-pub struct CycleRoom {
-    /// For the cycle's edges.
+pub struct EdgeRoom {
     pub edges: Vec<Edge>,
     /// For the keys of their locks, each with room for the longest key.
     pub keys: Vec<Vec<u8>>,
+}
+
+/// Memory for one cycle, for two copies of it, and for the search that finds it: a victim's answer takes none. All its lists are empty.
+#[derive(Drop)]
+pub struct CycleRoom {
+    pub cycle: EdgeRoom,
+    pub first_copy: EdgeRoom,
+    pub second_copy: EdgeRoom,
     /// For the transactions on the way.
     pub path: Vec<u64>,
     /// For those where the search has not been.
     pub visits: Vec<u64>,
 }
 
+impl EdgeRoom {
+    fn new(alloc: Global) -> EdgeRoom {
+        EdgeRoom {
+            edges: Vec::new(alloc),
+            keys: Vec::new(alloc),
+        }
+    }
+
+    /// Empties the list, and makes room for so many edges. The room that there is stays.
+    fn prepare(&mut self, alloc: Global, edges: usize) -> Result<(), AllocError>
+        ensures room { OnOk result (HasEdges edges self.new) }
+        ensures stays { (n : ℕ) → HasEdges n self.old → HasEdges n self.new }
+    {
+        empty(&mut self.edges, edges)?;
+        keep_ready(&mut self.keys);
+        add_keys(&mut self.keys, alloc, edges)
+    }
+}
+
 impl CycleRoom {
     fn new(alloc: Global) -> CycleRoom {
         CycleRoom {
-            edges: Vec::new(alloc),
-            keys: Vec::new(alloc),
+            cycle: EdgeRoom::new(alloc),
+            first_copy: EdgeRoom::new(alloc),
+            second_copy: EdgeRoom::new(alloc),
             path: Vec::new(alloc),
             visits: Vec::new(alloc),
         }
     }
 
-    /// Empties all lists, and makes room for a cycle of so many edges. The room that there is stays.
+    /// Empties all lists, and makes room for a cycle of so many edges and its copies. The room that there is stays.
     fn prepare(&mut self, alloc: Global, edges: usize) -> Result<(), AllocError>
         ensures room { OnOk result (HasRoom edges self.new) }
         ensures stays { (n : ℕ) → HasRoom n self.old → HasRoom n self.new }
     {
-        empty(&mut self.edges, edges)?;
+        self.cycle.prepare(alloc, edges)?;
+        self.first_copy.prepare(alloc, edges)?;
+        self.second_copy.prepare(alloc, edges)?;
         empty(&mut self.path, edges)?;
-        empty(&mut self.visits, edges)?;
-        keep_ready(&mut self.keys);
-        add_keys(&mut self.keys, alloc, edges)
+        empty(&mut self.visits, edges)
     }
 }
 

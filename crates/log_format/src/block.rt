@@ -29,7 +29,7 @@ fn put_zeros(count: usize, out: &mut Vec<u8>)
 /// What the sum is over, where the payload is two parts, one behind the other.
 #[tactic(auto, unfolding(crate::specs::Block::block_rest))]
 fn put_rest(run: u64, number: u64, front: &[u8], back: &[u8], out: &mut Vec<u8>)
-    requires small { length front.now + length back.now ≤ 484 }
+    requires small { length front.now + length back.now ≤ PAYLOAD }
     requires room { vec_len out.old + 504 ≤ vec_capacity out.old }
     ensures items { out.new.items ≡ out.old.items ++ block_rest run number (front.now ++ back.now) }
     ensures len { vec_len out.new ≡ vec_len out.old + 504 }
@@ -47,10 +47,10 @@ fn put_rest(run: u64, number: u64, front: &[u8], back: &[u8], out: &mut Vec<u8>)
 
 #[tactic(auto, unfolding(crate::specs::Block::block_bytes, schema_codec::specs::Numbers::u64_bytes))]
 fn put_block(run: u64, number: u64, front: &[u8], back: &[u8], out: &mut Vec<u8>)
-    requires small { length front.now + length back.now ≤ 484 }
-    requires room { vec_len out.old + 512 ≤ vec_capacity out.old }
+    requires small { length front.now + length back.now ≤ PAYLOAD }
+    requires room { vec_len out.old + BLOCK ≤ vec_capacity out.old }
     ensures items { out.new.items ≡ out.old.items ++ block_bytes run number (front.now ++ back.now) }
-    ensures len { vec_len out.new ≡ vec_len out.old + 512 }
+    ensures len { vec_len out.new ≡ vec_len out.old + BLOCK }
     ensures grows { vec_capacity out.old ≤ vec_capacity out.new }
 {
     let start = out.len();
@@ -63,10 +63,10 @@ fn put_block(run: u64, number: u64, front: &[u8], back: &[u8], out: &mut Vec<u8>
 /// Puts bytes at the end as blocks, numbered from a number on, and answers how many.
 pub fn put_blocks(run: u64, number: u64, bytes: &[u8], out: &mut Vec<u8>) -> u64
     requires numbers { number + length bytes.now < 2 ^ 64 }
-    requires room { vec_len out.old + 512 * blocks_for (length bytes.now) ≤ vec_capacity out.old }
+    requires room { vec_len out.old + BLOCK * blocks_for (length bytes.now) ≤ vec_capacity out.old }
     ensures blocks { (blocks : _) × AreBlocks run number bytes.now result blocks × (out.new.items ≡ out.old.items ++ blocks) }
     ensures count { result ≡ blocks_for (length bytes.now) }
-    ensures len { vec_len out.new ≡ vec_len out.old + 512 * result }
+    ensures len { vec_len out.new ≡ vec_len out.old + BLOCK * result }
     ensures grows { vec_capacity out.old ≤ vec_capacity out.new }
 {
     put_both_as_blocks(run, number, &[], bytes, out)
@@ -81,10 +81,10 @@ pub fn put_both_as_blocks(
     out: &mut Vec<u8>,
 ) -> u64
     requires numbers { number + length head.now + length bytes.now < 2 ^ 64 }
-    requires room { vec_len out.old + 512 * blocks_for (length head.now + length bytes.now) ≤ vec_capacity out.old }
+    requires room { vec_len out.old + BLOCK * blocks_for (length head.now + length bytes.now) ≤ vec_capacity out.old }
     ensures blocks { (blocks : _) × AreBlocks run number (head.now ++ bytes.now) result blocks × (out.new.items ≡ out.old.items ++ blocks) }
     ensures count { result ≡ blocks_for (length head.now + length bytes.now) }
-    ensures len { vec_len out.new ≡ vec_len out.old + 512 * result }
+    ensures len { vec_len out.new ≡ vec_len out.old + BLOCK * result }
     ensures grows { vec_capacity out.old ≤ vec_capacity out.new }
 {
     let mut count = 0;

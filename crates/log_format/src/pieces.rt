@@ -39,7 +39,7 @@ pub fn put_payloads(
 /// Puts the payload of a block at the end, where there is room for a block. Of no bytes it puts none. Whether the block is good
 /// is not looked at.
 pub fn put_payload(block: &[u8], out: &mut Vec<u8>)
-    requires whole { 0 < length block.now → length block.now ≡ 512 }
+    requires whole { 0 < length block.now → length block.now ≡ BLOCK }
     requires room { vec_len out.old + length block.now ≤ vec_capacity out.old }
     ensures items { out.new.items ≡ out.old.items ++ payload_of block.now }
     ensures grows { vec_capacity out.old ≤ vec_capacity out.new }

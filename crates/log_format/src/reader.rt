@@ -203,7 +203,7 @@ impl Reader {
     /// is not looked at.
     pub fn payload_len<D: Disk>(&self, disk: &mut D, number: u64) -> Result<usize, Failed>
         requires { number < self.now.block }
-        ensures len { IfOk result (λ n. Now (λ s. IsGood self.now.run number s.log.seen → n ≡ length (payload_of (piece 512 number s.log.seen)))
+        ensures len { IfOk result (λ n. Now (λ s. IsGood self.now.run number s.log.seen → n ≡ length (payload_of (piece BLOCK number s.log.seen)))
             (D.past disk.old)) }
         ensures reads { Reads (is_ok result) (D.past disk.old) (D.past disk.new) }
         ensures cause { HasCause (D.past disk.old).faults (D.past disk.new).faults result }

@@ -4,6 +4,7 @@
 ghost use Rattle.std.specs.Prelude.{◌≡◌, ◌+◌, ◌*◌, ◌≤◌, ◌++◌, ◌↔◌, ℕ, List, length, take, drop, IsTrue, IfOk, IfSome, IfNone};
 ghost use Rattle.std.specs.Int.{w16, w64, from_be_bytes};
 ghost use Rattle.store_api.specs.Areas.{PassesSum};
+ghost use Rattle.log_format.specs.declared.block.TheConstants.{PAYLOAD};
 ghost use Rattle.log_format.specs.Block.{payload_of, IsGood, payloads};
 ghost use Rattle.log_format.specs.Group.{group_bytes, IsGroup, AreGroups};
 ghost use Rattle.log_format.specs.declared.group.Group.{Group as GroupValue};
@@ -20,7 +21,7 @@ use store_api::NoMemory;
 use sum64::fnv;
 
 pub fn is_good(block: &[u8], run: u64, number: u64) -> bool
-    requires { length block.now ≡ 512 }
+    requires { length block.now ≡ BLOCK }
     ensures { IsTrue result ↔ PassesSum block.now
         × (from_be_bytes w64 (take 8 (drop 8 block.now)) ≡ run)
         × (from_be_bytes w64 (take 8 (drop 16 block.now)) ≡ number) }
@@ -30,9 +31,9 @@ pub fn is_good(block: &[u8], run: u64, number: u64) -> bool
 
 #[tactic(auto, unfolding(crate::specs::Block::payload_of))]
 pub fn payload(block: &[u8]) -> &[u8]
-    requires { length block.now ≡ 512 }
+    requires { length block.now ≡ BLOCK }
     ensures payload { result.now ≡ payload_of block.now }
-    ensures small { length result.now ≤ 484 }
+    ensures small { length result.now ≤ PAYLOAD }
 {
     let used = usize::from(u16_at(block, 24));
     let rest = &block[28..];

@@ -2,6 +2,7 @@
 use Rattle.std.specs.Prelude.{◌≡◌, ℕ, ◌-◌, ◌*◌, ◌≤◌, ◌==◌, List, [], length, fold, replicate, if◌then◌else◌}
 use Rattle.std.specs.List.{flat_map, AllByRecursion}
 use Rattle.std.specs.Option.{option_map_or}
+use Rattle.stored_pages.specs.declared.layout.TheConstants.{PAGE}
 use Rattle.schema_codec.specs.Reading.{list_at}
 use Rattle.log_format.specs.declared.group.Record.{Record}
 use Rattle.log_format.specs.declared.group.Record.TheVariants.{Put, Fresh, RowPut, RowRemove, NewTable}
@@ -11,7 +12,7 @@ use Rattle.mtr.specs.Seen.{with_bytes}
 
 -- a page of zeros
 unfoldable pub blank : List ℕ
-blank = replicate 4096 0
+blank = replicate PAGE 0
 
 -- what a record makes of a page's bytes
 abbrev pub edited_by : ℕ → List ℕ → Record → List ℕ

@@ -2,6 +2,7 @@
 use Rattle.std.specs.Prelude.{◌≡◌, ◌≢◌, ◌⊎◌, ℕ, ◌<◌, ◌≤◌, Bool, true, false, ◌||◌, if◌then◌else◌, List, [], length, take, drop, ◌++◌, replicate, Option, Some}
 use Rattle.std.specs.Prelude.{None, is_some, IsTrue}
 use Rattle.std.specs.Option.{option_map_or}
+use Rattle.stored_pages.specs.declared.layout.TheConstants.{PAGE_COUNT}
 use Rattle.schema_codec.specs.Numbers.{u32_bytes, u64_bytes}
 use Rattle.stored_pages.specs.Words.{u32_at, number_of, lsn_of}
 use Rattle.log_format.specs.declared.group.Record.{Record}
@@ -65,8 +66,8 @@ AreFramed pool dealt = (page : ℕ) → is_some (copy_of dealt page) ≡ true �
 -- The pages are told, as long as page 0 counts no more of them than the pool may hold.
 pub record AreTold (pool : PoolView) (dealt : List Entry) : Type 0 where
   pub framed : AreFramed pool dealt
-  pub seen : u32_at 44 (seen_in pool dealt 0) ≤ length pool.slots
-  pub standing : u32_at 44 (standing_in pool 0) ≤ length pool.slots
+  pub seen : u32_at PAGE_COUNT (seen_in pool dealt 0) ≤ length pool.slots
+  pub standing : u32_at PAGE_COUNT (standing_in pool 0) ≤ length pool.slots
 
 -- the page has a copy, or stands
 abbrev pub IsReadable : PoolView → List Entry → ℕ → Type 0
@@ -170,7 +171,7 @@ pub record Begins (pool : PoolView) (log : LogView) (m : MiniView) : Type 0 wher
   pub log_is : m.log ≡ log
   pub dealt_is : m.dealt ≡ []
   pub records_are : m.records ≡ []
-  pub told : u32_at 44 (standing_in pool 0) ≤ length pool.slots → IsTrue m.told
+  pub told : u32_at PAGE_COUNT (standing_in pool 0) ≤ length pool.slots → IsTrue m.told
 
 -- These are the page's bytes with its number and that LSN.
 pub record IsStampOf (page lsn : ℕ) (bytes placed : List ℕ) : Type 0 where

@@ -6,13 +6,11 @@ ghost use Rattle.std.specs.Prelude.{position, is_some, option_copied, IsTrue, If
 ghost use Rattle.mtr.specs.Seen.{is_in, visit, with_bytes};
 ghost use Rattle.mini_txn.specs.Dealt.{copy_of, pages_of, IsVisited, HasCopy};
 
+use mtr::MOST_VISITED;
 use std::alloc::Global;
 use std::marker::Model;
 use store_api::NoMemory;
 use stored_pages::layout::PAGE;
-
-/// The most pages that a mini-transaction deals with.
-const MOST: usize = 24;
 
 /// A page that is dealt with, and room for a copy of it.
 #[derive(Drop)]
@@ -31,20 +29,21 @@ pub struct Dealt {
 
 impl Model for Dealt {
     ghost use Rattle.std.specs.Prelude.{◌≡◌, ◌≤◌, List, length, take};
+    ghost use Rattle.mtr.specs.declared.store.TheConstants.{MOST_VISITED};
     ghost use Rattle.mini_txn.specs.declared.dealt.Entry.{Entry};
 
     ghost Value = { List Entry };
 
     ghost view = { λ d. take d.count d.entries.items };
 
-    ghost invariant = { λ d. (length d.entries.items ≡ 24) × (d.count ≤ 24) };
+    ghost invariant = { λ d. (length d.entries.items ≡ MOST_VISITED) × (d.count ≤ MOST_VISITED) };
 }
 
 fn empty_entries(alloc: Global) -> Result<Vec<Entry>, NoMemory>
-    ensures { IfOk result (λ entries. length entries.items ≡ 24) }
+    ensures { IfOk result (λ entries. length entries.items ≡ MOST_VISITED) }
 {
-    let mut entries = Vec::with_capacity(alloc, MOST)?;
-    for _ in 0..MOST {
+    let mut entries = Vec::with_capacity(alloc, MOST_VISITED)?;
+    for _ in 0..MOST_VISITED {
         entries.push(Entry {
             page: 0,
             copied: false,
@@ -69,7 +68,7 @@ fn place_of_copy(entries: &[Entry], page: u32) -> Option<usize>
 }
 
 fn write_over(bytes: &mut [u8; PAGE], at: u16, piece: &[u8])
-    requires { at + length piece.now ≤ 4096 }
+    requires { at + length piece.now ≤ PAGE }
     ensures { bytes.new ≡ with_bytes at piece.now bytes.old }
 {
     let at = usize::from(at);
@@ -77,7 +76,7 @@ fn write_over(bytes: &mut [u8; PAGE], at: u16, piece: &[u8])
 }
 
 impl Dealt {
-    /// Of no page, with room for 24.
+    /// Of no page, with room for as many as a mini-transaction may deal with.
     pub fn new(alloc: Global) -> Result<Dealt, NoMemory>
         ensures { IfOk result (λ dealt. dealt ≡ []) }
     {
@@ -96,7 +95,7 @@ impl Dealt {
     /// The page's copy, if it has one.
     pub fn copy(&self, page: u32) -> Option<&[u8]>
         ensures value { option_copied result ≡ copy_of self.now page }
-        ensures size { IfSome result (λ bytes. length bytes.now ≡ 4096) }
+        ensures size { IfSome result (λ bytes. length bytes.now ≡ PAGE) }
     {
         match place_of_copy(&self.entries[..self.count], page) {
             Some(place) => Some(&self.entries[place].bytes),
@@ -106,7 +105,7 @@ impl Dealt {
 
     /// The page is one of those dealt with. Nothing is copied.
     pub fn visit(&mut self, page: u32)
-        requires { length (visit page (pages_of self.old)) ≤ 24 }
+        requires { length (visit page (pages_of self.old)) ≤ MOST_VISITED }
         ensures { IsVisited page self.old self.new }
     {
         if !self.contains(page) {
@@ -120,7 +119,7 @@ impl Dealt {
     /// Copies these bytes as the page's.
     pub fn set(&mut self, page: u32, bytes: &[u8])
         requires dealt_with { IsTrue (is_in page (pages_of self.old)) }
-        requires size { length bytes.now ≡ 4096 }
+        requires size { length bytes.now ≡ PAGE }
         ensures { HasCopy page bytes.now self.old self.new }
     {
         match place_of(&self.entries[..self.count], page) {
@@ -136,7 +135,7 @@ impl Dealt {
     /// Writes bytes over those of the page's copy.
     pub fn write(&mut self, page: u32, at: u16, bytes: &[u8])
         requires copied { is_some (copy_of self.old page) ≡ true }
-        requires ends { at + length bytes.now ≤ 4096 }
+        requires ends { at + length bytes.now ≤ PAGE }
         ensures { IfSome (copy_of self.old page) (λ copy. HasCopy page (with_bytes at bytes.now copy) self.old self.new) }
     {
         match place_of_copy(&self.entries[..self.count], page) {

@@ -2,6 +2,7 @@
 //! All of the room is taken at the beginning, so that no call takes memory later.
 
 ghost use Rattle.std.specs.Prelude.{◌≡◌, ◌↔◌, ◌+◌, ◌≤◌, [], ◌∷◌, ◌++◌, length, vec_len, vec_capacity, OnOk, OnErr, IsOk, IfOk, IsTrue};
+ghost use Rattle.stored_pages.specs.declared.layout.TheConstants.{PAGE};
 ghost use Rattle.log_format.specs.declared.group.Record.TheVariants.{Put, Fresh};
 ghost use Rattle.log_format.specs.Group.{record_bytes};
 ghost use Rattle.redo_log.specs.View.{room_of};
@@ -52,7 +53,7 @@ fn put_fresh(page: u32, out: &mut Vec<u8>)
 /// Spells the record of bytes in a page at the end.
 #[tactic(auto, unfolding(schema_codec::specs::Numbers::u32_bytes), using(schema_codec::proofs::Lengths::lengths))]
 fn put_piece(page: u32, at: u16, bytes: &[u8], out: &mut Vec<u8>)
-    requires size { length bytes.now ≤ 4096 }
+    requires size { length bytes.now ≤ PAGE }
     requires room { vec_len out.old + (9 + length bytes.now) ≤ vec_capacity out.old }
     ensures items { out.new.items ≡ out.old.items ++ record_bytes (Put page at bytes.now) }
     ensures len { vec_len out.new ≡ vec_len out.old + (9 + length bytes.now) }
@@ -101,7 +102,7 @@ impl Edits {
     /// These bytes stand in the page.
     pub fn add_put(&mut self, page: u32, at: u16, bytes: &[u8])
         requires begins { 20 ≤ at }
-        requires ends { at + length bytes.now ≤ 4096 }
+        requires ends { at + length bytes.now ≤ PAGE }
         requires room { length bytes.now + 9 ≤ spare_of self.old }
         ensures { self.new ≡ self.old ++ Put page at bytes.now ∷ [] }
     {

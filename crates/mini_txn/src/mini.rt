@@ -7,6 +7,8 @@ ghost use Rattle.redo_log.specs.View.{room_of};
 ghost use Rattle.buffer_pool.specs.Frames.{HasOneMore, slot_of};
 ghost use Rattle.store_api.specs.declared.visits.FreshBad.TheVariants.{Again as FreshAgain, NoMemory as NoFreshMemory};
 ghost use Rattle.store_api.specs.declared.visits.Visit.TheVariants.{Again as VisitAgain};
+ghost use Rattle.stored_pages.specs.declared.layout.TheConstants.{PAGE};
+ghost use Rattle.mtr.specs.declared.store.TheConstants.{MOST_VISITED};
 ghost use Rattle.mtr.specs.Seen.{is_in, visit, IsShown, IsShut, IsWithin};
 ghost use Rattle.mtr.specs.Calls.{Asks, Makes, Puts, Commits, GivesUp};
 ghost use Rattle.mini_txn.specs.Dealt.{pages_of};
@@ -81,7 +83,7 @@ impl MiniTxn {
 
     /// Deals with a page, if it can be read. It copies nothing. `bytes` is this and `shown`.
     pub fn reach(&mut self, page: u32) -> Result<(), Visit>
-        requires { length (visit page (pages_of self.old.dealt)) ≤ 24 }
+        requires { length (visit page (pages_of self.old.dealt)) ≤ MOST_VISITED }
         ensures asks { Asks page (state_of self.old) result (state_of self.new) }
         ensures read { IsRead self.old self.new }
         ensures reached { OnOk result (IsTrue (is_in page (pages_of self.new.dealt))) }
@@ -95,7 +97,7 @@ impl MiniTxn {
     pub fn shown(&self, page: u32) -> &[u8]
         requires { IsTrue (is_in page (pages_of self.now.dealt)) }
         ensures shown { IsShown (seen_in self.now.pool self.now.dealt page) result.now }
-        ensures size { length result.now ≡ 4096 }
+        ensures size { length result.now ≡ PAGE }
     {
         self.work.shown(page)
     }
@@ -112,7 +114,7 @@ impl Mtr for MiniTxn {
     }
 
     fn fresh(&mut self, page: u32) -> Result<(), FreshBad>
-        requires few { length (visit page (state_of self.old).visited) ≤ 24 }
+        requires few { length (visit page (state_of self.old).visited) ≤ MOST_VISITED }
         requires within { IsWithin page (state_of self.old) }
         ensures made { OnOk result (Makes page (state_of self.old) (state_of self.new)) }
         ensures refused { OnErr result (state_of self.new ≡ state_of self.old) }
@@ -130,7 +132,7 @@ impl Mtr for MiniTxn {
 
     fn put(&mut self, page: u32, at: u16, bytes: &[u8]) -> Result<(), NoMemory>
         requires begins { 20 ≤ at }
-        requires ends { at + length bytes.now ≤ 4096 }
+        requires ends { at + length bytes.now ≤ PAGE }
         requires dealt_with { IsTrue (is_in page (state_of self.old).visited) }
         requires within { IsWithin page (state_of self.old) }
         ensures put { OnOk result (Puts page at bytes.now (state_of self.old) (state_of self.new)) }

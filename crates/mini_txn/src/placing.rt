@@ -45,7 +45,7 @@ pub fn take_frame(pool: &mut Pool, page: u32)
 fn with_stamp(bytes: &[u8; PAGE], page: u32, lsn: u64) -> [u8; PAGE]
     ensures stamped { result ≡ stamped page lsn bytes.now }
     ensures behind { drop 20 result ≡ drop 20 bytes.now }
-    ensures size { length bytes.now ≡ 4096 }
+    ensures size { length bytes.now ≡ PAGE }
 {
     let p = u32_bytes(page);
     let l = u64_bytes(lsn);

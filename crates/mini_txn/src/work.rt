@@ -8,6 +8,7 @@ ghost use Rattle.redo_log.specs.View.{room_of};
 ghost use Rattle.buffer_pool.specs.Frames.{HasOneMore, slot_of};
 ghost use Rattle.store_api.specs.declared.visits.FreshBad.TheVariants.{Again as FreshAgain, NoMemory as NoFreshMemory};
 ghost use Rattle.store_api.specs.declared.visits.Visit.TheVariants.{Again as VisitAgain};
+ghost use Rattle.mtr.specs.declared.store.TheConstants.{MOST_VISITED};
 ghost use Rattle.mtr.specs.Seen.{is_in, visit, IsShut, IsWithin, IsShown};
 ghost use Rattle.mtr.specs.Calls.{Asks, Makes, Puts, Commits, GivesUp};
 ghost use Rattle.mini_txn.specs.Dealt.{pages_of};
@@ -50,7 +51,7 @@ impl Model for Work {
 pub fn shown_in<'a>(pool: &'a Pool, dealt: &'a Dealt, page: u32) -> &'a [u8]
     requires { IsReadable pool.now dealt.now page }
     ensures body { body_of result.now ≡ seen_in pool.now dealt.now page }
-    ensures size { length result.now ≡ 4096 }
+    ensures size { length result.now ≡ PAGE }
 {
     match dealt.copy(page) {
         Some(bytes) => bytes,
@@ -60,15 +61,15 @@ pub fn shown_in<'a>(pool: &'a Pool, dealt: &'a Dealt, page: u32) -> &'a [u8]
 
 /// Whether page 0, if these bytes are its, counts no more pages than the pool may hold.
 fn counts_few(pool: &Pool, bytes: &[u8]) -> bool
-    requires { length bytes.now ≡ 4096 }
-    ensures { IsTrue result ↔ (u32_at 44 (body_of bytes.now) ≤ length pool.now.slots) }
+    requires { length bytes.now ≡ PAGE }
+    ensures { IsTrue result ↔ (u32_at PAGE_COUNT (body_of bytes.now) ≤ length pool.now.slots) }
 {
     read_u32(bytes, PAGE_COUNT) <= pool.pages()
 }
 
 /// Whether page 0 of a pool counts no more pages than the pool may hold.
 fn pool_counts_few(pool: &Pool) -> bool
-    ensures { IsTrue result ↔ (u32_at 44 (standing_in pool.now 0) ≤ length pool.now.slots) }
+    ensures { IsTrue result ↔ (u32_at PAGE_COUNT (standing_in pool.now 0) ≤ length pool.now.slots) }
 {
     if pool.is_standing(0) {
         counts_few(pool, pool.bytes(0))
@@ -81,8 +82,8 @@ fn pool_counts_few(pool: &Pool) -> bool
 pub fn tells(told: bool, pool: &Pool, dealt: &Dealt, page: u32) -> bool
     requires { IsReadable pool.now dealt.now page }
     ensures was { IsTrue result → IsTrue told }
-    ensures few { IsTrue result → page ≡ 0 → u32_at 44 (seen_in pool.now dealt.now page) ≤ length pool.now.slots }
-    ensures stays { IsTrue told → (page ≡ 0 → u32_at 44 (seen_in pool.now dealt.now page) ≤ length pool.now.slots) → IsTrue result }
+    ensures few { IsTrue result → page ≡ 0 → u32_at PAGE_COUNT (seen_in pool.now dealt.now page) ≤ length pool.now.slots }
+    ensures stays { IsTrue told → (page ≡ 0 → u32_at PAGE_COUNT (seen_in pool.now dealt.now page) ≤ length pool.now.slots) → IsTrue result }
 {
     if page == 0 && told {
         counts_few(pool, shown_in(pool, dealt, page))
@@ -96,7 +97,7 @@ pub fn write_in(pool: &Pool, dealt: &mut Dealt, page: u32, at: u16, bytes: &[u8]
     requires dealt_with { IsTrue (is_in page (pages_of dealt.old)) }
     requires readable { IsReadable pool.now dealt.old page }
     requires begins { 20 ≤ at }
-    requires ends { at + length bytes.now ≤ 4096 }
+    requires ends { at + length bytes.now ≤ PAGE }
     ensures { Writes page at bytes.now pool.now dealt.old dealt.new }
 {
     if dealt.copy(page).is_none() {
@@ -108,7 +109,7 @@ pub fn write_in(pool: &Pool, dealt: &mut Dealt, page: u32, at: u16, bytes: &[u8]
 /// The page has a copy of zeros, and a frame if there is one for it.
 fn blank_in(pool: &mut Pool, dealt: &mut Dealt, page: u32)
     requires resident { IsResident pool.old }
-    requires few { length (visit page (pages_of dealt.old)) ≤ 24 }
+    requires few { length (visit page (pages_of dealt.old)) ≤ MOST_VISITED }
     ensures { Blanks page pool.old dealt.old pool.new dealt.new }
 {
     take_frame(pool, page);
@@ -177,7 +178,7 @@ impl Work {
 
     /// Deals with a page, if it can be read.
     pub fn reach(&mut self, page: u32) -> Result<(), Visit>
-        requires { length (visit page (pages_of self.old.dealt)) ≤ 24 }
+        requires { length (visit page (pages_of self.old.dealt)) ≤ MOST_VISITED }
         ensures asks { Asks page (state_of self.old) result (state_of self.new) }
         ensures seen { seen_in self.new.pool self.new.dealt page ≡ seen_in self.old.pool self.old.dealt page }
         ensures reached { OnOk result (IsTrue (is_in page (pages_of self.new.dealt))) }
@@ -202,14 +203,14 @@ impl Work {
     pub fn shown(&self, page: u32) -> &[u8]
         requires { IsTrue (is_in page (pages_of self.now.dealt)) }
         ensures shown { IsShown (seen_in self.now.pool self.now.dealt page) result.now }
-        ensures size { length result.now ≡ 4096 }
+        ensures size { length result.now ≡ PAGE }
     {
         shown_in(&self.pool, &self.dealt, page)
     }
 
     /// Makes the page zeros.
     pub fn make(&mut self, page: u32) -> Result<(), FreshBad>
-        requires few { length (visit page (pages_of self.old.dealt)) ≤ 24 }
+        requires few { length (visit page (pages_of self.old.dealt)) ≤ MOST_VISITED }
         requires within { IsWithin page (state_of self.old) }
         ensures made { OnOk result (Makes page (state_of self.old) (state_of self.new)) }
         ensures refused { OnErr result (state_of self.new ≡ state_of self.old) }
@@ -234,7 +235,7 @@ impl Work {
     /// Puts bytes in a page that is dealt with.
     pub fn put(&mut self, page: u32, at: u16, bytes: &[u8]) -> Result<(), NoMemory>
         requires begins { 20 ≤ at }
-        requires ends { at + length bytes.now ≤ 4096 }
+        requires ends { at + length bytes.now ≤ PAGE }
         requires dealt_with { IsTrue (is_in page (pages_of self.old.dealt)) }
         ensures put { OnOk result (Puts page at bytes.now (state_of self.old) (state_of self.new)) }
         ensures refused { OnErr result (state_of self.new ≡ state_of self.old) }

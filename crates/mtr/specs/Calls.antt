@@ -4,6 +4,7 @@ use Rattle.stored_pages.specs.Words.{u32_at}
 use Rattle.store_api.specs.Causes.{Rose}
 use Rattle.store_api.specs.declared.visits.Visit.{Visit}
 use Rattle.store_api.specs.declared.visits.Visit.TheVariants.{Failed, Again, Bad}
+use Rattle.stored_pages.specs.declared.layout.TheConstants.{PAGE, PAGE_COUNT}
 use Rattle.mtr.specs.Seen.{MtrState, is_in, visit, Visits, IsShut, with_bytes, capacity_of}
 
 -- pages that were told are told still, unless the disk has failed
@@ -50,13 +51,13 @@ Spends n old new = n ≤ old.spare → new.spare + n ≡ old.spare
 -- The page is seen as zeros.
 pub record Makes (page : ℕ) (old new : MtrState) : Type 0 where
   pub goes : Goes old new
-  pub pages : IsTrue new.told → SeesAt page (replicate 4096 0) old new
+  pub pages : IsTrue new.told → SeesAt page (replicate PAGE 0) old new
   pub visited_is : new.visited ≡ visit page old.visited
   pub spare : Spends 5 old new
 
 -- page 0 will count no more pages than before
 abbrev pub CountsNoMore : ℕ → ℕ → List ℕ → MtrState → Type 0
-CountsNoMore page at bytes old = page ≡ 0 → u32_at 44 (with_bytes at bytes (old.seen page)) ≤ capacity_of old
+CountsNoMore page at bytes old = page ≡ 0 → u32_at PAGE_COUNT (with_bytes at bytes (old.seen page)) ≤ capacity_of old
 
 -- The page is seen with these bytes. Pages are told still, unless page 0 counts more of them now.
 pub record Puts (page at : ℕ) (bytes : List ℕ) (old new : MtrState) : Type 0 where

@@ -1,5 +1,6 @@
 -- What pages in two vectors show to a mini-transaction: each page is in the pool, and none breaks a rule.
 use Rattle.std.specs.Prelude.{◌≡◌, ℕ, ◌≤◌, List, slice_index_or, true, None, IsTrue}
+use Rattle.stored_pages.specs.declared.layout.TheConstants.{PAGE_COUNT}
 use Rattle.stored_pages.specs.Words.{u32_at}
 use Rattle.mtr.specs.declared.store.Store.{Store}
 use Rattle.mtr.specs.Seen.{MtrState, capacity_of}
@@ -26,7 +27,7 @@ state_of s = record {
 -- The page is seen with these bytes. Pages are told still, unless page 0 counts more of them now.
 pub record Replaces (page : ℕ) (bytes : List ℕ) (old new : MtrState) : Type 0 where
   pub told : IsTrue new.told → IsTrue old.told
-  pub stays : (page ≡ 0 → u32_at 44 bytes ≤ capacity_of old) → IsTrue old.told → IsTrue new.told
+  pub stays : (page ≡ 0 → u32_at PAGE_COUNT bytes ≤ capacity_of old) → IsTrue old.told → IsTrue new.told
   pub pages : IsTrue new.told → SeesAt page bytes old new
   pub visited_is : new.visited ≡ old.visited
   pub spare_is : new.spare ≡ old.spare

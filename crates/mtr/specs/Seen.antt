@@ -1,6 +1,7 @@
 -- The pages by number, as one mini-transaction sees them.
 use Rattle.std.specs.Prelude.{◌≡◌, ℕ, ◌+◌, ◌<◌, ◌==◌, List, [], ◌∷◌, ◌++◌, length, take, drop, Bool, false, IsTrue, Option, if◌then◌else◌}
 use Rattle.std.specs.List.{list_any}
+use Rattle.stored_pages.specs.declared.layout.TheConstants.{PAGE, PAGE_COUNT}
 use Rattle.stored_pages.specs.Words.{u32_at}
 
 -- What a mini-transaction sees, and how much it may still do. Of a page's bytes only those from 20 on are spoken of:
@@ -64,7 +65,7 @@ pub record IsShut (page : ℕ) (s : MtrState) : Type 0 where
 
 -- how many pages there are, as page 0 says
 abbrev pub capacity_of : MtrState → ℕ
-capacity_of s = u32_at 44 (s.seen 0)
+capacity_of s = u32_at PAGE_COUNT (s.seen 0)
 
 -- where the pages are told, this is one of them
 abbrev pub IsWithin : ℕ → MtrState → Type 0
@@ -72,7 +73,7 @@ IsWithin page s = IsTrue s.told → page < capacity_of s
 
 -- the bytes show the page
 pub record IsShown (page bytes : List ℕ) : Type 0 where
-  pub size : length page ≡ 4096
+  pub size : length page ≡ PAGE
   pub same : drop 20 bytes ≡ drop 20 page
 
 -- the bytes of a page with others in their place

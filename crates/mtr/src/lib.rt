@@ -12,3 +12,4 @@ pub use listed::ListedPages;
 pub use pages::Mtr;
 pub use reading::{capacity, u32_on};
 pub use resident::Resident;
+pub use store::MOST_VISITED;

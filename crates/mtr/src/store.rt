@@ -2,7 +2,9 @@
 //! Only `ListedPages` uses this.
 
 ghost use Rattle.std.specs.Prelude.{◌≡◌, ℕ, ◌+◌, ◌<◌, ◌≤◌, [], length, vec_len, vec_capacity, slice_index_or, slice_set, IsTrue, IfOk, OnOk, OnErr};
+ghost use Rattle.stored_pages.specs.declared.layout.TheConstants.{PAGE_COUNT};
 ghost use Rattle.stored_pages.specs.Words.{u32_at};
+ghost use Rattle.mtr.specs.declared.store.TheConstants.{MOST_VISITED};
 ghost use Rattle.mtr.specs.Seen.{visit, IsWithin, with_bytes};
 ghost use Rattle.mtr.specs.Calls.{Looks, Makes, Puts, Commits, GivesUp};
 
@@ -12,7 +14,7 @@ use stored_pages::layout::{PAGE, PAGE_COUNT};
 use stored_pages::read_u32;
 
 /// The most pages that a mini-transaction deals with.
-const MOST: usize = 24;
+pub const MOST_VISITED: usize = 24;
 
 /// Pages as they stand and as they are seen. Those past the end are blank. They are told as long as page 0 counts no
 /// more pages than there are.
@@ -26,10 +28,10 @@ pub struct Store {
     pub spare: u64,
     pub whole: u64,
     ghost same_count: { vec_len seen ≡ vec_len standing },
-    ghost room: { 24 ≤ vec_capacity visited },
-    ghost few: { vec_len visited ≤ 24 },
-    ghost seen_counted: { IsTrue told → u32_at 44 (slice_index_or seen.items 0 blank) ≤ vec_len seen },
-    ghost standing_counted: { IsTrue told → u32_at 44 (slice_index_or standing.items 0 blank) ≤ vec_len seen },
+    ghost room: { MOST_VISITED ≤ vec_capacity visited },
+    ghost few: { vec_len visited ≤ MOST_VISITED },
+    ghost seen_counted: { IsTrue told → u32_at PAGE_COUNT (slice_index_or seen.items 0 blank) ≤ vec_len seen },
+    ghost standing_counted: { IsTrue told → u32_at PAGE_COUNT (slice_index_or standing.items 0 blank) ≤ vec_len seen },
 }
 
 /// A page of a list, blank past its end.
@@ -44,14 +46,14 @@ fn page_in<'a>(pages: &'a [[u8; PAGE]], blank: &'a [u8; PAGE], page: u32) -> &'a
 }
 
 fn count_of(pages: &[[u8; PAGE]], blank: &[u8; PAGE]) -> u32
-    ensures { result ≡ u32_at 44 (slice_index_or pages.now 0 blank.now) }
+    ensures { result ≡ u32_at PAGE_COUNT (slice_index_or pages.now 0 blank.now) }
 {
     read_u32(page_in(pages, blank, 0), PAGE_COUNT)
 }
 
 /// A page with bytes written over its own.
 fn with_bytes_at(page: &[u8; PAGE], at: u16, bytes: &[u8]) -> [u8; PAGE]
-    requires { at + length bytes.now ≤ 4096 }
+    requires { at + length bytes.now ≤ PAGE }
     ensures { result ≡ with_bytes at bytes.now page.now }
 {
     let at = usize::from(at);
@@ -69,7 +71,7 @@ impl Store {
     {
         let blank = [0; PAGE];
         let seen = Vec::from_slice(alloc, &pages)?;
-        let visited = Vec::with_capacity(alloc, MOST)?;
+        let visited = Vec::with_capacity(alloc, MOST_VISITED)?;
         let told = count_of(&seen, &blank) as usize <= seen.len();
         Ok(Store {
             standing: pages,
@@ -85,14 +87,14 @@ impl Store {
     /// The page as it is seen.
     pub fn page(&self, page: u32) -> &[u8]
         ensures value { result.now ≡ (state_of self.now).seen page }
-        ensures size { length result.now ≡ 4096 }
+        ensures size { length result.now ≡ PAGE }
     {
         page_in(&self.seen, &self.blank, page)
     }
 
     /// The page is one of those dealt with.
     pub fn visit(&mut self, page: u32)
-        requires { length (visit page self.old.visited.items) ≤ 24 }
+        requires { length (visit page self.old.visited.items) ≤ MOST_VISITED }
         ensures looks { Looks (visit page self.old.visited.items) (state_of self.old) (state_of self.new) }
         ensures seen { (state_of self.new).seen ≡ (state_of self.old).seen }
         ensures told { self.new.told ≡ self.old.told }
@@ -130,7 +132,7 @@ impl Store {
 
     /// The page is zeros. It changes nothing where the spare doesn't suffice.
     pub fn make(&mut self, page: u32) -> Result<(), NoMemory>
-        requires few { length (visit page self.old.visited.items) ≤ 24 }
+        requires few { length (visit page self.old.visited.items) ≤ MOST_VISITED }
         requires within { IsWithin page (state_of self.old) }
         ensures made { OnOk result (Makes page (state_of self.old) (state_of self.new)) }
         ensures refused { OnErr result (state_of self.new ≡ state_of self.old) }
@@ -147,7 +149,7 @@ impl Store {
 
     /// Bytes of the page are written over. It changes nothing where the spare doesn't suffice.
     pub fn put(&mut self, page: u32, at: u16, bytes: &[u8]) -> Result<(), NoMemory>
-        requires ends { at + length bytes.now ≤ 4096 }
+        requires ends { at + length bytes.now ≤ PAGE }
         requires within { IsWithin page (state_of self.old) }
         ensures put { OnOk result (Puts page at bytes.now (state_of self.old) (state_of self.new)) }
         ensures refused { OnErr result (state_of self.new ≡ state_of self.old) }

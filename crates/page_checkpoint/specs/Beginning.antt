@@ -3,6 +3,9 @@ use Rattle.std.specs.Prelude.{◌≡◌, ◌≢◌, ◌⊎◌, ℕ, ◌+◌, ◌
 use Rattle.store_api.specs.Areas.{State, Contents, Image, Write, IsImage, IsHonest}
 use Rattle.store_api.specs.Causes.{Rose}
 use Rattle.store_api.specs.Past.{Past}
+use Rattle.stored_pages.specs.declared.layout.TheConstants.{RUN, FIRST_LSN}
+use Rattle.store_api.specs.declared.limits.TheConstants.{MOST_PAGES}
+use Rattle.log_format.specs.declared.block.TheConstants.{BLOCK}
 use Rattle.stored_pages.specs.Words.{u64_at}
 use Rattle.log_format.specs.declared.group.Group.{Group}
 use Rattle.log_format.specs.Block.{IsGood}
@@ -25,16 +28,16 @@ use Rattle.page_checkpoint.specs.Header.{IsNextHeader}
 pub record IsNextRun (pool : PoolView) (log : LogView) (next : NewRun) : Type 0 where
   pub clean : (page : ℕ) → is_dirty pool page ≡ false
   pub flushed : log.flushed + 1 ≡ log.next
-  pub some : u64_at 56 (bytes_of pool 0) < log.next
-  pub run_is : next.run ≡ u64_at 48 (bytes_of pool 0) + 1
+  pub some : u64_at FIRST_LSN (bytes_of pool 0) < log.next
+  pub run_is : next.run ≡ u64_at RUN (bytes_of pool 0) + 1
   pub first_is : next.first ≡ log.next + 1
 
 -- why there is none; of want of memory and of a disk that fails nothing is said here
 abbrev pub IsCause : PoolView → LogView → CheckpointBad → Type 0
 IsCause pool log (Dirty page) = is_dirty pool page ≡ true
 IsCause pool log NotFlushed = log.flushed + 1 ≢ log.next
-IsCause pool log NoGroups = log.next ≤ u64_at 56 (bytes_of pool 0)
-IsCause pool log NoNumbers = (2 ^ 64 ≤ u64_at 48 (bytes_of pool 0) + 1) ⊎ (2 ^ 64 ≤ log.next + 1)
+IsCause pool log NoGroups = log.next ≤ u64_at FIRST_LSN (bytes_of pool 0)
+IsCause pool log NoNumbers = (2 ^ 64 ≤ u64_at RUN (bytes_of pool 0) + 1) ⊎ (2 ^ 64 ≤ log.next + 1)
 IsCause pool log NoMemory = Unit {0}
 IsCause pool log Failed = Unit {0}
 
@@ -86,14 +89,14 @@ pub record HoldsAll (capacity first : ℕ) (groups : List Group) (base : ℕ →
 -- At the log's beginning stands no block of that run, and what is being written there are zeros.
 pub record IsUnused (run : ℕ) (log : Contents) : Type 0 where
   pub other : IsGood run 0 log.synced → ⊥
-  pub later : All (λ (w : Write). (512 ≤ w.at) ⊎ (w.bytes ≡ replicate (length w.bytes) 0)) log.writes
+  pub later : All (λ (w : Write). (BLOCK ≤ w.at) ⊎ (w.bytes ≡ replicate (length w.bytes) 0)) log.writes
 
 -- The disk holds a run that begins with these pages behind that LSN, and has no group. Each page is in its place for good as
 -- it begins, or nobody has written it.
 pub record HasBegun (capacity run last : ℕ) (base : ℕ → List ℕ) (s : State) : Type 0 where
   pub file : IsFileRun capacity run (last + 1) [] base
   pub placed : IsPlaced (last + 1) last [] base s
-  pub each : (page : ℕ) → page < 65536 → IsHome page (base page) s ⊎ IsNowhere page (base page) s
+  pub each : (page : ℕ) → page < MOST_PAGES → IsHome page (base page) s ⊎ IsNowhere page (base page) s
   pub unused : IsUnused run s.log
 
 -- Whatever a crash leaves now is that run.

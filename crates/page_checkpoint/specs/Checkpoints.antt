@@ -1,6 +1,8 @@
 -- A checkpoint: page 0 alone is a batch, and says a new run, whose log is empty.
 use Rattle.std.specs.Prelude.{◌≡◌, ℕ, ◌+◌, ◌<◌, ◌==◌, if◌then◌else◌, List, length}
 use Rattle.store_api.specs.Areas.{State, MayLeave, IsHonestArea}
+use Rattle.store_api.specs.declared.limits.TheConstants.{MOST_PAGES}
+use Rattle.log_format.specs.declared.block.TheConstants.{BLOCK}
 use Rattle.stored_pages.specs.Words.{lsn_of}
 use Rattle.log_format.specs.declared.group.Group.{Group}
 use Rattle.log_format.specs.Block.{IsGood}
@@ -19,7 +21,7 @@ begun header base groups page = if page == 0 then header else logical base group
 pub record IsClean (first flushed : ℕ) (groups : List Group) (base : ℕ → List ℕ) (s : State) : Type 0 where
   pub all : flushed + 1 ≡ first + length groups
   pub placed : IsPlaced first flushed groups base s
-  pub each : (page : ℕ) → page < 65536 → IsKept groups base page s
+  pub each : (page : ℕ) → page < MOST_PAGES → IsKept groups base page s
 
 -- The batch is page 0 with the LSN after the last. It says the next run, which begins with the LSN after that; and no block
 -- of that run stands at the log's beginning.
@@ -30,4 +32,4 @@ pub record IsCheckpoint (capacity run first : ℕ) (groups : List Group) (batch 
   pub are_bytes : AreBytes 8 (page_at batch 0)
   pub lsn : lsn_of (page_at batch 0) ≡ first + length groups
   pub header : IsFileHeader capacity (run + 1) (first + length groups + 1) (page_at batch 0)
-  pub unused : (area : List ℕ) → MayLeave before.log area → IsHonestArea 512 before.log area → IsGood (run + 1) 0 area → ⊥
+  pub unused : (area : List ℕ) → MayLeave before.log area → IsHonestArea BLOCK before.log area → IsGood (run + 1) 0 area → ⊥

@@ -12,7 +12,7 @@ use sum64::fnv;
 
 /// The bytes with a piece in place of those that stood there.
 fn with_piece(bytes: &[u8; PAGE], at: usize, piece: &[u8]) -> [u8; PAGE]
-    requires { at + length piece.now ≤ 4096 }
+    requires { at + length piece.now ≤ PAGE }
     ensures { result ≡ take at bytes.now ++ (piece.now ++ drop (at + length piece.now) bytes.now) }
 {
     let mut new = *bytes;

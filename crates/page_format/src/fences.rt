@@ -2,6 +2,8 @@
 //! Only the test of a page's order asks this.
 
 ghost use Rattle.std.specs.Prelude.{◌≡◌, [], ◌+◌, ◌≤◌, ◌<◌, length, take, drop, slice_index_or, MatchBool};
+ghost use Rattle.stored_pages.specs.declared.layout.TheConstants.{PAGE};
+ghost use Rattle.page_format.specs.declared.layout.TheConstants.{FENCE};
 ghost use Rattle.page_format.specs.Words.{count_of, low_of, high_of, records_of};
 ghost use Rattle.page_format.specs.Found.{key_cmp};
 ghost use Rattle.page_format.specs.Fences.{DoFencesRise, BeginsInside, EndsInside};
@@ -15,9 +17,9 @@ use stored_pages::read_u16;
 
 /// A fence's bytes.
 fn fence_at(bytes: &[u8], at: usize, len: u8) -> &[u8]
-    requires fits { len ≤ 80 }
-    requires inside { at + 80 ≤ length bytes.now }
-    ensures { result.now ≡ take len (take 80 (drop at bytes.now)) }
+    requires fits { len ≤ FENCE }
+    requires inside { at + FENCE ≤ length bytes.now }
+    ensures { result.now ≡ take len (take FENCE (drop at bytes.now)) }
 {
     behind(bytes, at).split_at(usize::from(len)).0
 }
@@ -32,7 +34,7 @@ fn against(fence: &[u8], rec: &[u8]) -> Ordering
 
 /// The record of that number.
 fn record_at(bytes: &[u8], i: u16) -> &[u8]
-    requires size { length bytes.now ≡ 4096 }
+    requires size { length bytes.now ≡ PAGE }
     requires fields { HasTreeFields bytes.now }
     requires place { i < count_of bytes.now }
     ensures { result.now ≡ slice_index_or (records_of bytes.now) i [] }
@@ -43,7 +45,7 @@ fn record_at(bytes: &[u8], i: u16) -> &[u8]
 
 /// Whether the low fence stands before the high one.
 pub fn do_fences_rise(bytes: &[u8]) -> bool
-    requires size { length bytes.now ≡ 4096 }
+    requires size { length bytes.now ≡ PAGE }
     requires fields { HasTreeFields bytes.now }
     ensures { MatchBool result (DoFencesRise (low_of bytes.now) (high_of bytes.now)) (DoFencesRise (low_of bytes.now) (high_of bytes.now) → ⊥) }
 {
@@ -60,7 +62,7 @@ pub fn do_fences_rise(bytes: &[u8]) -> bool
 
 /// Whether the first record doesn't begin below the low fence.
 pub fn begins_inside(bytes: &[u8]) -> bool
-    requires size { length bytes.now ≡ 4096 }
+    requires size { length bytes.now ≡ PAGE }
     requires fields { HasTreeFields bytes.now }
     ensures { MatchBool result (BeginsInside (low_of bytes.now) (records_of bytes.now)) (BeginsInside (low_of bytes.now) (records_of bytes.now) → ⊥) }
 {
@@ -76,7 +78,7 @@ pub fn begins_inside(bytes: &[u8]) -> bool
 
 /// Whether the last record begins below the high fence.
 pub fn ends_inside(bytes: &[u8]) -> bool
-    requires size { length bytes.now ≡ 4096 }
+    requires size { length bytes.now ≡ PAGE }
     requires fields { HasTreeFields bytes.now }
     ensures { MatchBool result (EndsInside (high_of bytes.now) (records_of bytes.now)) (EndsInside (high_of bytes.now) (records_of bytes.now) → ⊥) }
 {

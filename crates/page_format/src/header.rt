@@ -2,6 +2,8 @@
 //! A split of a page is made of these and of the edits of records.
 
 ghost use Rattle.std.specs.Prelude.{◌≡◌, ℕ, ◌≤◌, length, take, drop, slice_index, Some};
+ghost use Rattle.stored_pages.specs.declared.layout.TheConstants.{PAGE};
+ghost use Rattle.page_format.specs.declared.layout.TheConstants.{FENCE};
 ghost use Rattle.page_format.specs.Words.{right_of, low_of, high_of, records_of};
 ghost use Rattle.stored_pages.specs.Words.{number_of};
 ghost use Rattle.page_format.specs.Shape.{HasTreeFields};
@@ -12,7 +14,7 @@ use big_endian::u32_bytes;
 use stored_pages::layout::NUMBER;
 
 pub fn set_number(bytes: &mut [u8], number: u32)
-    requires size { length bytes.old ≡ 4096 }
+    requires size { length bytes.old ≡ PAGE }
     requires fields { HasTreeFields bytes.old }
     ensures fields { HasTreeFields bytes.new }
     ensures records { records_of bytes.new ≡ records_of bytes.old }
@@ -24,7 +26,7 @@ pub fn set_number(bytes: &mut [u8], number: u32)
 }
 
 pub fn set_right(bytes: &mut [u8], number: u32)
-    requires size { length bytes.old ≡ 4096 }
+    requires size { length bytes.old ≡ PAGE }
     requires fields { HasTreeFields bytes.old }
     ensures fields { HasTreeFields bytes.new }
     ensures records { records_of bytes.new ≡ records_of bytes.old }
@@ -36,15 +38,15 @@ pub fn set_right(bytes: &mut [u8], number: u32)
 }
 
 pub fn set_low(bytes: &mut [u8], key: &[u8])
-    requires size { length bytes.old ≡ 4096 }
+    requires size { length bytes.old ≡ PAGE }
     requires fields { HasTreeFields bytes.old }
-    requires key { length key.now ≤ 80 }
+    requires key { length key.now ≤ FENCE }
     ensures fields { HasTreeFields bytes.new }
     ensures records { records_of bytes.new ≡ records_of bytes.old }
     ensures low { low_of bytes.new ≡ Some key.now }
     ensures front { take 34 bytes.new ≡ take 34 bytes.old }
     ensures between { slice_index bytes.new 35 ≡ slice_index bytes.old 35 }
-    ensures back { drop 116 bytes.new ≡ drop 116 bytes.old }
+    ensures back { drop HIGH bytes.new ≡ drop HIGH bytes.old }
 {
     write_over(bytes, LOW_LEN, &[key.len() as u8]);
     write_over(bytes, LOW, key);
@@ -52,15 +54,15 @@ pub fn set_low(bytes: &mut [u8], key: &[u8])
 }
 
 pub fn set_high(bytes: &mut [u8], key: &[u8])
-    requires size { length bytes.old ≡ 4096 }
+    requires size { length bytes.old ≡ PAGE }
     requires fields { HasTreeFields bytes.old }
-    requires key { length key.now ≤ 80 }
+    requires key { length key.now ≤ FENCE }
     ensures fields { HasTreeFields bytes.new }
     ensures records { records_of bytes.new ≡ records_of bytes.old }
     ensures high { high_of bytes.new ≡ Some key.now }
     ensures front { take 35 bytes.new ≡ take 35 bytes.old }
-    ensures between { take 80 (drop 36 bytes.new) ≡ take 80 (drop 36 bytes.old) }
-    ensures back { drop 196 bytes.new ≡ drop 196 bytes.old }
+    ensures between { take FENCE (drop LOW bytes.new) ≡ take FENCE (drop LOW bytes.old) }
+    ensures back { drop FENCES_END bytes.new ≡ drop FENCES_END bytes.old }
 {
     write_over(bytes, HIGH_LEN, &[key.len() as u8]);
     write_over(bytes, HIGH, key);

@@ -3,6 +3,7 @@
 
 ghost use Rattle.std.specs.Prelude.{◌≡◌, ℕ, [], ◌+◌, ◌*◌, ◌<◌, ◌≤◌, length, drop, take, map, slice_index_or, insert, remove, IfOk, IfErr, MatchBool};
 ghost use Rattle.store_api.specs.Areas.{PassesSum};
+ghost use Rattle.page_format.specs.declared.layout.TheConstants.{FENCE};
 ghost use Rattle.page_format.specs.Words.{count_of, record_len_of, records_of};
 ghost use Rattle.stored_pages.specs.Words.{number_of};
 ghost use Rattle.page_format.specs.Shape.{IsPage, HasFields, HasOrder, HasTreeFields, HasPlainFields, AreRising};
@@ -42,7 +43,7 @@ impl Page {
     /// The page of that number that these bytes are.
     #[tactic(auto, unfolding(stored_pages::specs::Words::u64_at))]
     pub fn read(bytes: &[u8], number: u32) -> Result<Page, PageBad>
-        requires { length bytes.now ≡ 4096 }
+        requires { length bytes.now ≡ PAGE }
         ensures page { IfOk result (λ page. (page ≡ bytes.now) × IsPage number page) }
         ensures refused { IfErr result (IsRefused number bytes.now) }
     {
@@ -72,7 +73,7 @@ impl Page {
 
     pub fn as_bytes(&self) -> &[u8]
         ensures value { result.now ≡ self.now }
-        ensures size { length self.now ≡ 4096 }
+        ensures size { length self.now ≡ PAGE }
     {
         &self.bytes
     }
@@ -90,7 +91,7 @@ impl Page {
     /// How many bytes are left behind the records of a tree page.
     pub fn room(&self) -> u16
         requires { HasTreeFields self.now }
-        ensures { 208 + count_of self.now * record_len_of self.now + result ≡ 4096 }
+        ensures { RECORDS + count_of self.now * record_len_of self.now + result ≡ PAGE }
     {
         let used = usize::from(read_u16(&self.bytes, COUNT))
             * usize::from(read_u16(&self.bytes, WIDTH));
@@ -138,7 +139,7 @@ impl Page {
         requires fields { HasTreeFields self.old }
         requires place { i ≤ count_of self.old }
         requires width { length rec.now ≡ record_len_of self.old }
-        requires room { 208 + (count_of self.old + 1) * record_len_of self.old ≤ 4096 }
+        requires room { RECORDS + (count_of self.old + 1) * record_len_of self.old ≤ PAGE }
         ensures fields { HasTreeFields self.new }
         ensures records { records_of self.new ≡ insert (records_of self.old) i rec.now }
         ensures kept { KeepsFields self.old self.new }
@@ -176,7 +177,7 @@ impl Page {
         requires fields { HasTreeFields self.old }
         requires place { i < count_of self.old }
         requires key { key_len ≤ record_len_of self.old }
-        requires fence { key_len ≤ 80 }
+        requires fence { key_len ≤ FENCE }
         ensures lower { IsLowerHalf self.old i (take key_len (slice_index_or (records_of self.old) i [])) number self.new }
         ensures upper { IsUpperHalf self.old i (take key_len (slice_index_or (records_of self.old) i [])) number result }
         ensures order { AreRising (records_of self.old) → AreRising (records_of self.new) × AreRising (records_of result) }

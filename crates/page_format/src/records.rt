@@ -4,6 +4,7 @@
 ghost use Rattle.std.specs.Prelude.{◌≡◌, ◌≢◌, ℕ, ◌+◌, ◌*◌, ◌≤◌, ◌<◌, ◌++◌, [], length, take, drop, insert, remove, slice_index_or};
 ghost use Rattle.std.specs.declared.cmp.Ordering.TheVariants.{Less};
 ghost use Rattle.std.specs.Int.{w16, to_be_bytes};
+ghost use Rattle.stored_pages.specs.declared.layout.TheConstants.{PAGE};
 ghost use Rattle.page_format.specs.Changes.{KeepsFields, with_byte};
 ghost use Rattle.page_format.specs.Found.{key_cmp, AreBelow, IsFound};
 ghost use Rattle.page_format.specs.Words.{count_of, record_len_of, records_of};
@@ -25,14 +26,14 @@ pub enum Found {
 
 /// Where the record of that number begins.
 pub fn place_of(bytes: &[u8], i: u16) -> usize
-    requires { 208 ≤ length bytes.now }
-    ensures { result ≡ 208 + i * record_len_of bytes.now }
+    requires { RECORDS ≤ length bytes.now }
+    ensures { result ≡ RECORDS + i * record_len_of bytes.now }
 {
     RECORDS + usize::from(i) * usize::from(read_u16(bytes, WIDTH))
 }
 
 fn set_count(bytes: &mut [u8], count: u16)
-    requires { 208 ≤ length bytes.old }
+    requires { RECORDS ≤ length bytes.old }
     ensures { bytes.new ≡ take 22 bytes.old ++ (to_be_bytes w16 count ++ drop 24 bytes.old) }
 {
     write_over(bytes, COUNT, &u16_bytes(count));
@@ -40,11 +41,11 @@ fn set_count(bytes: &mut [u8], count: u16)
 
 /// Puts a record in.
 pub fn insert_record(bytes: &mut [u8], i: u16, rec: &[u8])
-    requires size { length bytes.old ≡ 4096 }
+    requires size { length bytes.old ≡ PAGE }
     requires fields { HasTreeFields bytes.old }
     requires place { i ≤ count_of bytes.old }
     requires width { length rec.now ≡ record_len_of bytes.old }
-    requires room { 208 + (count_of bytes.old + 1) * record_len_of bytes.old ≤ 4096 }
+    requires room { RECORDS + (count_of bytes.old + 1) * record_len_of bytes.old ≤ PAGE }
     ensures fields { HasTreeFields bytes.new }
     ensures records { records_of bytes.new ≡ insert (records_of bytes.old) i rec.now }
     ensures kept { KeepsFields bytes.old bytes.new }
@@ -58,7 +59,7 @@ pub fn insert_record(bytes: &mut [u8], i: u16, rec: &[u8])
 
 /// Takes a record out.
 pub fn remove_record(bytes: &mut [u8], i: u16)
-    requires size { length bytes.old ≡ 4096 }
+    requires size { length bytes.old ≡ PAGE }
     requires fields { HasTreeFields bytes.old }
     requires place { i < count_of bytes.old }
     ensures fields { HasTreeFields bytes.new }
@@ -75,7 +76,7 @@ pub fn remove_record(bytes: &mut [u8], i: u16)
 
 /// Writes the mark of a record, the byte behind its key.
 pub fn mark_record(bytes: &mut [u8], i: u16, key_len: u8, mark: u8)
-    requires size { length bytes.old ≡ 4096 }
+    requires size { length bytes.old ≡ PAGE }
     requires fields { HasTreeFields bytes.old }
     requires place { i < count_of bytes.old }
     requires key { key_len < record_len_of bytes.old }
@@ -89,7 +90,7 @@ pub fn mark_record(bytes: &mut [u8], i: u16, key_len: u8, mark: u8)
 
 /// How the record of that number stands to a key, by its first bytes.
 fn compare_at(bytes: &[u8], i: u16, key: &[u8]) -> Ordering
-    requires size { length bytes.now ≡ 4096 }
+    requires size { length bytes.now ≡ PAGE }
     requires fields { HasTreeFields bytes.now }
     requires place { i < count_of bytes.now }
     requires key { length key.now ≤ record_len_of bytes.now }
@@ -101,7 +102,7 @@ fn compare_at(bytes: &[u8], i: u16, key: &[u8]) -> Ordering
 
 /// How many records begin below a key. It halves the records in question each time.
 fn count_below(bytes: &[u8], key: &[u8]) -> u16
-    requires size { length bytes.now ≡ 4096 }
+    requires size { length bytes.now ≡ PAGE }
     requires fields { HasTreeFields bytes.now }
     requires rising { AreRising (records_of bytes.now) }
     requires key { length key.now ≤ record_len_of bytes.now }
@@ -123,7 +124,7 @@ fn count_below(bytes: &[u8], key: &[u8]) -> u16
 
 /// Where a key stands among the records, which rise.
 pub fn find_record(bytes: &[u8], key: &[u8]) -> Found
-    requires size { length bytes.now ≡ 4096 }
+    requires size { length bytes.now ≡ PAGE }
     requires fields { HasTreeFields bytes.now }
     requires rising { AreRising (records_of bytes.now) }
     requires key { length key.now ≤ record_len_of bytes.now }
@@ -141,7 +142,7 @@ pub fn find_record(bytes: &[u8], key: &[u8]) -> Found
 
 /// Keeps the records before a place.
 pub fn keep_first(bytes: &mut [u8], i: u16)
-    requires size { length bytes.old ≡ 4096 }
+    requires size { length bytes.old ≡ PAGE }
     requires fields { HasTreeFields bytes.old }
     requires place { i ≤ count_of bytes.old }
     ensures fields { HasTreeFields bytes.new }
@@ -156,7 +157,7 @@ pub fn keep_first(bytes: &mut [u8], i: u16)
 
 /// Keeps the records from a place on.
 pub fn keep_last(bytes: &mut [u8], i: u16)
-    requires size { length bytes.old ≡ 4096 }
+    requires size { length bytes.old ≡ PAGE }
     requires fields { HasTreeFields bytes.old }
     requires place { i ≤ count_of bytes.old }
     ensures fields { HasTreeFields bytes.new }

@@ -22,7 +22,7 @@ fn are_zeros(bytes: &[u8]) -> bool
 }
 
 fn is_fence(len: u8, bytes: &[u8]) -> bool
-    requires { length bytes.now ≡ 80 }
+    requires { length bytes.now ≡ FENCE }
     ensures { MatchBool result (IsFence len bytes.now) (IsFence len bytes.now → ⊥) }
 {
     let width = if len == NO_FENCE { 0 } else { usize::from(len) };
@@ -30,13 +30,13 @@ fn is_fence(len: u8, bytes: &[u8]) -> bool
 }
 
 fn tree_kind(level: u8) -> u8
-    ensures { result ≡ (if level == 0 then 3 else 4) }
+    ensures { result ≡ (if level == 0 then LEAF else INNER) }
 {
     if level == 0 { LEAF } else { INNER }
 }
 
 fn has_tree_fields(bytes: &[u8]) -> bool
-    requires { length bytes.now ≡ 4096 }
+    requires { length bytes.now ≡ PAGE }
     ensures { MatchBool result (HasTreeFields bytes.now) (HasTreeFields bytes.now → ⊥) }
 {
     let width = usize::from(read_u16(bytes, WIDTH));
@@ -66,14 +66,14 @@ fn has_tree_fields(bytes: &[u8]) -> bool
 }
 
 fn has_plain_fields(bytes: &[u8]) -> bool
-    requires { length bytes.now ≡ 4096 }
+    requires { length bytes.now ≡ PAGE }
     ensures { MatchBool result (HasPlainFields bytes.now) (HasPlainFields bytes.now → ⊥) }
 {
     matches!(bytes[KIND], 1 | 2 | 5 | 6 | 7) && are_zeros(&bytes[LEVEL..WIDTH])
 }
 
 pub fn has_fields(bytes: &[u8]) -> bool
-    requires { length bytes.now ≡ 4096 }
+    requires { length bytes.now ≡ PAGE }
     ensures { MatchBool result (HasFields bytes.now) (HasFields bytes.now → ⊥) }
 {
     if is_tree_kind(bytes[KIND]) {
@@ -109,7 +109,7 @@ fn are_rising(count: u16, width: usize, records: &[u8]) -> bool
 
 /// Whether the records of a tree page rise, between fences that rise.
 fn has_tree_order(bytes: &[u8]) -> bool
-    requires size { length bytes.now ≡ 4096 }
+    requires size { length bytes.now ≡ PAGE }
     requires fields { HasTreeFields bytes.now }
     ensures { MatchBool result (HasTreeOrder bytes.now) (HasTreeOrder bytes.now → ⊥) }
 {
@@ -127,7 +127,7 @@ fn has_tree_order(bytes: &[u8]) -> bool
 }
 
 pub fn has_order(bytes: &[u8]) -> bool
-    requires size { length bytes.now ≡ 4096 }
+    requires size { length bytes.now ≡ PAGE }
     requires fields { HasFields bytes.now }
     ensures { MatchBool result (HasOrder bytes.now) (HasOrder bytes.now → ⊥) }
 {

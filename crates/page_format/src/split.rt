@@ -2,6 +2,8 @@
 //! The call of `Page` is made of these.
 
 ghost use Rattle.std.specs.Prelude.{◌≡◌, [], ◌≤◌, ◌<◌, length, take, slice_index_or};
+ghost use Rattle.stored_pages.specs.declared.layout.TheConstants.{PAGE};
+ghost use Rattle.page_format.specs.declared.layout.TheConstants.{FENCE};
 ghost use Rattle.page_format.specs.Changes.{IsLowerHalf, IsUpperHalf};
 ghost use Rattle.page_format.specs.Words.{count_of, record_len_of, records_of};
 ghost use Rattle.page_format.specs.Shape.{HasTreeFields};
@@ -12,7 +14,7 @@ use crate::records::{keep_first, keep_last, place_of};
 
 /// The key of a record, its first bytes.
 pub fn key_of(bytes: &[u8], i: u16, key_len: u8) -> &[u8]
-    requires size { length bytes.now ≡ 4096 }
+    requires size { length bytes.now ≡ PAGE }
     requires fields { HasTreeFields bytes.now }
     requires place { i < count_of bytes.now }
     requires key { key_len ≤ record_len_of bytes.now }
@@ -25,10 +27,10 @@ pub fn key_of(bytes: &[u8], i: u16, key_len: u8) -> &[u8]
 
 /// Makes the page its lower half.
 pub fn keep_lower(bytes: &mut [u8], i: u16, key: &[u8], number: u32)
-    requires size { length bytes.old ≡ 4096 }
+    requires size { length bytes.old ≡ PAGE }
     requires fields { HasTreeFields bytes.old }
     requires place { i < count_of bytes.old }
-    requires key { length key.now ≤ 80 }
+    requires key { length key.now ≤ FENCE }
     ensures { IsLowerHalf bytes.old i key.now number bytes.new }
 {
     keep_first(bytes, i);
@@ -38,10 +40,10 @@ pub fn keep_lower(bytes: &mut [u8], i: u16, key: &[u8], number: u32)
 
 /// Makes the page its upper half.
 pub fn keep_upper(bytes: &mut [u8], i: u16, key: &[u8], number: u32)
-    requires size { length bytes.old ≡ 4096 }
+    requires size { length bytes.old ≡ PAGE }
     requires fields { HasTreeFields bytes.old }
     requires place { i < count_of bytes.old }
-    requires key { length key.now ≤ 80 }
+    requires key { length key.now ≤ FENCE }
     ensures { IsUpperHalf bytes.old i key.now number bytes.new }
 {
     keep_last(bytes, i);

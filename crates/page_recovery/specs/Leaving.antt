@@ -9,6 +9,7 @@ use Rattle.law_logged_pages.specs.Stages.{IsStage}
 use Rattle.law_logged_pages.specs.Heads.{SpareHead}
 use Rattle.law_logged_pages.specs.Keeping.{IsRun, durable}
 use Rattle.store_api.specs.Looks.{HoldsSame}
+use Rattle.store_api.specs.declared.limits.TheConstants.{MOST_PAGES}
 use Rattle.page_recovery.specs.Reading.{IsFileHeader}
 
 -- Nothing is pending in any area, and a read of pages gives none by chance.
@@ -23,7 +24,7 @@ Is before s = s ≡ before
 
 -- a crash leaves each page as it was read before, and the log
 pub record StillReads (before s : State) : Type 0 where
-  pub each : (image : Image) → IsImage s image → IsHonest s image → (page : ℕ) (content : Option (List ℕ)) → page < 65536
+  pub each : (image : Image) → IsImage s image → IsHonest s image → (page : ℕ) (content : Option (List ℕ)) → page < MOST_PAGES
       → IsPageIn image.pages image.double page content → WasRead before page content
   pub log : HoldsSame before.log s.log
 
@@ -40,7 +41,7 @@ pub record LeavesRun (run first flushed : ℕ) (groups : List Group) (base : ℕ
   pub now : ℕ
   pub later : flushed ≤ now
   pub log : HoldsPrefix run first groups now image.log
-  pub pages : (page : ℕ) (content : Option (List ℕ)) → page < 65536 → IsPageIn image.pages image.double page content
+  pub pages : (page : ℕ) (content : Option (List ℕ)) → page < MOST_PAGES → IsPageIn image.pages image.double page content
       → IsStage base groups (durable first now) page content
 
 -- So does whatever a crash leaves, and its log is that of before.

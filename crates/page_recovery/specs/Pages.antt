@@ -1,5 +1,6 @@
 -- What contracts see of pages in memory: under each number the page's bytes, if it is there.
 use Rattle.std.specs.Prelude.{◌≡◌, ◌≢◌, ℕ, ◌^◌, ◌<◌, Option, None, List, length, slice_index_or}
+use Rattle.stored_pages.specs.declared.layout.TheConstants.{PAGE}
 use Rattle.law_logged_pages.specs.Stages.{or_zeros}
 
 -- the page's bytes; one that isn't there is zeros
@@ -8,7 +9,7 @@ page_of slots page = or_zeros (slice_index_or slots page None)
 
 -- each page is whole, and its number fits a page's field
 pub record ArePages (slots : List (Option (List ℕ))) : Type 0 where
-  pub whole : (page : ℕ) → length (page_of slots page) ≡ 4096
+  pub whole : (page : ℕ) → length (page_of slots page) ≡ PAGE
   pub few : length slots < 2 ^ 32
 
 -- The page has these bytes, and the others are as they were.

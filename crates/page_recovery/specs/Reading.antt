@@ -1,5 +1,7 @@
 -- What recovery reads: page 0, which says the log's run, the pages that are good in their places, and the log's groups.
 use Rattle.std.specs.Prelude.{◌≡◌, ◌≢◌, ℕ, ◌<◌, ◌≤◌, Option, Some, None, IfSome, IfNone, List, length, slice_index_or}
+use Rattle.stored_pages.specs.declared.layout.TheConstants.{FIXED_PAGES, PAGE_COUNT, RUN, FIRST_LSN}
+use Rattle.store_api.specs.declared.limits.TheConstants.{MOST_PAGES}
 use Rattle.stored_pages.specs.Words.{u32_at, u64_at}
 use Rattle.log_format.specs.declared.group.Group.{Group}
 use Rattle.log_format.specs.Scan.{IsScan, EndsAt}
@@ -12,11 +14,11 @@ use Rattle.page_recovery.specs.Applying.{AreBroughtOn}
 pub record IsFileHeader (capacity run first : ℕ) (page : List ℕ) : Type 0 where
   pub marked : HasMagic page
   pub version : version_of page ≡ 1
-  pub pages : u32_at 44 page ≡ capacity
-  pub enough : 21 ≤ capacity
-  pub few : capacity ≤ 65536
-  pub of_run : u64_at 48 page ≡ run
-  pub begins : u64_at 56 page ≡ first
+  pub pages : u32_at PAGE_COUNT page ≡ capacity
+  pub enough : FIXED_PAGES ≤ capacity
+  pub few : capacity ≤ MOST_PAGES
+  pub of_run : u64_at RUN page ≡ run
+  pub begins : u64_at FIRST_LSN page ≡ first
 
 -- the page as it stands in its place, or none where it isn't good there
 abbrev pub StandsIn : List ℕ → ℕ → Option (List ℕ) → Type 0

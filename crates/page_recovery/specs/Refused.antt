@@ -1,6 +1,8 @@
 -- Why a repair or a read of the log gave up, and what is wrong with page 0.
 use Rattle.std.specs.Prelude.{◌≡◌, ◌≢◌, ◌⊎◌, ℕ, ◌<◌, List}
 use Rattle.store_api.specs.Causes.{Rose}
+use Rattle.stored_pages.specs.declared.layout.TheConstants.{FIXED_PAGES, PAGE_COUNT}
+use Rattle.store_api.specs.declared.limits.TheConstants.{MOST_PAGES}
 use Rattle.stored_pages.specs.Words.{u32_at}
 use Rattle.log_format.specs.declared.reader.ReadBad.{ReadBad}
 use Rattle.log_format.specs.declared.reader.ReadBad.TheVariants as reading
@@ -14,7 +16,7 @@ use Rattle.page_recovery.specs.declared.bad.RecoverBad.TheVariants.{Failed, NoMe
 abbrev pub IsOther : List ℕ → RecoverBad → Type 0
 IsOther page NoDatabase = HasMagic page → ⊥
 IsOther page (Version found) = HasMagic page × (version_of page ≡ found) × (found ≢ 1)
-IsOther page (Capacity found) = HasMagic page × (u32_at 44 page ≡ found) × ((found < 21) ⊎ (65536 < found))
+IsOther page (Capacity found) = HasMagic page × (u32_at PAGE_COUNT page ≡ found) × ((found < FIXED_PAGES) ⊎ (MOST_PAGES < found))
 IsOther page why = ⊥
 
 abbrev pub of_repair : RepairBad → RecoverBad

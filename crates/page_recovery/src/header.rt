@@ -2,6 +2,7 @@
 //! Nothing here meets the disk.
 
 ghost use Rattle.std.specs.Prelude.{◌≡◌, length, IfOk, IfErr};
+ghost use Rattle.stored_pages.specs.declared.layout.TheConstants.{PAGE};
 ghost use Rattle.page_recovery.specs.Reading.{IsFileHeader};
 ghost use Rattle.page_recovery.specs.Refused.{IsOther};
 
@@ -23,7 +24,7 @@ pub struct Header {
 
 /// What a good page 0 says.
 pub fn header_of(page: &[u8]) -> Result<Header, RecoverBad>
-    requires { length page.now ≡ 4096 }
+    requires { length page.now ≡ PAGE }
     ensures ok { IfOk result (λ header. IsFileHeader header.capacity header.run header.first page.now) }
     ensures other { IfErr result (IsOther page.now) }
 {

@@ -25,17 +25,18 @@ pub struct PageBytes {
 
 impl Model for PageBytes {
     ghost use Rattle.std.specs.Prelude.{◌≡◌, ℕ, List, length};
+    ghost use Rattle.stored_pages.specs.declared.layout.TheConstants.{PAGE};
 
     ghost Value = { List ℕ };
 
     ghost view = { λ p. p.bytes.value };
 
-    ghost invariant = { λ p. length p.bytes.value ≡ 4096 };
+    ghost invariant = { λ p. length p.bytes.value ≡ PAGE };
 }
 
 /// Writes a piece over the bytes from a place on.
 fn write_over(bytes: &mut [u8; PAGE], at: usize, piece: &[u8])
-    requires { at + length piece.now ≤ 4096 }
+    requires { at + length piece.now ≤ PAGE }
     ensures { bytes.new ≡ with_bytes at piece.now bytes.old }
 {
     bytes[at..at + piece.len()].copy_from_slice(piece);
@@ -67,14 +68,14 @@ impl PageBytes {
 
     fn as_slice(&self) -> &[u8]
         ensures value { result.now ≡ self.now }
-        ensures size { length result.now ≡ 4096 }
+        ensures size { length result.now ≡ PAGE }
     {
         self.bytes.as_slice()
     }
 
     /// The page with these bytes.
     fn filled(mut self, bytes: &[u8]) -> PageBytes
-        requires { length bytes.now ≡ 4096 }
+        requires { length bytes.now ≡ PAGE }
         ensures { result ≡ bytes.now }
     {
         self.bytes.copy_from_slice(bytes);
@@ -83,9 +84,9 @@ impl PageBytes {
 
     /// The page with a piece over its bytes.
     fn written(mut self, at: usize, piece: &[u8]) -> PageBytes
-        requires { at + length piece.now ≤ 4096 }
+        requires { at + length piece.now ≤ PAGE }
         ensures value { result ≡ with_bytes at piece.now self }
-        ensures size { length result ≡ 4096 }
+        ensures size { length result ≡ PAGE }
     {
         write_over(&mut self.bytes, at, piece);
         self
@@ -94,7 +95,7 @@ impl PageBytes {
     /// The page with its number and an LSN.
     fn stamped(mut self, page: u32, lsn: u64) -> PageBytes
         ensures value { result ≡ stamped page lsn self }
-        ensures size { length result ≡ 4096 }
+        ensures size { length result ≡ PAGE }
     {
         stamp_over(&mut self.bytes, page, lsn);
         self
@@ -181,7 +182,7 @@ impl Pages {
     /// The bytes of a page, if it is there.
     pub fn bytes(&self, page: u32) -> Option<&[u8]>
         ensures value { option_copied result ≡ slice_index_or self.now page None }
-        ensures size { IfSome result (λ bytes. length bytes.now ≡ 4096) }
+        ensures size { IfSome result (λ bytes. length bytes.now ≡ PAGE) }
     {
         match slot_at(&self.slots, page) {
             Some(bytes) => Some(bytes.as_slice()),
@@ -202,7 +203,7 @@ impl Pages {
     /// These are the page's bytes.
     pub(crate) fn set(&mut self, alloc: Global, page: u32, bytes: &[u8]) -> Result<(), NoMemory>
         requires within { page < length self.old }
-        requires size { length bytes.now ≡ 4096 }
+        requires size { length bytes.now ≡ PAGE }
         ensures ok { OnOk result (self.new ≡ slice_set self.old page (Some bytes.now)) }
     {
         let old = taken(&mut self.slots, alloc, page)?;
@@ -219,7 +220,7 @@ impl Pages {
         piece: &[u8],
     ) -> Result<(), NoMemory>
         requires within { page < length self.old }
-        requires ends { at + length piece.now ≤ 4096 }
+        requires ends { at + length piece.now ≤ PAGE }
         ensures ok { OnOk result (HasInstead page (with_bytes at piece.now (page_of self.old page)) self.old self.new) }
     {
         let old = taken(&mut self.slots, alloc, page)?;

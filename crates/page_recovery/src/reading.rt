@@ -21,7 +21,7 @@ use stored_pages::layout::PAGE;
 
 /// Whether what was read of a page's place is the page.
 fn is_page(place: &[u8], len: usize, page: u32) -> bool
-    requires size { length place.now ≡ 4096 }
+    requires size { length place.now ≡ PAGE }
     ensures { (area : List ℕ) → take len place.now ≡ place_of page area →
         MatchBool result (StandsIn area page (Some place.now)) (StandsIn area page None) }
 {
@@ -40,7 +40,7 @@ fn read_place<D: Disk>(disk: &mut D, page: u32, place: &mut [u8; PAGE]) -> Resul
     ensures same { OnOk result (LeavesState (D.past disk.old) (D.past disk.new)) }
     ensures good { IfOk result (λ good. Now (λ s. MatchBool good (StandsIn s.pages.seen page (Some place.new)) (StandsIn s.pages.seen page None))
         (D.past disk.new)) }
-    ensures size { length place.new ≡ 4096 }
+    ensures size { length place.new ≡ PAGE }
     ensures cause { HasCause (D.past disk.old).faults (D.past disk.new).faults result }
 {
     let len = disk.read(Area::Pages, PAGE as u64 * u64::from(page), place)?;

@@ -1,6 +1,7 @@
 -- What it makes of the pool that a page is fixed, read or made there: another clean page may be given up for it.
 use Rattle.std.specs.Prelude.{◌≡◌, ◌≢◌, ◌⊎◌, ℕ, ◌<◌, ◌≤◌, Bool, true, false, length, replicate, Option, MatchOption}
 use Rattle.store_api.specs.Past.{Past}
+use Rattle.stored_pages.specs.declared.layout.TheConstants.{PAGE}
 use Rattle.buffer_pool.specs.declared.frame.Content.TheVariants.{New}
 use Rattle.buffer_pool.specs.Frames.{FrameView, PoolView, slot_of, is_pooled, next_idle, at_slot, fixed, with_used, moved}
 use Rattle.paged_txn.specs.View.{IsFrame, holds, fixes_in, place_in, standing_in, fault_in}
@@ -20,7 +21,7 @@ pub record Fixes (known : Bool) (page : ℕ) (before now : Past) (old new : Pool
 
 -- a frame of zeros, for a page that is made
 abbrev pub new_frame : FrameView
-new_frame = record { bytes = replicate 4096 0; content = New; fixes = 1 }
+new_frame = record { bytes = replicate PAGE 0; content = New; fixes = 1 }
 
 -- A page that isn't dealt with is fixed, or has a frame of zeros if there was one for it.
 pub record IsSecured (known : Bool) (page : ℕ) (old new : PoolView) : Type 0 where

@@ -4,6 +4,7 @@ use Rattle.std.specs.Prelude.{is_some}
 use Rattle.std.specs.Option.{option_map_or}
 use Rattle.sum64.specs.Fnv.{fnv_of}
 use Rattle.store_api.specs.Past.{Past}
+use Rattle.stored_pages.specs.declared.layout.TheConstants.{PAGE_COUNT}
 use Rattle.stored_pages.specs.Words.{u32_at, u64_at, number_of}
 use Rattle.log_format.specs.declared.group.Record.{Record}
 use Rattle.buffer_pool.specs.declared.frame.Content.{Content}
@@ -110,8 +111,8 @@ pub record IsFrame (known : Bool) (page : ℕ) (place : List ℕ) (dealt : Bool)
 -- Each copy has a frame, and page 0 counts no more pages than the pool may hold.
 pub record AreCounted (pool : PoolView) (past : Past) (dealt : List Entry) : Type 0 where
   pub framed : AreFramed pool dealt
-  pub seen : u32_at 44 (seen_in pool past dealt 0) ≤ length pool.slots
-  pub standing : u32_at 44 (standing_in pool past 0) ≤ length pool.slots
+  pub seen : u32_at PAGE_COUNT (seen_in pool past dealt 0) ≤ length pool.slots
+  pub standing : u32_at PAGE_COUNT (standing_in pool past 0) ≤ length pool.slots
 
 -- a page dealt with is this one, where it stands in the pool; another may be anything
 abbrev pub MayStand : PoolView → List Entry → ℕ → List ℕ → Type 0

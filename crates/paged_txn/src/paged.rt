@@ -16,6 +16,8 @@ ghost use Rattle.paged_txn.specs.Ending.{IsPut};
 ghost use Rattle.inno_types.specs.Order.{IsBelow};
 ghost use Rattle.store_api.specs.Causes.{HasCause};
 ghost use Rattle.store_api.specs.Past.{Now, Meanwhile};
+ghost use Rattle.stored_pages.specs.declared.layout.TheConstants.{PAGE};
+ghost use Rattle.mtr.specs.declared.store.TheConstants.{MOST_VISITED};
 ghost use Rattle.log_format.specs.declared.group.Group.{Group as GroupValue};
 ghost use Rattle.doublewrite.specs.Kept.{IsReady};
 ghost use Rattle.flusher.specs.Cleaning.{HasSamePages, to_go};
@@ -135,7 +137,7 @@ impl<D: Disk> Mtr for PagedTxn<D> {
     }
 
     fn fresh(&mut self, page: u32) -> Result<(), FreshBad>
-        requires few { length (visit page (state_of self.old.work.pool (D.past self.old.work.disk) self.old.work.dealt self.old.work.edits self.old.work.told).visited) ≤ 24 }
+        requires few { length (visit page (state_of self.old.work.pool (D.past self.old.work.disk) self.old.work.dealt self.old.work.edits self.old.work.told).visited) ≤ MOST_VISITED }
         requires within { IsWithin page (state_of self.old.work.pool (D.past self.old.work.disk) self.old.work.dealt self.old.work.edits self.old.work.told) }
         ensures made { OnOk result (Makes page (state_of self.old.work.pool (D.past self.old.work.disk) self.old.work.dealt self.old.work.edits self.old.work.told)
             (state_of self.new.work.pool (D.past self.new.work.disk) self.new.work.dealt self.new.work.edits self.new.work.told)) }
@@ -157,7 +159,7 @@ impl<D: Disk> Mtr for PagedTxn<D> {
 
     fn put(&mut self, page: u32, at: u16, bytes: &[u8]) -> Result<(), NoMemory>
         requires begins { 20 ≤ at }
-        requires ends { at + length bytes.now ≤ 4096 }
+        requires ends { at + length bytes.now ≤ PAGE }
         requires dealt_with { IsTrue (is_in page (state_of self.old.work.pool (D.past self.old.work.disk) self.old.work.dealt self.old.work.edits self.old.work.told).visited) }
         requires within { IsWithin page (state_of self.old.work.pool (D.past self.old.work.disk) self.old.work.dealt self.old.work.edits self.old.work.told) }
         ensures put { OnOk result (Puts page at bytes.now (state_of self.old.work.pool (D.past self.old.work.disk) self.old.work.dealt self.old.work.edits self.old.work.told)

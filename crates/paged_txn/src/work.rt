@@ -20,6 +20,7 @@ ghost use Rattle.paged_txn.specs.Bringing.{is_no_fault};
 ghost use Rattle.inno_types.specs.Order.{IsBelow};
 ghost use Rattle.store_api.specs.Causes.{HasCause};
 ghost use Rattle.store_api.specs.Past.{Now, Meanwhile};
+ghost use Rattle.mtr.specs.declared.store.TheConstants.{MOST_VISITED};
 ghost use Rattle.log_format.specs.declared.group.Group.{Group as GroupValue};
 ghost use Rattle.doublewrite.specs.Kept.{IsReady};
 ghost use Rattle.flusher.specs.Cleaning.{HasSamePages, to_go};
@@ -150,7 +151,7 @@ impl<D: Disk> Work<D> {
 
     /// Deals with a page, if it can be read.
     pub fn reach(&mut self, page: u32) -> Result<(), Visit>
-        requires { length (visit page (pages_of self.old.dealt)) ≤ 24 }
+        requires { length (visit page (pages_of self.old.dealt)) ≤ MOST_VISITED }
         ensures asks { Asks page (state_of self.old.pool (D.past self.old.disk) self.old.dealt self.old.edits self.old.told) result
             (state_of self.new.pool (D.past self.new.disk) self.new.dealt self.new.edits self.new.told) }
         ensures reached { OnOk result (IsTrue (is_in page (pages_of self.new.dealt))) }
@@ -180,14 +181,14 @@ impl<D: Disk> Work<D> {
     pub fn shown(&self, page: u32) -> &[u8]
         requires { IsTrue (is_in page (pages_of self.now.dealt)) }
         ensures shown { IsShown (seen_in self.now.pool (D.past self.now.disk) self.now.dealt page) result.now }
-        ensures size { length result.now ≡ 4096 }
+        ensures size { length result.now ≡ PAGE }
     {
         shown_in(&self.pool, &self.dealt, page)
     }
 
     /// Makes the page zeros.
     pub fn make(&mut self, page: u32) -> Result<(), FreshBad>
-        requires few { length (visit page (pages_of self.old.dealt)) ≤ 24 }
+        requires few { length (visit page (pages_of self.old.dealt)) ≤ MOST_VISITED }
         requires within { IsWithin page (state_of self.old.pool (D.past self.old.disk) self.old.dealt self.old.edits self.old.told) }
         ensures made { OnOk result (Makes page (state_of self.old.pool (D.past self.old.disk) self.old.dealt self.old.edits self.old.told)
             (state_of self.new.pool (D.past self.new.disk) self.new.dealt self.new.edits self.new.told)) }
@@ -216,7 +217,7 @@ impl<D: Disk> Work<D> {
     /// Puts bytes in a page that is dealt with.
     pub fn put(&mut self, page: u32, at: u16, bytes: &[u8]) -> Result<(), NoMemory>
         requires begins { 20 ≤ at }
-        requires ends { at + length bytes.now ≤ 4096 }
+        requires ends { at + length bytes.now ≤ PAGE }
         requires dealt_with { IsTrue (is_in page (pages_of self.old.dealt)) }
         ensures put { OnOk result (Puts page at bytes.now (state_of self.old.pool (D.past self.old.disk) self.old.dealt self.old.edits self.old.told)
             (state_of self.new.pool (D.past self.new.disk) self.new.dealt self.new.edits self.new.told)) }

@@ -1,6 +1,7 @@
 -- What a log and its area stand for between the two halves of a flush: blocks are written, and wait for a sync.
 use Rattle.std.specs.Prelude.{◌≡◌, ℕ, ◌+◌, ◌*◌, ◌<◌, ◌≤◌, List, ◌++◌, length, take, drop}
 use Rattle.store_api.specs.Areas.{Contents, State}
+use Rattle.log_format.specs.declared.block.TheConstants.{BLOCK}
 use Rattle.log_format.specs.declared.group.Group.{Group}
 use Rattle.log_format.specs.Group.{AreGroups}
 use Rattle.log_format.specs.Block.{AreBlocks}
@@ -53,7 +54,7 @@ pub record IsWritten (first : ℕ) (groups : List Group) (w : WrittenView) (log 
   pub tried : w.count ≤ log.tried
   pub written : IsLogged first sent (front_log w log front) c
   pub behind : AreBlocks log.run (log.block + w.count) (stream_of later) more back
-  pub seen : take (512 * w.count) (drop (512 * log.block) c.seen) ≡ front
+  pub seen : take (BLOCK * w.count) (drop (BLOCK * log.block) c.seen) ≡ front
 
 -- the disk's state, where the log area and the log stand for these groups with such a write, and the other areas are these
 pub record StandsWritten (first : ℕ) (groups : List Group) (w : WrittenView) (log : LogView) (double pages : Contents) (s : State) : Type 0 where

@@ -1,6 +1,7 @@
 -- What contracts see of a log.
 use Rattle.std.specs.Prelude.{◌≡◌, ℕ, ◌+◌, ◌-◌, ◌*◌, ◌^◌, ◌<◌, ◌≤◌, min, List, length}
 use Rattle.std.specs.List.{flat_map}
+use Rattle.log_format.specs.declared.block.TheConstants.{BLOCK}
 use Rattle.log_format.specs.declared.group.Record.{Record}
 use Rattle.log_format.specs.Group.{record_bytes}
 use Rattle.log_format.specs.Block.{blocks_for}
@@ -39,11 +40,11 @@ pub record Stay (kept : ℕ) (log : LogView) : Type 0 where
 
 -- how long a group of these records is in the log, where it begins a new block: 14 bytes and the records, in whole blocks
 abbrev pub room_of : List Record → ℕ
-room_of records = 512 * blocks_for (14 + length (flat_map record_bytes records))
+room_of records = BLOCK * blocks_for (14 + length (flat_map record_bytes records))
 
 -- for so many bytes of blocks there are numbers of blocks and of groups
 abbrev pub numbers_left : ℕ → ℕ → ℕ
-numbers_left block next = 512 * min (2 ^ 54 - block) (2 ^ 64 - 1 - next)
+numbers_left block next = BLOCK * min (2 ^ 54 - block) (2 ^ 64 - 1 - next)
 
 -- the spare, where this much may wait
 abbrev pub spare_of : ℕ → ℕ → ℕ → ℕ → ℕ
@@ -57,7 +58,7 @@ pub record IsBounded (run block count tried next flushed room pending has_pendin
   pub lsns : next < 2 ^ 64
   pub begun : flushed < next
   pub waits : pending ≤ room
-  pub whole : pending ≡ 512 * count
+  pub whole : pending ≡ BLOCK * count
   pub none_waits : flushed + 1 ≡ next → pending ≡ 0
   pub room_fits : room < 2 ^ 32
   pub room_pending : room ≤ has_pending

@@ -2,6 +2,7 @@
 //! group goes on in a block. Only the log asks here.
 
 ghost use Rattle.std.specs.Prelude.{◌≡◌, ◌+◌, ◌^◌, ◌<◌, ◌≤◌, ◌++◌, ℕ, List, length, vec_len, vec_capacity, OnOk, OnErr, IfOk};
+ghost use Rattle.log_format.specs.declared.block.TheConstants.{BLOCK};
 ghost use Rattle.log_format.specs.declared.group.Record.{Record as RecordValue};
 ghost use Rattle.log_format.specs.Block.{payload_of};
 ghost use Rattle.log_format.specs.Group.{group_bytes, IsGroup};
@@ -50,7 +51,7 @@ pub fn put_behind<'a>(
     work: &mut Vec<u8>,
 ) -> Result<&'a [u8], AllocError>
     requires body { (rs : List RecordValue) × IsOf rs body }
-    requires whole { 0 < length last.now → length last.now ≡ 512 }
+    requires whole { 0 < length last.now → length last.now ≡ BLOCK }
     requires room { length last.now ≤ vec_capacity work.old }
     ensures ok { IfOk result (λ rest. (rs : List RecordValue) → IsOf rs body.entry
         → work.new.items ++ rest.now ≡ payload_of last.now ++ group_bytes (record { lsn = lsn; records = rs })) }

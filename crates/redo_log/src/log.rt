@@ -5,6 +5,7 @@ ghost use Rattle.std.specs.Prelude.{◌≡◌, ◌+◌, ◌-◌, ◌*◌, ◌^�
 ghost use Rattle.store_api.specs.Areas.{Contents};
 ghost use Rattle.store_api.specs.Causes.{HasCause};
 ghost use Rattle.store_api.specs.Past.{Now, Meanwhile};
+ghost use Rattle.log_format.specs.declared.block.TheConstants.{BLOCK};
 ghost use Rattle.log_format.specs.Group.{AreRecords, IsSpelled};
 ghost use Rattle.log_format.specs.declared.group.Record.{Record as RecordValue};
 ghost use Rattle.log_format.specs.declared.group.Group.{Group as GroupValue};
@@ -289,7 +290,7 @@ impl Log {
         ensures err { OnErr result (self.new ≡ self.old) }
 
         // The spare gets no smaller. What was flushed is given back to the spare, as far as numbers are left.
-        ensures spare { OnOk result (min (self.old.spare + 512 * written.count) (numbers_left (self.old.block + self.old.count) self.old.next) ≤ self.new.spare) }
+        ensures spare { OnOk result (min (self.old.spare + BLOCK * written.count) (numbers_left (self.old.block + self.old.count) self.old.next) ≤ self.new.spare) }
         ensures kept { self.old.spare ≤ self.new.spare }
         ensures cause { HasCause (D.past disk.old).faults (D.past disk.new).faults result }
         ensures elsewhere { LeavesBeside (D.past disk.old) (D.past disk.new) }
@@ -353,5 +354,5 @@ pub fn stands_for_what_is_left()
 /// A log goes on behind the groups of a scan, where zeros were written from there to the end and synced.
 pub fn goes_on_before_zeros()
     ensures { (run first blocks : ℕ) (groups : List GroupValue) (area : List ℕ) (c : Contents) → IsScan run first area groups → EndsAt run blocks area groups
-        → c.writes ≡ [] → c.synced ≡ take (512 * blocks) area ++ replicate (length area - 512 * blocks) 0 → GoesOnAt run first blocks groups c }
+        → c.writes ≡ [] → c.synced ≡ take (BLOCK * blocks) area ++ replicate (length area - BLOCK * blocks) 0 → GoesOnAt run first blocks groups c }
 {}

@@ -1,19 +1,20 @@
 -- The map of used pages. It stands on pages 2 to 4, one bit for each page, 1 for a used one.
 use Rattle.std.specs.Prelude.{◌≡◌, ℕ, zero, suc, ◌+◌, ◌-◌, ◌/◌, ◌%◌, ◌<◌, ◌≤◌, List, slice_index, Option, Some, None}
 use Rattle.std.specs.Int.{bit_at}
+use Rattle.stored_pages.specs.declared.layout.TheConstants.{FIRST_MAP_PAGE, BITS, COVERED}
 use Rattle.mtr.specs.Seen.{MtrState, capacity_of}
 
 -- each page of the map has the bits of 32,512 pages
 abbrev pub map_page : ℕ → ℕ
-map_page page = 2 + page / 32512
+map_page page = FIRST_MAP_PAGE + page / COVERED
 
 -- the byte that has a page's bit
 abbrev pub byte_of : ℕ → ℕ
-byte_of page = 32 + page % 32512 / 8
+byte_of page = BITS + page % COVERED / 8
 
 -- the bit of the place's page in a page of the map: 1 for a used page
 abbrev pub bit_in : List ℕ → ℕ → ℕ
-bit_in map place = bit_at (slice_index map (32 + place / 8)) (place % 8)
+bit_in map place = bit_at (slice_index map (BITS + place / 8)) (place % 8)
 
 abbrev pub mark_of : (ℕ → List ℕ) → ℕ → ℕ
 mark_of pages page = bit_at (slice_index (pages (map_page page)) (byte_of page)) (page % 8)

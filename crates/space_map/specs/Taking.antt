@@ -3,6 +3,8 @@ use Rattle.std.specs.Prelude.{◌≡◌, ◌≢◌, ℕ, ◌<◌, ◌≤◌, Lis
 use Rattle.stored_pages.specs.Words.{u32_at}
 use Rattle.store_api.specs.declared.visits.SpaceBad.{SpaceBad}
 use Rattle.store_api.specs.declared.visits.SpaceBad.TheVariants.{Full, Visit, NoMemory}
+use Rattle.stored_pages.specs.declared.layout.TheConstants.{PAGE, FIXED_PAGES, PAGE_COUNT}
+use Rattle.store_api.specs.declared.limits.TheConstants.{MOST_PAGES}
 use Rattle.mtr.specs.Seen.{MtrState, Visits, with_bytes}
 use Rattle.mtr.specs.Calls.{Goes, SeesAt, Spends, IsReason}
 use Rattle.space_map.specs.Map.{map_page, byte_of, mark_of, IsFree}
@@ -13,7 +15,7 @@ map_pages = 0 ∷ 2 ∷ 3 ∷ 4 ∷ []
 
 -- page 0 counts as many pages as a file can have
 abbrev pub HasPageCount : (ℕ → List ℕ) → Type 0
-HasPageCount pages = (21 ≤ u32_at 44 (pages 0)) × (u32_at 44 (pages 0) ≤ 65536)
+HasPageCount pages = (FIXED_PAGES ≤ u32_at PAGE_COUNT (pages 0)) × (u32_at PAGE_COUNT (pages 0) ≤ MOST_PAGES)
 
 -- it counts fewer or more, which breaks the rule on fields
 abbrev pub Miscounts : ℕ → ℕ → (ℕ → List ℕ) → Type 0
@@ -21,7 +23,7 @@ Miscounts page rule pages = (page ≡ 0) × (rule ≡ 1) × (HasPageCount pages 
 
 -- One byte of the map has changed: the page has this mark, and the others have theirs.
 pub record MarksPage (page mark : ℕ) (old new : MtrState) : Type 0 where
-  pub size : length (old.seen (map_page page)) ≡ 4096
+  pub size : length (old.seen (map_page page)) ≡ PAGE
   pub byte : ℕ
   pub seen : SeesAt (map_page page) (with_bytes (byte_of page) (byte ∷ []) (old.seen (map_page page))) old new
   pub here : mark_of new.seen page ≡ mark

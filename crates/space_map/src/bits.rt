@@ -3,6 +3,7 @@
 
 ghost use Rattle.std.specs.Prelude.{◌≡◌, ◌≢◌, ℕ, ◌+◌, ◌-◌, ◌*◌, ◌/◌, ◌%◌, ◌<◌, ◌≤◌, length, slice_index, IsTrue, MatchOption, MatchBool, if◌then◌else◌};
 ghost use Rattle.std.specs.Int.{bit_at};
+ghost use Rattle.stored_pages.specs.declared.layout.TheConstants.{PAGE, COVERED};
 ghost use Rattle.space_map.specs.Map.{bit_in};
 ghost use Rattle.space_map.specs.Places.{free_places};
 
@@ -23,8 +24,8 @@ pub fn with_bit(byte: u8, bit: u8, on: bool) -> u8
 
 /// Whether a place of a page of the map is marked.
 pub fn is_marked(map: &[u8], place: u32) -> bool
-    requires size { length map.now ≡ 4096 }
-    requires place { place < 32512 }
+    requires size { length map.now ≡ PAGE }
+    requires place { place < COVERED }
     ensures { MatchBool result (bit_in map.now place ≡ 1) (bit_in map.now place ≡ 0) }
 {
     let byte = map[BITS + (place / 8) as usize];
@@ -33,8 +34,8 @@ pub fn is_marked(map: &[u8], place: u32) -> bool
 
 /// The first place that isn't marked, below another.
 pub fn first_free(map: &[u8], end: u32) -> Option<u32>
-    requires size { length map.now ≡ 4096 }
-    requires end { end ≤ 32512 }
+    requires size { length map.now ≡ PAGE }
+    requires end { end ≤ COVERED }
     ensures { MatchOption result ((place : ℕ) → place < end → bit_in map.now place ≡ 1)
         (λ found. (found < end) × (bit_in map.now found ≡ 0) × ((place : ℕ) → place < found → bit_in map.now place ≡ 1)) }
 {
@@ -48,8 +49,8 @@ pub fn first_free(map: &[u8], end: u32) -> Option<u32>
 
 /// How many places below another aren't marked.
 pub fn count_free(map: &[u8], end: u32) -> u32
-    requires size { length map.now ≡ 4096 }
-    requires end { end ≤ 32512 }
+    requires size { length map.now ≡ PAGE }
+    requires end { end ≤ COVERED }
     ensures count { result ≡ free_places map.now end }
     ensures few { result ≤ end }
 {

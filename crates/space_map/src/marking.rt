@@ -2,6 +2,8 @@
 //! Nothing else writes to the map.
 
 ghost use Rattle.std.specs.Prelude.{◌≡◌, ◌+◌, ◌/◌, ◌<◌, ◌≤◌, IsTrue, IfErr, OnOk, OnErr, if◌then◌else◌};
+ghost use Rattle.store_api.specs.declared.limits.TheConstants.{MOST_PAGES};
+ghost use Rattle.mtr.specs.declared.store.TheConstants.{MOST_VISITED};
 ghost use Rattle.mtr.specs.Seen.{claim, IsWithin};
 ghost use Rattle.mtr.specs.Calls.{Consults};
 ghost use Rattle.space_map.specs.Taking.{map_pages, Marks, IsGiveReason};
@@ -13,8 +15,8 @@ use stored_pages::layout::{BITS, COVERED, FIRST_MAP_PAGE};
 
 /// Sets or clears a page's bit.
 pub fn set_mark<M: Mtr>(m: &mut M, page: u32, used: bool) -> Result<(), SpaceBad>
-    requires page { page < 65536 }
-    requires few { claim map_pages (M.state m.old).visited ≤ 24 }
+    requires page { page < MOST_PAGES }
+    requires few { claim map_pages (M.state m.old).visited ≤ MOST_VISITED }
     requires within { IsWithin 20 (M.state m.old) }
     ensures marked { OnOk result (Marks page (if used then 1 else 0) (M.state m.old) (M.state m.new)) }
     ensures kept { OnErr result (Consults map_pages (M.state m.old) (M.state m.new)) }

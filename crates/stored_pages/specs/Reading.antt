@@ -1,23 +1,24 @@
 -- How a page is read from the areas Pages and Double: from its place if that is good, else from its newest good copy.
 use Rattle.std.specs.Prelude.{◌≡◌, ◌⊎◌, ℕ, ◌<◌, ◌≤◌, Option, Some, None, List, length}
 use Rattle.store_api.specs.Areas.{PassesSum, piece}
+use Rattle.stored_pages.specs.declared.layout.TheConstants.{PAGE, SLOTS}
 use Rattle.stored_pages.specs.Words.{number_of, lsn_of}
 
--- 4,096 bytes that pass their sum, with that number
+-- the bytes of a page that pass their sum, with that number
 pub record IsGoodPage (number : ℕ) (bytes : List ℕ) : Type 0 where
-  pub size : length bytes ≡ 4096
+  pub size : length bytes ≡ PAGE
   pub sum : PassesSum bytes
   pub number_is : number_of bytes ≡ number
 
 -- the bytes of a page's place
 abbrev pub place_of : ℕ → List ℕ → List ℕ
-place_of number pages = piece 4096 number pages
+place_of number pages = piece PAGE number pages
 
--- one of the 64 copies in Double is a good page of that number
+-- one of the copies in Double is a good page of that number
 pub record IsCopyIn (double : List ℕ) (number : ℕ) (bytes : List ℕ) : Type 0 where
   pub slot : ℕ
-  pub below : slot < 64
-  pub stands : piece 4096 slot double ≡ bytes
+  pub below : slot < SLOTS
+  pub stands : piece PAGE slot double ≡ bytes
   pub good : IsGoodPage number bytes
 
 -- a good copy, and no other one of that number has a greater LSN

@@ -12,7 +12,7 @@ use store_api::MOST_PAGES;
 
 /// The number of a page that is whole.
 pub fn good_number(page: &[u8]) -> Option<u32>
-    requires { length page.now ≡ 4096 }
+    requires { length page.now ≡ PAGE }
     ensures { MatchOption result ((number : ℕ) → IsGoodPage number page.now → ⊥) (λ number. IsGoodPage number page.now) }
 {
     if passes_sum(page) {
@@ -24,17 +24,17 @@ pub fn good_number(page: &[u8]) -> Option<u32>
 
 /// The copy in a slot.
 pub fn copy_at(double: &[u8], slot: usize) -> &[u8]
-    requires { 4096 * slot + 4096 ≤ length double.now }
-    ensures value { result.now ≡ piece 4096 slot double.now }
-    ensures size { length result.now ≡ 4096 }
+    requires { PAGE * slot + PAGE ≤ length double.now }
+    ensures value { result.now ≡ piece PAGE slot double.now }
+    ensures size { length result.now ≡ PAGE }
 {
     &double[slot * PAGE..(slot + 1) * PAGE]
 }
 
 /// The number of the copy in a slot, if it is good.
 pub fn number_of_copy(double: &[u8], slot: usize) -> Option<u32>
-    requires { slot < 64 }
-    ensures { MatchOption result ((number : ℕ) → IsGoodPage number (piece 4096 slot double.now) → ⊥) (λ number. IsGoodPage number (piece 4096 slot double.now)) }
+    requires { slot < SLOTS }
+    ensures { MatchOption result ((number : ℕ) → IsGoodPage number (piece PAGE slot double.now) → ⊥) (λ number. IsGoodPage number (piece PAGE slot double.now)) }
 {
     if double.len() < (slot + 1) * PAGE {
         None
@@ -45,9 +45,9 @@ pub fn number_of_copy(double: &[u8], slot: usize) -> Option<u32>
 
 /// The number of the copy in a slot, if it is a good one of a page that a database may have.
 pub fn restorable(double: &[u8], slot: usize) -> Option<u32>
-    requires { slot < 64 }
-    ensures { MatchOption result ((number : ℕ) → number < 65536 → IsGoodPage number (piece 4096 slot double.now) → ⊥)
-        (λ number. (number < 65536) × IsGoodPage number (piece 4096 slot double.now)) }
+    requires { slot < SLOTS }
+    ensures { MatchOption result ((number : ℕ) → number < MOST_PAGES → IsGoodPage number (piece PAGE slot double.now) → ⊥)
+        (λ number. (number < MOST_PAGES) × IsGoodPage number (piece PAGE slot double.now)) }
 {
     match number_of_copy(double, slot) {
         Some(number) => {
@@ -63,10 +63,10 @@ pub fn restorable(double: &[u8], slot: usize) -> Option<u32>
 
 /// Whether the copy in a slot is a good one of that page, with a greater LSN.
 fn is_newer(double: &[u8], number: u32, newest: usize, slot: usize) -> bool
-    requires slot { slot < 64 }
-    requires newest { 4096 * newest + 4096 ≤ length double.now }
-    ensures { MatchBool result (IsGoodPage number (piece 4096 slot double.now) × (lsn_of (piece 4096 newest double.now) < lsn_of (piece 4096 slot double.now)))
-        (IsGoodPage number (piece 4096 slot double.now) → lsn_of (piece 4096 slot double.now) ≤ lsn_of (piece 4096 newest double.now)) }
+    requires slot { slot < SLOTS }
+    requires newest { PAGE * newest + PAGE ≤ length double.now }
+    ensures { MatchBool result (IsGoodPage number (piece PAGE slot double.now) × (lsn_of (piece PAGE newest double.now) < lsn_of (piece PAGE slot double.now)))
+        (IsGoodPage number (piece PAGE slot double.now) → lsn_of (piece PAGE slot double.now) ≤ lsn_of (piece PAGE newest double.now)) }
 {
     match number_of_copy(double, slot) {
         Some(other) => {
@@ -82,10 +82,10 @@ fn is_newer(double: &[u8], number: u32, newest: usize, slot: usize) -> bool
 
 /// The slot of the newest copy of a page that has one.
 pub fn newest_slot(double: &[u8], number: u32, first: usize) -> usize
-    requires slot { first < 64 }
-    requires good { IsGoodPage number (piece 4096 first double.now) }
-    ensures slot { result < 64 }
-    ensures newest { IsNewestCopy double.now number (piece 4096 result double.now) }
+    requires slot { first < SLOTS }
+    requires good { IsGoodPage number (piece PAGE first double.now) }
+    ensures slot { result < SLOTS }
+    ensures newest { IsNewestCopy double.now number (piece PAGE result double.now) }
 {
     let mut newest = first;
     for slot in 0..SLOTS {
@@ -98,8 +98,8 @@ pub fn newest_slot(double: &[u8], number: u32, first: usize) -> usize
 
 /// Whether the copy in a slot is a good one of that page.
 fn is_copy_of(double: &[u8], number: u32, slot: usize) -> bool
-    requires { slot < 64 }
-    ensures { MatchBool result (IsGoodPage number (piece 4096 slot double.now)) (IsGoodPage number (piece 4096 slot double.now) → ⊥) }
+    requires { slot < SLOTS }
+    ensures { MatchBool result (IsGoodPage number (piece PAGE slot double.now)) (IsGoodPage number (piece PAGE slot double.now) → ⊥) }
 {
     match number_of_copy(double, slot) {
         Some(other) => other == number,

@@ -7,6 +7,9 @@ pub const PAGE: usize = 4096;
 /// How many copies of pages the area Double holds.
 pub const SLOTS: usize = 64;
 
+/// How many bytes the area Double has.
+pub const DOUBLE: usize = SLOTS * PAGE;
+
 /// The byte of a page where its sum begins, 8 bytes.
 pub const SUM: usize = 0;
 

@@ -6,7 +6,7 @@ ghost use Rattle.lock_rules.specs.Rules.{FitsItsRule};
 ghost use Rattle.lock_table.specs.Keys.{IsShort};
 ghost use Rattle.lock_table.specs.Room.{HasRooms};
 
-use deadlock::{Size, Sizes, cycle_through, victim};
+use deadlock::{Cycle, Size, Sizes, cycle_through, victim};
 use inno_types::{Bound, Bytes, Edge, Edges, Level, Lock, LockKind, Mode, Range, Reason, Spot};
 use lock_rules::{Case, Place, fits};
 use lock_table::LockTable;
@@ -107,13 +107,20 @@ fn wait(
     }
 }
 
-/// Whether the edges are these, each as its waiter, its holder and the key of its lock.
-fn are_edges(cycle: Option<Edges>, want: &[(u64, u64, u8)]) -> bool {
+/// Whether the cycle and its copies have these edges.
+fn are_edges(cycle: Option<Cycle>, want: &[(u64, u64, u8)]) -> bool {
     let Some(cycle) = cycle else {
         return false;
     };
-    let mut is_same = cycle.len() == want.len();
-    for (edge, (waiter, holder, key)) in cycle.as_slice().iter().zip(want) {
+    has_edges(&cycle.edges, want)
+        && has_edges(&cycle.first_copy, want)
+        && has_edges(&cycle.second_copy, want)
+}
+
+/// Whether the edges are these, each as its waiter, its holder and the key of its lock.
+fn has_edges(edges: &Edges, want: &[(u64, u64, u8)]) -> bool {
+    let mut is_same = edges.len() == want.len();
+    for (edge, (waiter, holder, key)) in edges.as_slice().iter().zip(want) {
         is_same = is_same
             && edge.waiter == *waiter
             && edge.holder == *holder

@@ -7,7 +7,7 @@ ghost use Rattle.lock_table.specs.Keys.{IsShort};
 
 use inno_types::{Bound, Bytes, Edges, Level, Lock, LockKind, Mode, Range, Spot};
 use lock_rules::{Case, Place, Rule, fits, rule_for};
-use lock_table::LockTable;
+use lock_table::{LockTable, Wait};
 use std::alloc::{AllocError, Global};
 use std::process::Abort;
 use std::test::Fail;
@@ -164,12 +164,27 @@ fn the_supremum_has_a_gap_and_no_record(rt: HostRuntime) -> Result<(), Fail> {
     Ok(())
 }
 
+/// The record of the lock's spot is inserted before the next one: its inserter gets the lock, with room taken for it.
+pub fn insert(
+    rt: &impl Abort,
+    table: &mut LockTable,
+    (lock, case): (Lock, Case),
+    next: &Spot,
+) -> Result<(), NoMemory> {
+    table.lock_room(lock.txn, next)?;
+    assert_fits(rt, &lock, case);
+    assert!(rt; lock.reason.rule < Rule::RecordWent.number());
+    assert!(rt; is_short(&lock.spot.key));
+    assert!(rt; !table.would_wait(&lock));
+    table.grant_new(&lock, next);
+    Ok(())
+}
+
 /// A record is inserted below the key 7.
 fn insert_five(rt: &impl Abort, alloc: Global, table: &mut LockTable) -> Result<(), NoMemory> {
-    let five = spot(alloc, Some(5))?;
     let seven = spot(alloc, Some(7))?;
-    assert!(rt; is_short(&five.key));
-    table.on_insert(1, &five, &seven)
+    let own = due(alloc, 1, Rule::Inserted, Mode::X, Some(5))?;
+    insert(rt, table, own, &seven)
 }
 
 /// The record of the key 7, the last one, is removed.
@@ -200,5 +215,111 @@ fn locks_follow_the_records(rt: HostRuntime) -> Result<(), Fail> {
     let waits = follow(&rt, rt.alloc(), &mut table);
     drop(table);
     assert_eq!(rt; waits?, [0, 1, 1]);
+    Ok(())
+}
+
+/// A record is inserted before the supremum, and its insertion is taken back.
+fn insert_and_take_back(
+    rt: &impl Abort,
+    alloc: Global,
+    table: &mut LockTable,
+) -> Result<(), NoMemory> {
+    let five = spot(alloc, Some(5))?;
+    let supremum = spot(alloc, None)?;
+    let intention = due(alloc, 1, Rule::ToInsert, Mode::X, None)?;
+    let own = due(alloc, 1, Rule::Inserted, Mode::X, Some(5))?;
+    ask(rt, table, intention)?;
+    insert(rt, table, own, &supremum)?;
+    assert!(rt; is_short(&supremum.key));
+    table.on_remove(Some(1), &five, &supremum);
+    Ok(())
+}
+
+/// One has the gap before the supremum, and inserts there and takes it back so many times.
+fn rounds_beside_a_gap_lock(
+    rt: &impl Abort,
+    alloc: Global,
+    table: &mut LockTable,
+    rounds: u32,
+) -> Result<(), NoMemory> {
+    ask(rt, table, due(alloc, 1, Rule::PastRange, Mode::X, None)?)?;
+    for _ in 0..rounds {
+        insert_and_take_back(rt, alloc, table)?;
+    }
+    Ok(())
+}
+
+#[test]
+fn insertions_that_are_taken_back_leave_no_locks(rt: HostRuntime) -> Result<(), Fail> {
+    let mut table = LockTable::new(rt.alloc());
+    let rounds = rounds_beside_a_gap_lock(&rt, rt.alloc(), &mut table, 18);
+    let locks = table.granted_locks().len();
+    drop(table);
+    rounds?;
+    assert_eq!(rt; locks, 1);
+    Ok(())
+}
+
+/// How many locks there are after an intention that is granted at once, and after one that has waited for a gap lock.
+fn intend_twice(
+    rt: &impl Abort,
+    alloc: Global,
+    table: &mut LockTable,
+) -> Result<[usize; 2], NoMemory> {
+    let seven = Some(7);
+    let intention = Rule::ToInsert;
+    ask(rt, table, due(alloc, 1, intention, Mode::X, seven)?)?;
+    let at_once = table.granted_locks().len();
+    ask(rt, table, due(alloc, 2, Rule::RangeRecord, Mode::X, seven)?)?;
+    ask(rt, table, due(alloc, 1, intention, Mode::X, seven)?)?;
+    table.release_all(2);
+    Ok([at_once, table.granted_locks().len()])
+}
+
+#[test]
+fn an_intention_is_kept_where_it_had_to_wait(rt: HostRuntime) -> Result<(), Fail> {
+    let mut table = LockTable::new(rt.alloc());
+    let kept = intend_twice(&rt, rt.alloc(), &mut table);
+    drop(table);
+    assert_eq!(rt; kept?, [0, 1]);
+    Ok(())
+}
+
+/// How it stands with requests for the key 7: while one waits, once it is taken back, while it waits again, once it is
+/// served, and of another, once the record has gone.
+fn ends_of_waits(
+    rt: &impl Abort,
+    alloc: Global,
+    table: &mut LockTable,
+) -> Result<[Wait; 5], NoMemory> {
+    let (second, _) = due(alloc, 2, Rule::Changed, Mode::X, Some(7))?;
+    let (third, _) = due(alloc, 3, Rule::Changed, Mode::X, Some(7))?;
+    ask(rt, table, due(alloc, 1, Rule::Changed, Mode::X, Some(7))?)?;
+    ask(rt, table, due(alloc, 2, Rule::Changed, Mode::X, Some(7))?)?;
+    let waits = table.wait(&second);
+    table.withdraw(2);
+    let withdrawn = table.wait(&second);
+    ask(rt, table, due(alloc, 2, Rule::Changed, Mode::X, Some(7))?)?;
+    let again = table.wait(&second);
+    table.release_all(1);
+    let served = table.wait(&second);
+    ask(rt, table, due(alloc, 3, Rule::Changed, Mode::X, Some(7))?)?;
+    remove_seven(rt, alloc, table)?;
+    Ok([waits, withdrawn, again, served, table.wait(&third)])
+}
+
+#[test]
+fn each_wait_is_told_how_it_ended(rt: HostRuntime) -> Result<(), Fail> {
+    let mut table = LockTable::new(rt.alloc());
+    let ends = ends_of_waits(&rt, rt.alloc(), &mut table);
+    drop(table);
+    let want = [
+        Wait::Lasts,
+        Wait::Withdrawn,
+        Wait::Lasts,
+        Wait::Served,
+        Wait::RecordGone,
+    ];
+    assert_eq!(rt; ends?, want);
     Ok(())
 }

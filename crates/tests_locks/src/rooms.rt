@@ -3,9 +3,9 @@
 
 ghost use Rattle.lock_table.specs.Keys.{IsShort};
 
-use crate::requests::{ask, due};
+use crate::requests::{ask, due, insert};
 use inno_types::{Lock, Mode, Spot};
-use lock_rules::{Case, Rule};
+use lock_rules::Rule;
 use lock_table::LockTable;
 use std::alloc::{AllocError, Global};
 use std::process::Abort;
@@ -60,58 +60,33 @@ fn a_question_is_no_request(rt: HostRuntime) -> Result<(), Fail> {
     Ok(())
 }
 
-/// The lock of a record that is new below the one of the key 9, and what its insertion needs beside.
-#[derive(Drop)]
-struct Insertion {
-    intention: (Lock, Case),
-    own: (Lock, Case),
-    new: Spot,
-    next: Spot,
-}
-
-fn insertion_of_five(alloc: Global) -> Result<Insertion, AllocError> {
-    let (new, _) = due(alloc, 1, Rule::Inserted, Mode::X, Some(5))?;
-    let (next, _) = due(alloc, 1, Rule::RangeRecord, Mode::S, Some(9))?;
-    Ok(Insertion {
-        intention: due(alloc, 1, Rule::ToInsert, Mode::X, Some(9))?,
-        own: due(alloc, 1, Rule::Inserted, Mode::X, Some(5))?,
-        new: new.spot,
-        next: next.spot,
-    })
-}
-
-/// One has the record 9 with the gap below it, and takes room. Want of memory comes before the intention, or not at all.
+/// One has the record 9 with the gap below it, takes room, and inserts below: its intention waits for nobody, and takes no
+/// memory, nor do the copy of the gap lock and the lock of the new record.
 fn insert_with_room(
     rt: &impl Abort,
     alloc: Global,
     table: &mut LockTable,
-) -> Result<[bool; 3], NoMemory> {
+) -> Result<usize, NoMemory> {
+    let (next, _) = due(alloc, 1, Rule::RangeRecord, Mode::S, Some(9))?;
     ask(
         rt,
         table,
         due(alloc, 1, Rule::RangeRecord, Mode::S, Some(9))?,
     )?;
-    let Insertion {
-        intention,
-        own,
-        new,
-        next,
-    } = insertion_of_five(alloc)?;
-    is_short(rt, &new);
-    table.lock_room(1, &next)?;
-    let intended = ask(rt, table, intention).is_ok();
-    let copied = table.on_insert(1, &new, &next).is_ok();
-    let granted = ask(rt, table, own).is_ok();
-    Ok([intended, copied, granted])
+    let intention = due(alloc, 1, Rule::ToInsert, Mode::X, Some(9))?;
+    let own = due(alloc, 1, Rule::Inserted, Mode::X, Some(5))?;
+    let waits = ask(rt, table, intention)?;
+    insert(rt, table, own, &next.spot)?;
+    Ok(waits)
 }
 
 #[test]
-fn a_lock_with_room_takes_no_memory(rt: HostRuntime) -> Result<(), Fail> {
+fn a_new_record_has_its_locks(rt: HostRuntime) -> Result<(), Fail> {
     let mut table = LockTable::new(rt.alloc());
     let inserted = insert_with_room(&rt, rt.alloc(), &mut table);
     let locks = table.granted_locks().len();
     drop(table);
-    assert_eq!(rt; inserted?, [true, true, true]);
-    assert_eq!(rt; locks, 4);
+    assert_eq!(rt; inserted?, 0);
+    assert_eq!(rt; locks, 3);
     Ok(())
 }

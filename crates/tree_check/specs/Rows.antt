@@ -1,6 +1,7 @@
 -- Pages of a file, and rows of them as a check has walked them.
 use Rattle.std.specs.Prelude.{◌≡◌, ◌≢◌, ℕ, suc, ◌<◌, ◌≤◌, List, [], ◌∷◌, length, take, slice_index_or, None, ◌⊎◌, ◌==◌, if◌then◌else◌}
 use Rattle.std.specs.List.{AllByRecursion}
+use Rattle.stored_pages.specs.declared.layout.TheConstants.{PAGE_COUNT}
 use Rattle.page_format.specs.Shape.{IsPage}
 use Rattle.page_format.specs.Refused.{IsRefused}
 use Rattle.page_format.specs.Words.{level_of, low_of, high_of, right_of, count_of, records_of}
@@ -28,7 +29,7 @@ node_in tree pages number = node_of tree.key_len (page_in pages number)
 -- Page 0 counts a page of that number behind the first ones, the map says that it is in use, and it may stand on the level.
 pub record IsNodeAt (tree : Tree) (pages : List (List ℕ)) (level number : ℕ) : Type 0 where
   pub beyond : 20 < number
-  pub counted : number < u32_at 44 (page_in pages 0)
+  pub counted : number < u32_at PAGE_COUNT (page_in pages 0)
   pub within : number < length pages
   pub used : mark_of (page_in pages) number ≡ 1
   pub page : IsPage number (page_in pages number)
@@ -36,7 +37,7 @@ pub record IsNodeAt (tree : Tree) (pages : List (List ℕ)) (level number : ℕ)
 
 -- why it may not
 abbrev pub IsFaulty : Tree → List (List ℕ) → ℕ → ℕ → PageFault → Type 0
-IsFaulty tree pages level number Missing = 20 < number → u32_at 44 (page_in pages 0) ≤ number
+IsFaulty tree pages level number Missing = 20 < number → u32_at PAGE_COUNT (page_in pages 0) ≤ number
 IsFaulty tree pages level number Free = mark_of (page_in pages) number ≡ 0
 IsFaulty tree pages level number (Unread bad) = IsRefused number (page_in pages number) bad
 IsFaulty tree pages level number (Wrong bad) = IsBroken tree level (page_in pages number) bad

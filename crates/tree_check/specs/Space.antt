@@ -1,5 +1,6 @@
 -- The first pages of a file, on which every tree's pages depend.
 use Rattle.std.specs.Prelude.{◌≡◌, ℕ, ◌≤◌, List, length}
+use Rattle.stored_pages.specs.declared.layout.TheConstants.{PAGE_COUNT}
 use Rattle.stored_pages.specs.Words.{u32_at}
 use Rattle.space_map.specs.Map.{mark_of}
 use Rattle.space_map.specs.Taking.{HasPageCount}
@@ -10,7 +11,7 @@ use Rattle.tree_check.specs.Rows.{page_in}
 -- page 0 counts as many pages as a file can have, and the file has them
 pub record CountsPages (pages : List (List ℕ)) : Type 0 where
   pub counted : HasPageCount (page_in pages)
-  pub few : u32_at 44 (page_in pages 0) ≤ length pages
+  pub few : u32_at PAGE_COUNT (page_in pages 0) ≤ length pages
 
 -- It does, and the first pages, which are no tree's, are marked as used.
 pub record HasFirstPages (pages : List (List ℕ)) : Type 0 where

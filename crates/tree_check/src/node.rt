@@ -2,6 +2,7 @@
 //! `read_node` alone asks, of one page after another.
 
 ghost use Rattle.std.specs.Prelude.{◌≡◌, ◌≢◌, ◌<◌, ◌==◌, ◌||◌, length, MatchBool, OnOk, IfErr};
+ghost use Rattle.stored_pages.specs.declared.layout.TheConstants.{PAGE};
 ghost use Rattle.page_format.specs.Shape.{AreZeros, HasFields, HasTreeFields};
 ghost use Rattle.page_format.specs.Words.{level_of, count_of};
 ghost use Rattle.btree.specs.Layout.{width_of, IsLaidOut};
@@ -30,7 +31,7 @@ pub enum NodeBad {
 
 /// Whether the page is of that index and level, with a child if it is an inner one.
 fn stands_on(bytes: &[u8], tree: Tree, level: u8) -> bool
-    requires { length bytes.now ≡ 4096 }
+    requires { length bytes.now ≡ PAGE }
     ensures { MatchBool result (StandsOn tree level bytes.now) (StandsOn tree level bytes.now → ⊥) }
 {
     if bytes[KIND] != LEAF && bytes[KIND] != INNER {
@@ -59,14 +60,14 @@ fn width_for(tree: Tree, level: u8) -> usize
 
 /// Whether a fence of that length is none, or as long as a key.
 fn is_fence_of(len: u8, key_len: u8) -> bool
-    ensures { result ≡ (len == 255 || len == key_len) }
+    ensures { result ≡ (len == NO_FENCE || len == key_len) }
 {
     len == NO_FENCE || len == key_len
 }
 
 /// Whether the records are as long as the tree's on the page's level, and the fences as long as a key.
 fn has_lengths(bytes: &[u8], tree: Tree) -> bool
-    requires size { length bytes.now ≡ 4096 }
+    requires size { length bytes.now ≡ PAGE }
     requires fields { HasTreeFields bytes.now }
     ensures { MatchBool result (HasLengths tree bytes.now) (HasLengths tree bytes.now → ⊥) }
 {
@@ -81,7 +82,7 @@ fn has_lengths(bytes: &[u8], tree: Tree) -> bool
 
 /// Whether the keys that the records begin with rise.
 fn keys_rise(bytes: &[u8], tree: Tree) -> bool
-    requires size { length bytes.now ≡ 4096 }
+    requires size { length bytes.now ≡ PAGE }
     requires laid_out { IsLaidOut tree bytes.now }
     ensures { MatchBool result (DoKeysRise tree bytes.now) (DoKeysRise tree bytes.now → ⊥) }
 {
@@ -104,7 +105,7 @@ fn are_zeros(bytes: &[u8]) -> bool
 
 /// Whether an inner page's first key is its low fence, or zeros where it has none.
 fn begins_low(bytes: &[u8], tree: Tree) -> bool
-    requires size { length bytes.now ≡ 4096 }
+    requires size { length bytes.now ≡ PAGE }
     requires fields { HasTreeFields bytes.now }
     requires laid_out { IsLaidOut tree bytes.now }
     requires some { level_of bytes.now ≢ 0 → 0 < count_of bytes.now }
@@ -122,7 +123,7 @@ fn begins_low(bytes: &[u8], tree: Tree) -> bool
 
 /// Whether a page that was read may stand on that level of the tree, or what is wrong with it.
 pub fn check_node(bytes: &[u8], tree: Tree, level: u8) -> Result<(), NodeBad>
-    requires size { length bytes.now ≡ 4096 }
+    requires size { length bytes.now ≡ PAGE }
     requires fields { HasFields bytes.now }
     ensures node { OnOk result (IsNode tree level bytes.now) }
     ensures broken { IfErr result (IsBroken tree level bytes.now) }

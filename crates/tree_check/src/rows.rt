@@ -42,8 +42,8 @@ pub enum RowFault {
 
 /// Whether both pages begin at the same fence.
 fn begin_alike(above: &[u8], child: &[u8]) -> bool
-    requires above_size { length above.now ≡ 4096 }
-    requires size { length child.now ≡ 4096 }
+    requires above_size { length above.now ≡ PAGE }
+    requires size { length child.now ≡ PAGE }
     requires above_fields { HasTreeFields above.now }
     requires fields { HasTreeFields child.now }
     ensures { MatchBool result (low_fence (low_of child.now) ≡ low_fence (low_of above.now))
@@ -60,7 +60,7 @@ fn begin_alike(above: &[u8], child: &[u8]) -> bool
 
 /// Whether the page begins at the key.
 fn begins_at(child: &[u8], key: &[u8]) -> bool
-    requires size { length child.now ≡ 4096 }
+    requires size { length child.now ≡ PAGE }
     requires fields { HasTreeFields child.now }
     ensures { MatchBool result (low_fence (low_of child.now) ≡ Key key.now) (low_fence (low_of child.now) ≡ Key key.now → ⊥) }
 {
@@ -72,8 +72,8 @@ fn begins_at(child: &[u8], key: &[u8]) -> bool
 
 /// Whether a child begins where the parent's record says.
 fn begins_there(above: &[u8], tree: Tree, place: u16, child: &[u8]) -> bool
-    requires above_size { length above.now ≡ 4096 }
-    requires size { length child.now ≡ 4096 }
+    requires above_size { length above.now ≡ PAGE }
+    requires size { length child.now ≡ PAGE }
     requires above_fields { HasTreeFields above.now }
     requires fields { HasTreeFields child.now }
     requires laid_out { IsLaidOut tree above.now }
@@ -105,8 +105,8 @@ fn follows(pages: &[[u8; PAGE]], tree: Tree, last: u32, page: u32) -> bool
 
 /// What comes next once the page below stands where it may.
 fn next_of(above: &[u8], child: &[u8], now: Walk) -> Walk
-    requires above_size { length above.now ≡ 4096 }
-    requires size { length child.now ≡ 4096 }
+    requires above_size { length above.now ≡ PAGE }
+    requires size { length child.now ≡ PAGE }
     requires place { now.place < count_of above.now }
     ensures last { result.last ≡ now.lower }
     ensures lower { result.lower ≡ right_of child.now }

@@ -24,7 +24,7 @@ pub enum SpaceFault {
 /// How many pages page 0 counts.
 pub fn page_count(pages: &[[u8; PAGE]]) -> u32
     requires { 0 < length pages.now }
-    ensures { result ≡ u32_at 44 (page_in pages.now 0) }
+    ensures { result ≡ u32_at PAGE_COUNT (page_in pages.now 0) }
 {
     read_u32(&pages[0], PAGE_COUNT)
 }
@@ -32,7 +32,7 @@ pub fn page_count(pages: &[[u8; PAGE]]) -> u32
 /// Whether the map says that the page is in use.
 pub fn is_used(pages: &[[u8; PAGE]], page: u32) -> bool
     requires map { 4 < length pages.now }
-    requires page { page < 65536 }
+    requires page { page < MOST_PAGES }
     ensures { MatchBool result (mark_of (page_in pages.now) page ≡ 1) (mark_of (page_in pages.now) page ≡ 0) }
 {
     let map = &pages[(FIRST_MAP_PAGE + page / COVERED) as usize];

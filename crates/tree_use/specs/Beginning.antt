@@ -1,5 +1,8 @@
 -- A tree that was just made: its root is an empty leaf.
 use Rattle.std.specs.Prelude.{◌≡◌, ℕ, ◌+◌, ◌<◌, ◌≤◌, List, drop, slice_index}
+use Rattle.stored_pages.specs.declared.layout.TheConstants.{PAGE_COUNT, COVERED}
+use Rattle.page_format.specs.declared.layout.TheConstants.{LEAF, LOW_LEN, HIGH_LEN, NO_FENCE, LOW}
+use Rattle.store_api.specs.declared.limits.TheConstants.{MOST_PAGES}
 use Rattle.page_format.specs.Words.{kind_of, level_of, count_of, index_of, record_len_of, right_of}
 use Rattle.stored_pages.specs.Words.{u32_at}
 use Rattle.page_format.specs.Shape.{AreZeros}
@@ -8,15 +11,15 @@ use Rattle.btree.specs.declared.tree.Tree.{Tree}
 
 -- The page is a leaf of the tree's index with no record, no fence and no neighbour, and zeros behind its fields.
 pub record IsEmptyLeaf (tree : Tree) (bytes : List ℕ) : Type 0 where
-  pub kind : kind_of bytes ≡ 3
+  pub kind : kind_of bytes ≡ LEAF
   pub level : level_of bytes ≡ 0
   pub count : count_of bytes ≡ 0
   pub index : index_of bytes ≡ tree.index
   pub right : right_of bytes ≡ 0
   pub width : record_len_of bytes ≡ tree.key_len + tree.value_len
-  pub low : slice_index bytes 34 ≡ 255
-  pub high : slice_index bytes 35 ≡ 255
-  pub rest : AreZeros (drop 36 bytes)
+  pub low : slice_index bytes LOW_LEN ≡ NO_FENCE
+  pub high : slice_index bytes HIGH_LEN ≡ NO_FENCE
+  pub rest : AreZeros (drop LOW bytes)
 
 -- the first pages are marked as used
 abbrev pub AreReserved : List ℕ → Type 0
@@ -25,9 +28,9 @@ AreReserved map = (page : ℕ) → page ≤ 20 → bit_in map page ≡ 1
 -- The root is one of the pages that page 0 counts, behind the first ones; these are marked as used, and so is the root.
 pub record IsCountedRoot (root : ℕ) (header map : List ℕ) : Type 0 where
   pub beyond : 20 < root
-  pub covered : root < 32512
-  pub counted : root < u32_at 44 header
-  pub few : u32_at 44 header ≤ 65536
+  pub covered : root < COVERED
+  pub counted : root < u32_at PAGE_COUNT header
+  pub few : u32_at PAGE_COUNT header ≤ MOST_PAGES
   pub reserved : AreReserved map
   pub used : bit_in map root ≡ 1
 

@@ -3,6 +3,7 @@ use Rattle.std.specs.Prelude.{◌≡◌, ℕ, ◌<◌, ◌≤◌, Bool, if◌the
 use Rattle.std.specs.Coded.{Coded, code_by, coded×, coded_list, coded_ℕ}
 use Rattle.store_api.specs.declared.moves.Move.{Move}
 use Rattle.store_api.specs.declared.moves.Move.TheVariants.{At, Done, Full, TooDeep, NoMemory}
+use Rattle.stored_pages.specs.declared.layout.TheConstants.{PAGE}
 use Rattle.entries.specs.Pairs.{Pair, value_of, with_pair, without_key}
 use Rattle.mtr.specs.Seen.{MtrState}
 use Rattle.space_map.specs.Taking.{HasPageCount}
@@ -48,7 +49,7 @@ pub record IsAtRest (tree : Tree) (s : MtrState) : Type 0 where
   pub idle : IsIdle s
   pub placed : IsPlacedTree tree s.standing
   pub counted : HasPageCount s.standing
-  pub spare : 4096 ≤ s.whole
+  pub spare : PAGE ≤ s.whole
 
 -- The key has this value now, or it isn't there, and nothing is changed; keys and values are as long as before.
 pub record IsPut (key value : List ℕ) (old new : Stored) (found : Bool) : Type 0 where

@@ -23,7 +23,7 @@ use stored_pages::{read_u16, read_u32};
 
 /// Whether a page is marked as used in the first page of the map.
 fn is_used(map: &[u8; PAGE], page: u32) -> bool
-    requires { page < 32512 }
+    requires { page < COVERED }
     ensures { MatchBool result (bit_in map.now page ≡ 1) (bit_in map.now page ≡ 1 → ⊥) }
 {
     let byte = map[BITS + (page / 8) as usize];
@@ -61,7 +61,7 @@ fn are_zeros(bytes: &[u8]) -> bool
 
 /// Whether a page is an empty leaf of the tree's index, without fences and neighbour.
 fn is_empty_leaf(tree: Tree, bytes: &[u8]) -> bool
-    requires size { length bytes.now ≡ 4096 }
+    requires size { length bytes.now ≡ PAGE }
     requires widths { HasWidths tree }
     ensures { MatchBool result (IsEmptyLeaf tree bytes.now) (IsEmptyLeaf tree bytes.now → ⊥) }
 {
@@ -103,7 +103,7 @@ pub fn is_new_tree<M: Resident>(m: &mut M, tree: Tree) -> bool
     requires widths { HasWidths tree }
     requires told { IsTrue (M.state m.old).told }
     requires idle { IsIdle (M.state m.old) }
-    requires spare { 4096 ≤ (M.state m.old).whole }
+    requires spare { PAGE ≤ (M.state m.old).whole }
     ensures rest { IsTrue result → IsAtRest tree (M.state m.new) }
     ensures none { IsTrue result → tree_pairs tree (M.state m.new).standing ≡ [] }
     ensures other { result ≡ false → HoldsNewTree tree (M.state m.old).standing → ⊥ }

@@ -2,6 +2,7 @@
 //! mini-transactions. The other files of this crate alone read by these.
 
 ghost use Rattle.std.specs.Prelude.{◌≡◌, ◌≢◌, ◌≤◌, true, false, length, is_some, Some, None, Ok, IsTrue, IsOk, IfOk, IfErr, OnOk, vec_capacity};
+ghost use Rattle.stored_pages.specs.declared.layout.TheConstants.{PAGE};
 ghost use Rattle.mtr.specs.Calls.{GivesUp};
 ghost use Rattle.btree.specs.Reads.{IsIdle, IsHindered};
 ghost use Rattle.entries.specs.Pairs.{value_of, first_from, first_after};
@@ -69,7 +70,7 @@ pub fn sure_leaf<M: Resident>(m: &mut M, tree: Tree, key: &[u8]) -> u32
 /// Looks at a page, which shows that it has its size.
 fn look_at<M: Resident>(m: &mut M, page: u32) -> Result<(), Visit>
     requires idle { IsIdle (M.state m.old) }
-    ensures size { OnOk result (IsTrue (M.state m.new).told → length ((M.state m.old).standing page) ≡ 4096) }
+    ensures size { OnOk result (IsTrue (M.state m.new).told → length ((M.state m.old).standing page) ≡ PAGE) }
     ensures reads { GivesUp (M.state m.old) (M.state m.new) }
     ensures reason { IfErr result (IsHindered (M.state m.old) (M.state m.new)) }
 {

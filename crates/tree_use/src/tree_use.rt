@@ -4,6 +4,7 @@
 ghost use Rattle.std.specs.Prelude.{◌≡◌, ◌≤◌, IsTrue, IfOk, MatchOption, MatchResult, None};
 ghost use Rattle.std.specs.Ordering.{nat_cmp};
 ghost use Rattle.std.specs.BTreeMap.{get};
+ghost use Rattle.stored_pages.specs.declared.layout.TheConstants.{PAGE};
 ghost use Rattle.entries.specs.Index.{IsAsBefore, IsFree, IsHeld};
 ghost use Rattle.entries.specs.Calls.{next_of, Gives, Seeks, Follows};
 ghost use Rattle.tree_use.specs.Stored.{stored_of, HasWidths, IsAtRest};
@@ -59,7 +60,7 @@ impl<M: Resident + Drop> TreeUse<M> {
         requires widths { HasWidths tree }
         requires told { IsTrue (M.state m).told }
         requires idle { IsIdle (M.state m) }
-        requires spare { 4096 ≤ (M.state m).whole }
+        requires spare { PAGE ≤ (M.state m).whole }
         ensures { IfOk result (λ made. MatchOption made (HoldsNewTree tree (M.state m).standing → ⊥)
             (λ t. IsEmptyOf tree (⟦<TreeUse<M> as Entries>⟧.index t))) }
     {

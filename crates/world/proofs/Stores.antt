@@ -1,8 +1,7 @@
 -- How a store goes on: from itself, and by one step after another.
-use Rattle.std.proofs.Common.{◌≡◌, ℕ, ◌≤◌, Option, None, Some, subst, arith}
+use Rattle.std.proofs.Common.{Option, None, Some, arith}
 use Rattle.entries.specs.Index.{Paged}
-use Rattle.world.specs.State.{WorldState}
-use Rattle.world.specs.Stores.{IsLater, StoreGoes}
+use Rattle.world.specs.Stores.{StoreGoes}
 
 pub store_stays : (store : Option Paged) → StoreGoes store store
 store_stays None = tt

@@ -4,16 +4,19 @@ use Rattle.inno_model.specs.declared.event.Event.TheVariants.{Committed, RolledB
 use Rattle.store_api.specs.declared.moves.Move.{Move}
 use Rattle.store_api.specs.declared.moves.Move.TheVariants.{Done}
 use Rattle.sql_history.specs.Settings.{at_end}
+use Rattle.lock_table.specs.View.{others, without_transaction}
 use Rattle.txn_table.specs.Txns.{without}
 use Rattle.world.specs.State.{WorldState, Session, Work, HasWork, with_session, with_entry}
 use Rattle.world.specs.Stores.{StoreGoes}
 use Rattle.world.specs.Undoing.{IsUnchanged, Delays}
 
--- the session's transaction is open no longer
+-- The session's transaction is open no longer: its locks and its request go, and requests of others are granted in order.
 abbrev pub ended : ℕ → Session → Work → WorldState → WorldState
 ended s session work state =
     record (with_session s (record session { setting = at_end session.setting; work = None }) state) {
       txns = record state.txns { open_txns = without work.txn state.txns.open_txns };
+      locks = without_transaction work.txn state.locks;
+      fallen = others work.txn state.fallen;
     }
 
 -- it is committed, which is to be acknowledged

@@ -23,6 +23,9 @@ pub record IsNew (state : WorldState) : Type 0 where
   pub versions : (pointer : ℕ) → state.versions.kept_at pointer ≡ None
   pub txns : state.txns ≡ record { open_txns = []; begun = 0; next = 1 }
   pub sessions : state.sessions ≡ []
+  pub granted : state.locks.granted ≡ []
+  pub waiting : state.locks.waiting ≡ []
+  pub fallen : state.fallen ≡ []
 
 -- One table more. Its indexes are empty, as they were before anybody had them.
 pub record LaysTable (schema : Schema) (old new : WorldState) : Type 0 where

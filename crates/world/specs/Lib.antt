@@ -3,6 +3,7 @@ pub mod Stores
 pub mod Indexes
 pub mod Undoing
 pub mod Sessions
+pub mod Locks
 pub mod Endings
 pub mod Told
 pub mod EngineCalls

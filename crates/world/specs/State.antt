@@ -1,5 +1,5 @@
 -- What contracts see of a world: all that the sessions of one engine share, as plain lists.
-use Rattle.std.specs.Prelude.{◌≡◌, ℕ, ◌+◌, ◌*◌, ◌≤◌, ◌<◌, Bool, List, ◌∷◌, length, slice_get, slice_set, Option, None, Some}
+use Rattle.std.specs.Prelude.{◌≡◌, ℕ, ◌≤◌, ◌<◌, Bool, List, ◌∷◌, length, slice_get, slice_set, Option, None, Some}
 use Rattle.inno_types.specs.declared.lock.Level.{Level}
 use Rattle.inno_types.specs.declared.value.Schema.{Schema}
 use Rattle.inno_db.specs.Indexes.{index_of}
@@ -7,6 +7,8 @@ use Rattle.inno_model.specs.declared.event.Event.{Event}
 use Rattle.store_api.specs.declared.answers.Standing.{Standing}
 use Rattle.store_api.specs.declared.answers.Undo.{Undo}
 use Rattle.entries.specs.Index.{Index, Paged}
+use Rattle.lock_table.specs.Queue.{Lists}
+use Rattle.lock_table.specs.View.{Table, with_lists}
 use Rattle.row_versions.specs.Versions.{Versions}
 use Rattle.sql_history.specs.Settings.{Setting, next_level}
 use Rattle.txn_table.specs.Txns.{Txns}
@@ -64,6 +66,10 @@ pub record WorldState : Type 0 where
   pub txns : Txns
   -- by number
   pub sessions : List Session
+  -- granted locks, requests that wait, and the memory for both
+  pub locks : Table
+  -- the transactions that were chosen as victims and have not ended, by number
+  pub fallen : List ℕ
   -- A world in memory has no pages.
   pub paged : Option Paged
 
@@ -129,3 +135,7 @@ with_work s session work state = with_session s (record session { work = Some wo
 -- an entry more
 abbrev pub with_entry : Event → WorldState → WorldState
 with_entry event state = record state { past = event ∷ state.past }
+
+-- locks and requests are these now
+abbrev pub with_locks : Lists → WorldState → WorldState
+with_locks lists state = record state { locks = with_lists state.locks lists }

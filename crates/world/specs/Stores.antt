@@ -1,5 +1,5 @@
 -- How the store goes on in which a world keeps its pages. The frames of all calls say no more of it than this.
-use Rattle.std.specs.Prelude.{ℕ, ◌≤◌, Option, None, Some}
+use Rattle.std.specs.Prelude.{◌≤◌, Option, None, Some}
 use Rattle.entries.specs.Index.{Paged}
 
 -- the disk's faults are never fewer

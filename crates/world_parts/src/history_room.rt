@@ -20,16 +20,23 @@ fn owed_by_all(sessions: &[SessionRoom]) -> Option<u64>
     Some(total)
 }
 
-/// Takes room for `more` entries beside those that are owed.
-pub fn take_room(history: &mut History, sessions: &[SessionRoom], more: u64) -> Result<(), NoMemory>
-    ensures ok { OnOk result (owed_by_all sessions.now + more ≤ history.new.room) }
-    ensures fits { OnOk result (owed_by_all sessions.now + more < 2 ^ 64) }
+/// Takes room for `more` entries beside those that are owed: to sessions, and one for each request that waits for a lock,
+/// which tells that it ends as a victim.
+pub fn take_room(
+    history: &mut History,
+    sessions: &[SessionRoom],
+    requests: usize,
+    more: u64,
+) -> Result<(), NoMemory>
+    ensures ok { OnOk result (owed_by_all sessions.now + requests + more ≤ history.new.room) }
+    ensures fits { OnOk result (owed_by_all sessions.now + requests + more < 2 ^ 64) }
     ensures same { SameEntries history.old history.new }
     ensures kept { history.old.room ≤ history.new.room }
     ensures err { OnErr result (history.new ≡ history.old) }
 {
     let owed = owed_by_all(sessions).ok_or(NoMemory)?;
-    let wanted = owed.checked_add(more).ok_or(NoMemory)?;
+    let with_victims = owed.checked_add(requests as u64).ok_or(NoMemory)?;
+    let wanted = with_victims.checked_add(more).ok_or(NoMemory)?;
     history.reserve(wanted as usize)?;
     Ok(())
 }
@@ -39,12 +46,13 @@ pub fn take_room_unless(
     owed: bool,
     history: &mut History,
     sessions: &[SessionRoom],
+    requests: usize,
     more: u64,
 ) -> Result<(), NoMemory>
-    requires enough { owed_by_all sessions.now ≤ history.old.room }
-    requires small { owed_by_all sessions.now < 2 ^ 64 }
-    ensures ok { OnOk result (owed_by_all sessions.now + more ≤ history.new.room + bit more owed) }
-    ensures fits { OnOk result (owed_by_all sessions.now + more < 2 ^ 64 + bit more owed) }
+    requires enough { owed_by_all sessions.now + requests ≤ history.old.room }
+    requires small { owed_by_all sessions.now + requests < 2 ^ 64 }
+    ensures ok { OnOk result (owed_by_all sessions.now + requests + more ≤ history.new.room + bit more owed) }
+    ensures fits { OnOk result (owed_by_all sessions.now + requests + more < 2 ^ 64 + bit more owed) }
     ensures same { SameEntries history.old history.new }
     ensures kept { history.old.room ≤ history.new.room }
     ensures err { OnErr result (history.new ≡ history.old) }
@@ -53,5 +61,5 @@ pub fn take_room_unless(
     if owed {
         return Ok(());
     }
-    take_room(history, sessions, more)
+    take_room(history, sessions, requests, more)
 }

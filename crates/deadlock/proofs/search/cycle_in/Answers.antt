@@ -1,5 +1,6 @@
 use Rattle.std.specs.Prelude.{◌<◌, length}
 use Rattle.std.proofs.Common.{arith}
+use Rattle.lock_table.proofs.Rooms.{less_edges}
 use Rattle.deadlock.proofs.Rooms.{others_fewer, room_taken, rooms_left, rooms_back, no_cycle_unplaced}
 use Rattle.deadlock.proofs.search.cycle_in.Goals as goal
 
@@ -18,20 +19,20 @@ search-requires-clause-room c =
     let room = (room_taken _ _ _ _ c.requires c.in_ok-room.ensures.items).room_has in
     omega (arith, few, room.path.holds)
 
-pub edges_along-requires-clause-edges : goal.edges_along-requires-clause-edges
-edges_along-requires-clause-edges c =
+pub cycle_along-requires-clause-cycle : goal.cycle_along-requires-clause-cycle
+cycle_along-requires-clause-cycle c =
     let few : length c.others.new.unvisited.items < length c.args.locks.now.waiting = others_fewer c.args.txn c.args.locks.now.waiting c.in_ok-place_of.field-0 c.others.new.unvisited.items (rw c.requests.ensures at c.in_ok-place_of.ensures.place) (rw c.requests-2.ensures at c.others.ensures.items) in
-    let room = (room_taken _ _ _ _ c.requires c.in_ok-room.ensures.items).room_has in
-    record { empty = room.list.empty; holds = omega (arith, few, room.list.holds) }
+    less_edges _ _ _ (omega (arith, few)) (room_taken _ _ _ _ c.requires c.in_ok-room.ensures.items).room_has.cycle
 
-pub edges_along-requires-clause-keys : goal.edges_along-requires-clause-keys
-edges_along-requires-clause-keys c =
+pub cycle_along-requires-clause-first_copy : goal.cycle_along-requires-clause-first_copy
+cycle_along-requires-clause-first_copy c =
     let few : length c.others.new.unvisited.items < length c.args.locks.now.waiting = others_fewer c.args.txn c.args.locks.now.waiting c.in_ok-place_of.field-0 c.others.new.unvisited.items (rw c.requests.ensures at c.in_ok-place_of.ensures.place) (rw c.requests-2.ensures at c.others.ensures.items) in
-    let room = (room_taken _ _ _ _ c.requires c.in_ok-room.ensures.items).room_has in
-    omega (arith, few, room.keys)
+    less_edges _ _ _ (omega (arith, few)) (room_taken _ _ _ _ c.requires c.in_ok-room.ensures.items).room_has.first_copy
 
-pub edges_along-requires-clause-hold : goal.edges_along-requires-clause-hold
-edges_along-requires-clause-hold c = (room_taken _ _ _ _ c.requires c.in_ok-room.ensures.items).room_has.keys_hold
+pub cycle_along-requires-clause-second_copy : goal.cycle_along-requires-clause-second_copy
+cycle_along-requires-clause-second_copy c =
+    let few : length c.others.new.unvisited.items < length c.args.locks.now.waiting = others_fewer c.args.txn c.args.locks.now.waiting c.in_ok-place_of.field-0 c.others.new.unvisited.items (rw c.requests.ensures at c.in_ok-place_of.ensures.place) (rw c.requests-2.ensures at c.others.ensures.items) in
+    less_edges _ _ _ (omega (arith, few)) (room_taken _ _ _ _ c.requires c.in_ok-room.ensures.items).room_has.second_copy
 
 pub returns-then-search-clause-rooms : goal.returns-then-search-clause-rooms
 returns-then-search-clause-rooms c = rooms_left _ _ _ (room_taken _ _ _ _ c.requires c.in_ok-room.ensures.items)
@@ -42,9 +43,9 @@ returns-clause-rooms c =
     let room = taken.room_has in
     rw c.push_reserved.ensures.items (rooms_back _ _ _ _ taken
     (record {
-      list = room.list;
+      cycle = room.cycle;
+      first_copy = room.first_copy;
+      second_copy = room.second_copy;
       path = record { empty = c.if-search.ensures.emptied; holds = omega (arith, room.path.holds) };
       visits = record { empty = c.clear.ensures.items; holds = omega (arith, room.visits.holds) };
-      keys = room.keys;
-      keys_hold = room.keys_hold;
     }))

@@ -2,7 +2,7 @@ use Rattle.std.proofs.Common.{arith, [], ◌++◌}
 use Rattle.std.specs.Prelude.{◌==◌, not, length}
 use Rattle.lock_rules.specs.Spots.{same_spot}
 use Rattle.lock_table.specs.Queue.{serve, without, without_lock}
-use Rattle.lock_table.specs.Records.{moved, left_by, elsewhere, after_removal, after_end}
+use Rattle.lock_table.specs.Records.{moved, left_by, uncovered, elsewhere, after_removal, after_end}
 use Rattle.deadlock.proofs.Rooms.{rooms_fewer}
 use Rattle.law_locks.proofs.Parts.{served_fewer, filter_upto}
 use Rattle.law_locks.proofs.rooms.rooms_last_through_other_calls.Goals as goal
@@ -22,7 +22,7 @@ returns c = record {
       rooms_fewer (length (after_removal by gone next granted waiting).waiting) (length waiting) rooms
       (omega (
         arith,
-        served_fewer (moved by gone next granted ++ left_by by gone next waiting) [] (elsewhere gone waiting),
+        served_fewer (moved by gone next granted ++ uncovered (moved by gone next granted) (left_by by gone next waiting)) [] (elsewhere gone waiting),
         filter_upto
             (λ asked. not (same_spot asked.spot gone)) waiting,
       )) has;

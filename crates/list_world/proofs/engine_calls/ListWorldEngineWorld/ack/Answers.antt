@@ -2,6 +2,7 @@ use Rattle.std.proofs.Common.{◌≡◌, false, length, Some, refl, ap, arith}
 use Rattle.std.specs.Prelude.{slice_get}
 use Rattle.world.specs.State.{Session}
 use Rattle.world_parts.specs.Owed.{owed_of, bit}
+use Rattle.list_world.specs.Parts.{queue_of}
 use Rattle.list_world.proofs.Sound.{there_of, read_of, part_le, sound_set, promised_same}
 use Rattle.list_world.proofs.engine_calls.ListWorldEngineWorld.ack.Goals as goal
 
@@ -20,7 +21,7 @@ invariant_of-self c =
     let there : slice_get l.sessions.items c.args.s ≡ Some session = there_of c.args.s session c.self.view_is c.requires.1 in
     let here : c.index_mut.result.now ≡ session = read_of c.args.s session c.index_mut.result.now c.self.view_is c.requires.1 c.index_mut.ensures.value in
     let new : Session = record session { can_ack = false } in
-    rw (c.acknowledge.ensures, here) (sound_set l.history.room l.rows (length l.schemas) (length l.indexes.items) l.slots l.txns.begun l.sessions.items
+    rw (c.acknowledge.ensures, here) (sound_set l.history.room l.rows (length l.schemas) (length l.indexes.items) l.slots l.txns.begun (queue_of l.locks.waiting l.fallen) l.sessions.items
     c.args.s session new c.add.new.self.room l.rows l.slots c.self.invariant there (λ txn is. is)
     (promised_same l.slots l.sessions.items c.args.s session new c.self.invariant.promised there refl refl)
     (omega (arith, c.add.ensures.room, ap (bit 1) c.requires.2, c.self.invariant.enough)) (omega (arith, c.self.invariant.small, ap (bit 1) c.requires.2))

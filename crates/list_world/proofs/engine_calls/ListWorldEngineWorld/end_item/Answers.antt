@@ -2,7 +2,7 @@ use Rattle.std.proofs.Common.{◌≡◌, ◌+◌, ◌<◌, ◌^◌, false, lengt
 use Rattle.std.specs.Prelude.{slice_get}
 use Rattle.world.specs.State.{Session}
 use Rattle.world_parts.specs.Owed.{owed_of, bit}
-use Rattle.list_world.specs.Parts.{Parts}
+use Rattle.list_world.specs.Parts.{Parts, queue_of}
 use Rattle.list_world.proofs.Sound.{there_of, read_of, part_le, sound_set, promised_same}
 use Rattle.world_parts.proofs.Owing.{puts_few}
 use Rattle.list_world.proofs.engine_calls.ListWorldEngineWorld.end_item.Goals as goal
@@ -23,7 +23,7 @@ invariant_of-self c =
     let here : c.index_mut.result.now ≡ session = read_of c.args.s session c.index_mut.result.now c.self.view_is c.requires.may.1 c.index_mut.ensures.value in
     let few : l.rows + c.rows_of_reply.result < 2 ^ 63 = omega (arith, c.requires.few, c.rows_of_reply.ensures.exact, ap (λ (p : Parts). p.rows) c.self.view_is) in
     let new : Session = record session { can_reply = false } in
-    rw (c.let_reply.ensures, here) (sound_set l.history.room l.rows (length l.schemas) (length l.indexes.items) l.slots l.txns.begun l.sessions.items
+    rw (c.let_reply.ensures, here) (sound_set l.history.room l.rows (length l.schemas) (length l.indexes.items) l.slots l.txns.begun (queue_of l.locks.waiting l.fallen) l.sessions.items
     c.args.s session new c.add.new.self.room (l.rows + c.rows_of_reply.result) l.slots c.self.invariant there (λ txn is. is)
     (promised_same l.slots l.sessions.items c.args.s session new c.self.invariant.promised there refl refl)
     (omega (arith, c.add.ensures.room, ap (bit 1) c.requires.may.2, c.self.invariant.enough))

@@ -2,7 +2,7 @@ use Rattle.std.proofs.Common.{◌≡◌, false, length, Some, refl, ap, arith}
 use Rattle.std.specs.Prelude.{slice_get}
 use Rattle.std.proofs.lemmas.Option.{slice_get_read}
 use Rattle.world.specs.State.{Session}
-use Rattle.list_world.specs.Parts.{Parts}
+use Rattle.list_world.specs.Parts.{Parts, queue_of}
 use Rattle.list_world.proofs.Sound.{read_of, sound_quiet, promised_same}
 use Rattle.sql_history.specs.Settings.{set_by}
 use Rattle.list_world.proofs.engine_calls.ListWorldEngineWorld.set.Goals as goal
@@ -15,7 +15,7 @@ invariant_of-self c =
     slice_get_read l.sessions.items (length l.sessions.items) c.args.s session refl
     (omega (arith, c.requires, ap (λ (p : Parts). length p.sessions) c.self.view_is)) c.index_mut.ensures.value in
     let new : Session = record session { setting = set_by c.args.stmt.now 0 false session.setting } in
-    rw c.set.ensures (sound_quiet l.history.room l.rows (length l.schemas) (length l.indexes.items) l.slots l.txns.begun l.sessions.items c.args.s session
+    rw c.set.ensures (sound_quiet l.history.room l.rows (length l.schemas) (length l.indexes.items) l.slots l.txns.begun (queue_of l.locks.waiting l.fallen) l.sessions.items c.args.s session
     new l.slots c.self.invariant there (λ txn is. is)
     (promised_same l.slots l.sessions.items c.args.s session new c.self.invariant.promised there refl refl) (omega arith) refl)
 

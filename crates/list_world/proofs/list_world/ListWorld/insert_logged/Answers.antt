@@ -28,6 +28,8 @@ returns-in-Done c =
       txns =
           l.txns;
       sessions = l.sessions.items;
+      locks = l.locks;
+      fallen = l.fallen.items;
     } in
     let mid : Parts = record parts { indexes = slice_set l.indexes.items c.args.index c.insert-answer.new.self } in
     let called : InsertsWith (Some c.args.undo.now) c.args.actor c.args.key.now c.args.value.now (shown c.index_mut.result.now)
@@ -58,6 +60,8 @@ returns-in_default c =
       txns =
           l.txns;
       sessions = l.sessions.items;
+      locks = l.locks;
+      fallen = l.fallen.items;
     } in
     let none =
     changes_none parts c.args.index c.args.actor c.args.undo.now c.index_mut.result.now c.insert-answer.new.self

@@ -1,7 +1,7 @@
 use Rattle.std.proofs.Common.{◌≡◌, ◌<◌, length, Some, refl, ap, sym, ◌∙◌, arith, ◌∷◌}
 use Rattle.std.specs.Prelude.{slice_get}
 use Rattle.world.specs.State.{Session, Work, HasWork}
-use Rattle.list_world.specs.Parts.{Parts, world_of}
+use Rattle.list_world.specs.Parts.{Parts, world_of, queue_of}
 use Rattle.world_parts.specs.Rooms.{working}
 use Rattle.list_world.proofs.Sound.{there_of, read_of, sound_quiet, promised_filled}
 use Rattle.world_parts.proofs.Owing.{same_txn, same_owed}
@@ -54,7 +54,7 @@ invariant_of-self c =
     let add : Work → Work = λ w. record w { log = record { pointer = session.next_pointer; undo = c.args.brought.undo } ∷ w.log } in
     let new : Session = working add (record session { undo_room = 0 }) in
     rw (c.log.ensures, here, c.fill_if.ensures, pointer)
-    (sound_quiet l.history.room l.rows (length l.schemas) (length l.indexes.items) l.slots l.txns.begun l.sessions.items c.args.actor session new
+    (sound_quiet l.history.room l.rows (length l.schemas) (length l.indexes.items) l.slots l.txns.begun (queue_of l.locks.waiting l.fallen) l.sessions.items c.args.actor session new
     (filled_if session.next_pointer c.args.brought.kept l.slots) c.self.invariant there
     (λ txn is. sym (same_txn session add (λ w. refl)) ∙ is)
     (promised_filled l.slots l.sessions.items c.args.actor session new c.args.brought.kept c.self.invariant.promised there roomy refl)

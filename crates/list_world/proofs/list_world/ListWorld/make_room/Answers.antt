@@ -1,7 +1,7 @@
 use Rattle.std.proofs.Common.{◌≡◌, ◌+◌, length, Some, None, refl, ap, arith, [], ◌∷◌, ◌++◌}
 use Rattle.std.specs.Prelude.{slice_get}
 use Rattle.world.specs.State.{Session}
-use Rattle.list_world.specs.Parts.{Parts, world_of}
+use Rattle.list_world.specs.Parts.{Parts, world_of, queue_of}
 use Rattle.list_world.proofs.Sound.{sound_quiet, promised_taken, sound_taken}
 use Rattle.std.proofs.lemmas.Option.{slice_get_read}
 use Rattle.world.specs.Undoing.{IsUnchanged}
@@ -23,7 +23,7 @@ pub invariant_of-self-in_err-make_room : goal.invariant_of-self-in_err-make_room
 invariant_of-self-in_err-make_room c =
     let l = c.self.inside in
     rw (c.in_ok-pointer.ensures.ok, c.in_err-make_room.ensures.err, set_same l.sessions.items c.args.actor c.index_mut.result.now c.index_mut.ensures.value)
-    (sound_taken l.history.room l.rows (length l.schemas) (length l.indexes.items) l.slots l.txns.begun l.sessions.items c.self.invariant)
+    (sound_taken l.history.room l.rows (length l.schemas) (length l.indexes.items) l.slots l.txns.begun (queue_of l.locks.waiting l.fallen) l.sessions.items c.self.invariant)
 
 pub returns-in_err-make_room-clause-err : goal.returns-in_err-make_room-clause-err
 returns-in_err-make_room-clause-err c =
@@ -46,6 +46,8 @@ returns-in_err-make_room-clause-err c =
           l.slots;
       txns = l.txns;
       sessions = l.sessions.items;
+      locks = l.locks;
+      fallen = l.fallen.items;
     })))
 
 pub invariant_of-self-2 : goal.invariant_of-self-2
@@ -57,7 +59,7 @@ invariant_of-self-2 c =
     (omega (arith, c.requires, ap (λ (p : Parts). length p.sessions) c.self.view_is)) c.index_mut.ensures.value in
     let new : Session = record session { undo_room = c.args.bytes; next_pointer = length l.slots + 1 } in
     rw (c.in_ok-make_room.ensures.ok, c.in_ok-pointer.ensures.ok, c.in_ok-pointer.ensures.pointer)
-    (sound_quiet l.history.room l.rows (length l.schemas) (length l.indexes.items) l.slots l.txns.begun l.sessions.items c.args.actor session new
+    (sound_quiet l.history.room l.rows (length l.schemas) (length l.indexes.items) l.slots l.txns.begun (queue_of l.locks.waiting l.fallen) l.sessions.items c.args.actor session new
     (l.slots ++ None ∷ []) c.self.invariant there
     (λ txn is. is) (promised_taken l.slots l.sessions.items c.args.actor session new c.self.invariant.promised there refl) (omega arith) refl)
 

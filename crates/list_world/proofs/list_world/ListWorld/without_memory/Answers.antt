@@ -26,6 +26,8 @@ returns-clause-same c =
       txns =
           l.txns;
       sessions = l.sessions.items;
+      locks = l.locks;
+      fallen = l.fallen.items;
     } in
     rw (← c.self.view_is) (calls_one parts c.args.index c.index_mut.result.now c.tidy.new.self IsAsBefore there
     (tidied c.args.actor c.index_mut.result.now c.tidy.new.self c.tidy.result c.tidy.ensures.answer) c.tidy.ensures.sound)

@@ -2,7 +2,7 @@ use Rattle.std.proofs.Common.{◌≡◌, ◌+◌, ◌<◌, ◌≤◌, ◌^◌, t
 use Rattle.std.specs.Prelude.{slice_get, slice_set}
 use Rattle.world.specs.State.{Session, HasWork}
 use Rattle.world_parts.specs.Owed.{owed_of, owed_by_all, bit}
-use Rattle.list_world.specs.Parts.{world_of, ArePromised}
+use Rattle.list_world.specs.Parts.{world_of, ArePromised, queue_of}
 use Rattle.world_parts.specs.Rooms.{working}
 use Rattle.list_world.proofs.Sound.{there_of, read_of, part_le, sound_set, promised_same, OpensNone}
 use Rattle.world_parts.proofs.Owing.{bit_le, same_txn, owes_begun}
@@ -19,10 +19,10 @@ add-requires c =
     let owed : c.can_begin-owed.result ≡ session.can_begin =
     c.can_begin-owed.ensures ∙ ap (λ (x : Session). x.can_begin)
     (read_of c.args.s session c.index.result.now c.self.view_is has.session_is c.index.ensures) in
-    let room : owed_by_all l.sessions.items + 3 ≤ c.take_room_unless.new.history.room + bit 3 session.can_begin =
-    rw (c.deref.ensures.value, owed) at c.in_ok-take_room_unless.ensures.ok in
-    let fits : owed_by_all l.sessions.items + 3 < 2 ^ 64 + bit 3 session.can_begin =
-    rw (c.deref.ensures.value, owed) at c.in_ok-take_room_unless.ensures.fits in
+    let room : owed_by_all l.sessions.items + length l.locks.waiting + 3 ≤ c.take_room_unless.new.history.room + bit 3 session.can_begin =
+    rw (c.deref.ensures.value, c.requests.ensures, owed) at c.in_ok-take_room_unless.ensures.ok in
+    let fits : owed_by_all l.sessions.items + length l.locks.waiting + 3 < 2 ^ 64 + bit 3 session.can_begin =
+    rw (c.deref.ensures.value, c.requests.ensures, owed) at c.in_ok-take_room_unless.ensures.fits in
     omega (arith, room, bit_le 3 session.can_begin, part_le owed_of l.sessions.items c.args.s session there, owes_begun session work has.work_is)
 
 pub invariant_of-self-2 : goal.invariant_of-self-2
@@ -36,16 +36,16 @@ invariant_of-self-2 c =
     let owed : c.can_begin-owed.result ≡ session.can_begin =
     c.can_begin-owed.ensures ∙ ap (λ (x : Session). x.can_begin)
     (read_of c.args.s session c.index.result.now c.self.view_is has.session_is c.index.ensures) in
-    let room : owed_by_all l.sessions.items + 3 ≤ c.take_room_unless.new.history.room + bit 3 session.can_begin =
-    rw (c.deref.ensures.value, owed) at c.in_ok-take_room_unless.ensures.ok in
-    let fits : owed_by_all l.sessions.items + 3 < 2 ^ 64 + bit 3 session.can_begin =
-    rw (c.deref.ensures.value, owed) at c.in_ok-take_room_unless.ensures.fits in
+    let room : owed_by_all l.sessions.items + length l.locks.waiting + 3 ≤ c.take_room_unless.new.history.room + bit 3 session.can_begin =
+    rw (c.deref.ensures.value, c.requests.ensures, owed) at c.in_ok-take_room_unless.ensures.ok in
+    let fits : owed_by_all l.sessions.items + length l.locks.waiting + 3 < 2 ^ 64 + bit 3 session.can_begin =
+    rw (c.deref.ensures.value, c.requests.ensures, owed) at c.in_ok-take_room_unless.ensures.fits in
     let opens : OpensNone session (working (λ w. record w { can_end = true }) (record session { can_begin = false })) = λ txn is. sym
     (same_txn session (λ w. record w { can_end = true }) (λ w. refl)) ∙ is in
     let slot : ArePromised l.slots (slice_set l.sessions.items c.args.s (working (λ w. record w { can_end = true }) (record session { can_begin = false })))
     = promised_same l.slots l.sessions.items c.args.s session (working (λ w. record w { can_end = true }) (record session { can_begin = false }))
     c.self.invariant.promised there refl refl in
-    rw (c.begun.ensures, here) (sound_set l.history.room l.rows (length l.schemas) (length l.indexes.items) l.slots l.txns.begun l.sessions.items c.args.s
+    rw (c.begun.ensures, here) (sound_set l.history.room l.rows (length l.schemas) (length l.indexes.items) l.slots l.txns.begun (queue_of l.locks.waiting l.fallen) l.sessions.items c.args.s
     session (working (λ w. record w { can_end = true }) (record session { can_begin = false }))
     c.add.new.self.room l.rows l.slots c.self.invariant there opens slot
     (omega (arith, owes_begun session work has.work_is, c.add.ensures.room, room)) (omega (arith, owes_begun session work has.work_is, fits))

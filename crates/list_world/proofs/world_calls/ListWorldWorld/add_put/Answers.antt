@@ -4,7 +4,7 @@ use Rattle.std.specs.Prelude.{slice_get, slice_set}
 use Rattle.std.proofs.Math.Facts.{Fits-of_lt}
 use Rattle.world.specs.State.{Session, HasWork}
 use Rattle.world_parts.specs.Owed.{owed_of, owed_by_all, puts_of, puts_of_all, bit}
-use Rattle.list_world.specs.Parts.{world_of, ArePromised}
+use Rattle.list_world.specs.Parts.{world_of, ArePromised, queue_of}
 use Rattle.world_parts.specs.Rooms.{working}
 use Rattle.list_world.proofs.Sound.{there_of, read_of, part_le, sound_set, promised_same, OpensNone}
 use Rattle.world_parts.proofs.Owing.{bit_le, same_txn, owes_changed, owes_count, puts_few, row_counts, row_fits}
@@ -21,10 +21,10 @@ changed-requires c =
     let owed : c.can_change-owed.result ≡ session.can_change =
     c.can_change-owed.ensures ∙ ap (λ (x : Session). x.can_change)
     (read_of c.args.s session c.index.result.now c.self.view_is has.session_is c.index.ensures) in
-    let room : owed_by_all l.sessions.items + 2 ≤ c.take_room_unless.new.history.room + bit 2 session.can_change =
-    rw (c.deref.ensures.value, owed) at c.in_ok-take_room_unless.ensures.ok in
-    let fits : owed_by_all l.sessions.items + 2 < 2 ^ 64 + bit 2 session.can_change =
-    rw (c.deref.ensures.value, owed) at c.in_ok-take_room_unless.ensures.fits in
+    let room : owed_by_all l.sessions.items + length l.locks.waiting + 2 ≤ c.take_room_unless.new.history.room + bit 2 session.can_change =
+    rw (c.deref.ensures.value, c.requests.ensures, owed) at c.in_ok-take_room_unless.ensures.ok in
+    let fits : owed_by_all l.sessions.items + length l.locks.waiting + 2 < 2 ^ 64 + bit 2 session.can_change =
+    rw (c.deref.ensures.value, c.requests.ensures, owed) at c.in_ok-take_room_unless.ensures.fits in
     rw (here, has.work_is) (omega (arith, fits, owes_count session work has.work_is, part_le owed_of l.sessions.items c.args.s session there))
 
 pub add-requires : goal.add-requires
@@ -38,10 +38,10 @@ add-requires c =
     let owed : c.can_change-owed.result ≡ session.can_change =
     c.can_change-owed.ensures ∙ ap (λ (x : Session). x.can_change)
     (read_of c.args.s session c.index.result.now c.self.view_is has.session_is c.index.ensures) in
-    let room : owed_by_all l.sessions.items + 2 ≤ c.take_room_unless.new.history.room + bit 2 session.can_change =
-    rw (c.deref.ensures.value, owed) at c.in_ok-take_room_unless.ensures.ok in
-    let fits : owed_by_all l.sessions.items + 2 < 2 ^ 64 + bit 2 session.can_change =
-    rw (c.deref.ensures.value, owed) at c.in_ok-take_room_unless.ensures.fits in
+    let room : owed_by_all l.sessions.items + length l.locks.waiting + 2 ≤ c.take_room_unless.new.history.room + bit 2 session.can_change =
+    rw (c.deref.ensures.value, c.requests.ensures, owed) at c.in_ok-take_room_unless.ensures.ok in
+    let fits : owed_by_all l.sessions.items + length l.locks.waiting + 2 < 2 ^ 64 + bit 2 session.can_change =
+    rw (c.deref.ensures.value, c.requests.ensures, owed) at c.in_ok-take_room_unless.ensures.fits in
     omega (arith, room, bit_le 2 session.can_change, owes_count session work has.work_is, part_le owed_of l.sessions.items c.args.s session there)
 
 pub invariant_of-self-2 : goal.invariant_of-self-2
@@ -55,17 +55,17 @@ invariant_of-self-2 c =
     let owed : c.can_change-owed.result ≡ session.can_change =
     c.can_change-owed.ensures ∙ ap (λ (x : Session). x.can_change)
     (read_of c.args.s session c.index.result.now c.self.view_is has.session_is c.index.ensures) in
-    let room : owed_by_all l.sessions.items + 2 ≤ c.take_room_unless.new.history.room + bit 2 session.can_change =
-    rw (c.deref.ensures.value, owed) at c.in_ok-take_room_unless.ensures.ok in
-    let fits : owed_by_all l.sessions.items + 2 < 2 ^ 64 + bit 2 session.can_change =
-    rw (c.deref.ensures.value, owed) at c.in_ok-take_room_unless.ensures.fits in
+    let room : owed_by_all l.sessions.items + length l.locks.waiting + 2 ≤ c.take_room_unless.new.history.room + bit 2 session.can_change =
+    rw (c.deref.ensures.value, c.requests.ensures, owed) at c.in_ok-take_room_unless.ensures.ok in
+    let fits : owed_by_all l.sessions.items + length l.locks.waiting + 2 < 2 ^ 64 + bit 2 session.can_change =
+    rw (c.deref.ensures.value, c.requests.ensures, owed) at c.in_ok-take_room_unless.ensures.fits in
     let few : l.rows < 2 ^ 63 + bit (2 ^ 63) session.can_change = rw owed at (c.may_count.ensures.few (c.if-not-may_count.false)) in
     let opens : OpensNone session (working (λ w. record w { own = w.own + 1 }) (record session { can_change = false })) = λ txn is. sym
     (same_txn session (λ w. record w { own = w.own + 1 }) (λ w. refl)) ∙ is in
     let slot : ArePromised l.slots (slice_set l.sessions.items c.args.s
     (working (λ w. record w { own = w.own + 1 }) (record session { can_change = false }))) = promised_same l.slots l.sessions.items c.args.s session
     (working (λ w. record w { own = w.own + 1 }) (record session { can_change = false })) c.self.invariant.promised there refl refl in
-    rw (c.changed.ensures, here) (sound_set l.history.room l.rows (length l.schemas) (length l.indexes.items) l.slots l.txns.begun l.sessions.items c.args.s
+    rw (c.changed.ensures, here) (sound_set l.history.room l.rows (length l.schemas) (length l.indexes.items) l.slots l.txns.begun (queue_of l.locks.waiting l.fallen) l.sessions.items c.args.s
     session (working (λ w. record w { own = w.own + 1 }) (record session { can_change = false }))
     c.add.new.self.room (l.rows + 1) l.slots c.self.invariant there opens slot
     (omega (arith, owes_changed session work has.work_is, c.add.ensures.room, room)) (omega (arith, owes_changed session work has.work_is, fits))
@@ -86,10 +86,10 @@ overflow_add-self c =
     let owed : c.can_change-owed.result ≡ session.can_change =
     c.can_change-owed.ensures ∙ ap (λ (x : Session). x.can_change)
     (read_of c.args.s session c.index.result.now c.self.view_is has.session_is c.index.ensures) in
-    let room : owed_by_all l.sessions.items + 2 ≤ c.take_room_unless.new.history.room + bit 2 session.can_change =
-    rw (c.deref.ensures.value, owed) at c.in_ok-take_room_unless.ensures.ok in
-    let fits : owed_by_all l.sessions.items + 2 < 2 ^ 64 + bit 2 session.can_change =
-    rw (c.deref.ensures.value, owed) at c.in_ok-take_room_unless.ensures.fits in
+    let room : owed_by_all l.sessions.items + length l.locks.waiting + 2 ≤ c.take_room_unless.new.history.room + bit 2 session.can_change =
+    rw (c.deref.ensures.value, c.requests.ensures, owed) at c.in_ok-take_room_unless.ensures.ok in
+    let fits : owed_by_all l.sessions.items + length l.locks.waiting + 2 < 2 ^ 64 + bit 2 session.can_change =
+    rw (c.deref.ensures.value, c.requests.ensures, owed) at c.in_ok-take_room_unless.ensures.fits in
     let few : l.rows < 2 ^ 63 + bit (2 ^ 63) session.can_change = rw owed at (c.may_count.ensures.few (c.if-not-may_count.false)) in
     Fits-of_lt (row_fits l.rows (puts_of_all l.sessions.items) session.can_change c.self.invariant.counted
     (part_le puts_of l.sessions.items c.args.s session there) few)

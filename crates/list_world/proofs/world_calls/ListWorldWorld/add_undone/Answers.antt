@@ -2,7 +2,7 @@ use Rattle.std.proofs.Common.{◌≡◌, ◌-◌, length, Some, refl, sym, ◌�
 use Rattle.std.specs.Prelude.{slice_get, slice_set}
 use Rattle.world.specs.State.{HasWork}
 use Rattle.world_parts.specs.Owed.{owed_of}
-use Rattle.list_world.specs.Parts.{world_of, ArePromised}
+use Rattle.list_world.specs.Parts.{world_of, ArePromised, queue_of}
 use Rattle.world_parts.specs.Rooms.{working}
 use Rattle.list_world.proofs.Sound.{there_of, read_of, part_le, sound_set, promised_same, OpensNone}
 use Rattle.world_parts.proofs.Owing.{same_txn, owes_undone, owes_own}
@@ -30,7 +30,7 @@ invariant_of-self c =
     (same_txn session (λ w. record w { own = w.own - 1 }) (λ w. refl)) ∙ is in
     let slot : ArePromised l.slots (slice_set l.sessions.items c.args.s (working (λ w. record w { own = w.own - 1 }) session)) = promised_same l.slots
     l.sessions.items c.args.s session (working (λ w. record w { own = w.own - 1 }) session) c.self.invariant.promised there refl refl in
-    rw (c.undone.ensures, here) (sound_set l.history.room l.rows (length l.schemas) (length l.indexes.items) l.slots l.txns.begun l.sessions.items c.args.s
+    rw (c.undone.ensures, here) (sound_set l.history.room l.rows (length l.schemas) (length l.indexes.items) l.slots l.txns.begun (queue_of l.locks.waiting l.fallen) l.sessions.items c.args.s
     session (working (λ w. record w { own = w.own - 1 }) session)
     c.add.new.self.room l.rows l.slots c.self.invariant there opens slot
     (omega (arith, owes_undone session work has.work_is c.requires.3, c.add.ensures.room, c.self.invariant.enough))

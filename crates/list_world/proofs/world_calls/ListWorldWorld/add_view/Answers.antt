@@ -2,7 +2,7 @@ use Rattle.std.proofs.Common.{◌≡◌, ◌+◌, ◌<◌, ◌≤◌, ◌^◌, l
 use Rattle.std.specs.Prelude.{slice_get, slice_set}
 use Rattle.world.specs.State.{HasWork}
 use Rattle.world_parts.specs.Owed.{owed_by_all}
-use Rattle.list_world.specs.Parts.{world_of, ArePromised}
+use Rattle.list_world.specs.Parts.{world_of, ArePromised, queue_of}
 use Rattle.world_parts.specs.Rooms.{working}
 use Rattle.list_world.proofs.Sound.{there_of, read_of, sound_set, promised_same, OpensNone}
 use Rattle.world_parts.proofs.Owing.{same_txn, same_owed}
@@ -16,8 +16,8 @@ invariant_of-self-2 c =
     let has : HasWork c.args.s session work (world_of c.args.self.now) = c.requires.2 in
     let there : slice_get l.sessions.items c.args.s ≡ Some session = there_of c.args.s session c.self.view_is has.session_is in
     let here : c.index_mut.result.now ≡ session = read_of c.args.s session c.index_mut.result.now c.self.view_is has.session_is c.index_mut.ensures.value in
-    let room : owed_by_all l.sessions.items + 1 ≤ c.take_room.new.history.room = rw c.deref.ensures.value at c.in_ok-take_room.ensures.ok in
-    let fits : owed_by_all l.sessions.items + 1 < 2 ^ 64 = rw c.deref.ensures.value at c.in_ok-take_room.ensures.fits in
+    let room : owed_by_all l.sessions.items + length l.locks.waiting + 1 ≤ c.take_room.new.history.room = rw (c.deref.ensures.value, c.requests.ensures) at c.in_ok-take_room.ensures.ok in
+    let fits : owed_by_all l.sessions.items + length l.locks.waiting + 1 < 2 ^ 64 = rw (c.deref.ensures.value, c.requests.ensures) at c.in_ok-take_room.ensures.fits in
     let opens : OpensNone session (working (λ w. record w { view = Some (record { active = c.args.active.now; next = c.args.next }) }) session) = λ txn is.
     sym (same_txn session (λ w. record w { view = Some (record { active = c.args.active.now; next = c.args.next }) }) (λ w. refl)) ∙ is in
     let slot : ArePromised l.slots (slice_set l.sessions.items c.args.s
@@ -26,7 +26,7 @@ invariant_of-self-2 c =
     c.self.invariant.promised there refl refl in
     let owes = same_owed session.work (λ w. record w { view = Some (record { active = c.args.active.now; next = c.args.next }) }) (λ w. (refl, refl)) in
     rw (c.keep_view.ensures, here, c.in_ok-active.ensures)
-    (sound_set l.history.room l.rows (length l.schemas) (length l.indexes.items) l.slots l.txns.begun l.sessions.items c.args.s session
+    (sound_set l.history.room l.rows (length l.schemas) (length l.indexes.items) l.slots l.txns.begun (queue_of l.locks.waiting l.fallen) l.sessions.items c.args.s session
     (working (λ w. record w { view = Some (record { active = c.args.active.now; next = c.args.next }) }) session)
     c.add.new.self.room l.rows l.slots c.self.invariant there opens slot
     (omega (arith, owes, c.add.ensures.room, room)) (omega (arith, owes, fits)) (omega (arith, c.self.invariant.counted)))

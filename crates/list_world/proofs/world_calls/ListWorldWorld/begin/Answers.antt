@@ -1,6 +1,7 @@
 use Rattle.std.proofs.Common.{◌≡◌, ◌+◌, length, Some, refl, arith}
 use Rattle.std.specs.Prelude.{slice_get}
 use Rattle.world.specs.State.{Session}
+use Rattle.list_world.specs.Parts.{queue_of}
 use Rattle.list_world.proofs.Sound.{there_of, read_of, sound_begun, promised_same}
 use Rattle.sql_history.specs.Settings.{at_begin}
 use Rattle.world.specs.Sessions.{fresh_work}
@@ -15,7 +16,7 @@ invariant_of-self-2 c =
     read_of c.args.s session c.index_mut.result.now c.self.view_is c.requires.closed.1 c.index_mut.ensures.value in
     rw (c.begin-2.ensures, here, c.in_ok-txn.ensures.ok, c.in_ok-txn.ensures.number)
     (let new : Session = record session { setting = at_begin session.setting; work = Some (fresh_work (l.txns.begun + 1) c.args.level) } in
-    sound_begun l.history.room l.rows (length l.schemas) (length l.indexes.items) l.slots l.txns.begun l.sessions.items c.args.s session new c.self.invariant
+    sound_begun l.history.room l.rows (length l.schemas) (length l.indexes.items) l.slots l.txns.begun (queue_of l.locks.waiting l.fallen) l.sessions.items c.args.s session new c.self.invariant
     there refl
     (promised_same l.slots l.sessions.items c.args.s session new c.self.invariant.promised there refl refl) (omega (arith)) refl)
 

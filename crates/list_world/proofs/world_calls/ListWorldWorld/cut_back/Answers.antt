@@ -1,7 +1,7 @@
 use Rattle.std.proofs.Common.{◌≡◌, length, Some, refl, ap, sym, ◌∙◌, arith}
 use Rattle.std.specs.Prelude.{slice_get}
 use Rattle.world.specs.State.{Session, Work, HasWork}
-use Rattle.list_world.specs.Parts.{world_of}
+use Rattle.list_world.specs.Parts.{world_of, queue_of}
 use Rattle.world_parts.specs.Rooms.{working}
 use Rattle.list_world.proofs.Sound.{there_of, read_of, sound_quiet, promised_spent}
 use Rattle.world_parts.proofs.Owing.{same_txn, same_owed}
@@ -18,7 +18,7 @@ invariant_of-self c =
     let here : c.index_mut.result.now ≡ session = read_of c.args.slot session c.index_mut.result.now c.self.view_is has.session_is c.index_mut.ensures.value in
     let cut : Work → Work = λ w. record w { log = older w.log } in
     let new : Session = working cut (record session { undo_room = 0 }) in
-    rw (c.cut_back.ensures, here) (sound_quiet l.history.room l.rows (length l.schemas) (length l.indexes.items) l.slots l.txns.begun l.sessions.items
+    rw (c.cut_back.ensures, here) (sound_quiet l.history.room l.rows (length l.schemas) (length l.indexes.items) l.slots l.txns.begun (queue_of l.locks.waiting l.fallen) l.sessions.items
     c.args.slot session new l.slots c.self.invariant there
     (λ txn is. sym (same_txn session cut (λ w. refl)) ∙ is)
     (promised_spent l.slots l.sessions.items c.args.slot session new c.self.invariant.promised there refl)

@@ -2,7 +2,7 @@ use Rattle.std.proofs.Common.{◌≡◌, ◌+◌, ◌<◌, ◌≤◌, ◌^◌, t
 use Rattle.std.specs.Prelude.{slice_get}
 use Rattle.world.specs.State.{Session}
 use Rattle.world_parts.specs.Owed.{owed_by_all}
-use Rattle.list_world.specs.Parts.{Parts}
+use Rattle.list_world.specs.Parts.{Parts, queue_of}
 use Rattle.list_world.proofs.Sound.{read_of, sound_set, promised_same}
 use Rattle.world_parts.proofs.Owing.{bit_le, puts_few}
 use Rattle.std.proofs.lemmas.Option.{slice_get_read}
@@ -15,10 +15,10 @@ invariant_of-self-2 c =
     let there : slice_get l.sessions.items c.args.s ≡ Some session =
     slice_get_read l.sessions.items (length l.sessions.items) c.args.s session refl
     (omega (arith, c.requires, ap (λ (p : Parts). length p.sessions) c.self.view_is)) c.index_mut.ensures.value in
-    let room : owed_by_all l.sessions.items + 5 ≤ c.take_room.new.history.room = rw c.deref.ensures.value at c.in_ok-take_room.ensures.ok in
-    let fits : owed_by_all l.sessions.items + 5 < 2 ^ 64 = rw c.deref.ensures.value at c.in_ok-take_room.ensures.fits in
+    let room : owed_by_all l.sessions.items + length l.locks.waiting + 5 ≤ c.take_room.new.history.room = rw (c.deref.ensures.value, c.requests.ensures) at c.in_ok-take_room.ensures.ok in
+    let fits : owed_by_all l.sessions.items + length l.locks.waiting + 5 < 2 ^ 64 = rw (c.deref.ensures.value, c.requests.ensures) at c.in_ok-take_room.ensures.fits in
     let new : Session = record session { can_begin = true; can_change = true } in
-    rw c.let_begin_and_change.ensures (sound_set l.history.room l.rows (length l.schemas) (length l.indexes.items) l.slots l.txns.begun l.sessions.items
+    rw c.let_begin_and_change.ensures (sound_set l.history.room l.rows (length l.schemas) (length l.indexes.items) l.slots l.txns.begun (queue_of l.locks.waiting l.fallen) l.sessions.items
     c.args.s session new
     c.take_room.new.history.room l.rows l.slots c.self.invariant there (λ txn is. is)
     (promised_same l.slots l.sessions.items c.args.s session new c.self.invariant.promised there refl refl)

@@ -1,5 +1,6 @@
 use Rattle.std.proofs.Common.{◌≡◌, true, false, length, refl, ap, sym, ◌∙◌, arith}
 use Rattle.world.specs.State.{Session}
+use Rattle.list_world.specs.Parts.{queue_of}
 use Rattle.list_world.proofs.Sound.{there_of, sound_quiet, promised_same}
 use Rattle.sql_history.specs.Settings.{back_to, made_at}
 use Rattle.world_parts.specs.Holding.{Holds, NoneHolds}
@@ -45,7 +46,7 @@ invariant_of-self c =
     let session = holds.session in
     let here : c.index_mut.result.now ≡ session = element l.sessions.items c.in_ok-s.s session c.index_mut.result.now holds.there c.index_mut.ensures.value in
     let new : Session = record session { setting = record session.setting { saves = back_to c.args.name.now session.setting.saves } } in
-    rw (c.back_to.ensures, here) (sound_quiet l.history.room l.rows (length l.schemas) (length l.indexes.items) l.slots l.txns.begun l.sessions.items
+    rw (c.back_to.ensures, here) (sound_quiet l.history.room l.rows (length l.schemas) (length l.indexes.items) l.slots l.txns.begun (queue_of l.locks.waiting l.fallen) l.sessions.items
     c.in_ok-s.s session new l.slots c.self.invariant holds.there (λ txn is. is)
     (promised_same l.slots l.sessions.items c.in_ok-s.s session new c.self.invariant.promised holds.there refl refl) (omega arith) refl)
 

@@ -1,5 +1,6 @@
 use Rattle.std.proofs.Common.{◌≡◌, length, refl, sym, ◌∙◌, arith}
 use Rattle.world.specs.State.{Session}
+use Rattle.list_world.specs.Parts.{queue_of}
 use Rattle.list_world.proofs.Sound.{sound_quiet, promised_same}
 use Rattle.world_parts.proofs.Owing.{same_owed_id, same_txn_id}
 use Rattle.world.specs.Sessions.{work_with_id}
@@ -16,7 +17,7 @@ invariant_of-self c =
     let here : c.index_mut.result.now ≡ session = element l.sessions.items c.in-Some.s session c.index_mut.result.now holds.there c.index_mut.ensures.value in
     let new : Session = record session { work = work_with_id l.txns.next session.work } in
     rw (c.set_id.ensures, here, c.give_id-id.ensures.id, c.give_id-id.ensures.given)
-    (sound_quiet l.history.room l.rows (length l.schemas) (length l.indexes.items) l.slots l.txns.begun l.sessions.items c.in-Some.s session new l.slots
+    (sound_quiet l.history.room l.rows (length l.schemas) (length l.indexes.items) l.slots l.txns.begun (queue_of l.locks.waiting l.fallen) l.sessions.items c.in-Some.s session new l.slots
     c.self.invariant holds.there (λ txn is. sym (same_txn_id session.work l.txns.next) ∙ is)
     (promised_same l.slots l.sessions.items c.in-Some.s session new c.self.invariant.promised holds.there refl refl)
     (omega (arith, same_owed_id session.work l.txns.next)) refl)

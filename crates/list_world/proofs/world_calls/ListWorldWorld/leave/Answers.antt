@@ -26,6 +26,8 @@ returns c =
       txns =
           l.txns;
       sessions = l.sessions.items;
+      locks = l.locks;
+      fallen = l.fallen.items;
     } in
     rw (← c.self.view_is) (calls_one parts c.args.index c.index_mut-list.result.now c.leave.new.self (Leaves c.args.actor) there
     (left c.args.actor c.index_mut-list.result.now c.tidy.new.self c.leave.new.self c.tidy.result c.tidy.ensures.answer c.leave.ensures.answer)

@@ -1,11 +1,12 @@
-use Rattle.std.proofs.Common.{◌≡◌, length, Some, None, refl, arith}
-use Rattle.std.specs.Prelude.{slice_get}
+use Rattle.std.proofs.Common.{◌≡◌, length, Some, None, refl, arith, ℕ, ◌≤◌}
+use Rattle.std.specs.Prelude.{◌==◌, not, slice_get, slice_set}
 use Rattle.sql_history.specs.Settings.{at_end}
 use Rattle.world.specs.State.{Session, Work, HasWork}
 use Rattle.world_parts.specs.Owed.{owed_of}
 use Rattle.world_parts.proofs.Owing.{owes_rolled_back, owes_end}
-use Rattle.list_world.specs.Parts.{world_of}
-use Rattle.list_world.proofs.Sound.{there_of, read_of, part_le, sound_set, promised_same}
+use Rattle.list_world.specs.Parts.{world_of, queue_of}
+use Rattle.list_world.proofs.Requests.{part_short, ended_short}
+use Rattle.list_world.proofs.Sound.{there_of, read_of, part_le, sound_set, sound_fewer, promised_same}
 use Rattle.list_world.proofs.Results.{is_there, is_number}
 use Rattle.list_world.proofs.world_calls.ListWorldWorld.roll_back.Goals as goal
 
@@ -35,11 +36,19 @@ invariant_of-self c =
     let there : slice_get l.sessions.items c.args.s ≡ Some session = there_of c.args.s session c.self.view_is has.session_is in
     let here : c.index_mut.result.now ≡ session = read_of c.args.s session c.index_mut.result.now c.self.view_is has.session_is c.index_mut.ensures.value in
     let new : Session = record session { setting = at_end session.setting; work = None } in
-    rw (c.end.ensures.ended, here, c.end-2.ensures) (sound_set l.history.room l.rows (length l.schemas) (length l.indexes.items) l.slots l.txns.begun
+    let whole =
+    sound_set l.history.room l.rows (length l.schemas) (length l.indexes.items) l.slots l.txns.begun (queue_of l.locks.waiting l.fallen)
     l.sessions.items c.args.s session new c.add.new.self.room l.rows l.slots c.self.invariant there (λ txn is. absurd (cc))
     (promised_same l.slots l.sessions.items c.args.s session new c.self.invariant.promised there refl refl)
     (omega (arith, owes_rolled_back session work has.work_is c.requires.3, c.add.ensures.room, c.self.invariant.enough))
-    (omega (arith, owes_rolled_back session work has.work_is c.requires.3, c.self.invariant.small)) (omega (arith, c.self.invariant.counted)))
+    (omega (arith, owes_rolled_back session work has.work_is c.requires.3, c.self.invariant.small)) (omega (arith, c.self.invariant.counted)) in
+    let requests : length c.give_back.new.locks.waiting ≤ length l.locks.waiting =
+    rw c.give_back.ensures.locks (ended_short c.in-Some.txn l.locks.granted l.locks.waiting) in
+    let fallen : length c.give_back.new.fallen.items ≤ length l.fallen.items =
+    rw c.give_back.ensures.items (part_short (λ (other : ℕ). not (other == c.in-Some.txn)) l.fallen.items) in
+    rw (c.end.ensures.ended, here, c.end-2.ensures) (sound_fewer c.add.new.self.room l.rows (length l.schemas) (length l.indexes.items) l.slots l.txns.begun
+    (queue_of l.locks.waiting l.fallen) (slice_set l.sessions.items c.args.s new) (queue_of c.give_back.new.locks.waiting c.give_back.new.fallen) whole
+    requests fallen (omega (arith, c.give_back.ensures.room)))
 
 pub returns : goal.returns
 returns c =
@@ -53,6 +62,6 @@ returns c =
       session = session;
       work = work;
       has_work = has;
-      rest = rw (← c.self.view_is, c.end.ensures.ended, here, c.end-2.ensures, txn, c.add.ensures.past, c.add.ensures.names) refl;
+      rest = rw (← c.self.view_is, c.end.ensures.ended, here, c.end-2.ensures, c.give_back.ensures.locks, c.give_back.ensures.items, txn, c.add.ensures.past, c.add.ensures.names) refl;
       later = tt;
     }

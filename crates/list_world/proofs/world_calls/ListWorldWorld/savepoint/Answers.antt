@@ -1,6 +1,7 @@
 use Rattle.std.proofs.lemmas.Grind.{common_steps}
 use Rattle.std.proofs.Common.{◌≡◌, true, length, refl, arith}
 use Rattle.world.specs.State.{Session}
+use Rattle.list_world.specs.Parts.{queue_of}
 use Rattle.list_world.proofs.Sound.{sound_quiet, promised_same}
 use Rattle.sql_history.specs.Settings.{saved}
 use Rattle.world_parts.specs.Holding.{Holds, NoneHolds}
@@ -18,7 +19,7 @@ invariant_of-self-in-Some c =
     let new : Session = record session { setting = record session.setting { saves = saved c.args.name.now c.args.own true session.setting.saves } } in
     either_way c.save.result c.save.ensures.ok c.save.ensures.err
     (λ ok. rw (ok, here, c.in_ok-copied-in-Some.ensures)
-    (sound_quiet l.history.room l.rows (length l.schemas) (length l.indexes.items) l.slots l.txns.begun l.sessions.items c.in-Some.s session new l.slots
+    (sound_quiet l.history.room l.rows (length l.schemas) (length l.indexes.items) l.slots l.txns.begun (queue_of l.locks.waiting l.fallen) l.sessions.items c.in-Some.s session new l.slots
     c.self.invariant holds.there (λ txn is. is)
     (promised_same l.slots l.sessions.items c.in-Some.s session new c.self.invariant.promised holds.there refl refl) (omega arith) refl))
     (λ err. rw (err, set_same l.sessions.items c.in-Some.s c.index_mut.result.now c.index_mut.ensures.value) c.self.invariant)

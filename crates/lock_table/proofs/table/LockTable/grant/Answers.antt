@@ -10,4 +10,6 @@ invariant_of-self-2 c =
     let items = c.push_reserved.ensures.items ∙ ap (λ ws. ws ++ c.args.asked ∷ []) c.reserve.ensures.items in (
       subst (λ ws. AreSound ws c.self.inside.waiting.items) (sym items) (sound_granted _ _ c.self.invariant.0 c.args.asked c.requires.fits free),
       omega (arith, ap length c.push_reserved.ensures.items, length-append c.reserve.new.self.items (c.args.asked ∷ []), c.in_ok-reserve.ensures.ok, c.push_reserved.ensures.capacity, c.len.ensures, c.self.inside.waiting.ok.0, c.reserve.new.self.ok.0),
+      c.self.invariant.2,
+      c.self.invariant.3,
     )

@@ -1,0 +1,14 @@
+use Rattle.std.proofs.Common.{◌≤◌, length, [], arith}
+use Rattle.list_world.specs.Parts.{queue_of}
+use Rattle.list_world.proofs.Sound.{sound_fewer}
+use Rattle.lock_table.specs.Queue.{without_lock}
+use Rattle.list_world.proofs.Requests.{served_short}
+use Rattle.list_world.proofs.lock_calls.ListWorldLockWorld.release_one.Goals as goal
+
+pub invariant_of-self : goal.invariant_of-self
+invariant_of-self c =
+    let l = c.self.inside in
+    let requests : length c.release_one.new.self.waiting ≤ length l.locks.waiting =
+    rw c.release_one.ensures (omega (arith, served_short (without_lock c.args.lock.now l.locks.granted) [] l.locks.waiting)) in
+    sound_fewer l.history.room l.rows (length l.schemas) (length l.indexes.items) l.slots l.txns.begun (queue_of l.locks.waiting l.fallen) l.sessions.items
+    (queue_of c.release_one.new.self.waiting l.fallen) c.self.invariant requests (omega arith) (omega arith)
