@@ -89,7 +89,7 @@ fn outcome_by<L: SharedLists>(
     let _ = session;
     plain_on_rows(
         alloc,
-        lists.lists().schemas(),
+        lists.schemas(),
         found.table,
         &found.rows,
         found.stmt.get(),

@@ -157,14 +157,14 @@ fn newest_outcome<L: SharedLists>(
     ensures { IfOk result (λ outcome. IsSeen lists.now.past session stmt.now outcome.reply) }
 {
     let _writer = only_writer(session, lists);
-    plain_on_rows(alloc, lists.lists().schemas(), read.table, &read.rows, stmt)
+    plain_on_rows(alloc, lists.schemas(), read.table, &read.rows, stmt)
 }
 
 /// The session that alone may have changes.
 fn only_writer<L: SharedLists>(session: u32, lists: &SqlLists<L>) -> u32
     ensures { (other : ℕ) → other ≢ result → own other lists.now.past ≡ [] }
 {
-    match lists.lists().writer() {
+    match lists.writer() {
         Some(writer) => writer,
         None => session,
     }

@@ -84,7 +84,7 @@ impl ReadStatement {
             level,
         };
         // that the session's tables are all that were made follows from what the lists say of their history
-        let _ = lists.lists();
+        let _ = lists.history();
         let _ = session;
         ReadStatement::Opening(asked)
     }

@@ -34,7 +34,7 @@ pub fn step_opening<L: SharedLists>(
         autocommit,
         level,
     } = asked;
-    if lists.lists().level(session).is_some() {
+    if lists.level(session).is_some() {
         let alone = false;
         return (ReadStatement::Open { stmt, alone }, Advance::Went);
     }
@@ -66,10 +66,10 @@ pub fn step_open<L: SharedLists>(
     ensures steps { Steps IsRunning session lists.old lists.new result.0 result.1 }
     ensures nears { Nears to_go session lists.old (ReadStatement.Open stmt alone) lists.new result.0 result.1 }
 {
-    match lists.lists().level(session) {
+    match lists.level(session) {
         Some(Level::ReadCommitted) => view_first(stmt, alone, session, lists),
         Some(Level::RepeatableRead) => {
-            if lists.lists().has_view(session) {
+            if lists.has_view(session) {
                 return (ReadStatement::Viewed { stmt, alone }, Advance::Went);
             }
             view_first(stmt, alone, session, lists)

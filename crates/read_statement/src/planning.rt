@@ -37,7 +37,7 @@ pub fn plan_search<L: SharedLists>(
     requires plain { is_plain_select stmt.now ≡ true }
     ensures { IfOk result (λ planned. IsPlanned (created lists.now.past) stmt.now planned.table planned.plan) }
 {
-    plan_among(alloc, lists.lists().schemas(), stmt)
+    plan_among(alloc, lists.schemas(), stmt)
 }
 
 /// The search of a SELECT among these tables. Its table is there, or else the statement was refused before; and so are its
@@ -73,23 +73,14 @@ fn plan_on(alloc: Global, schema: &Schema, stmt: &Stmt) -> Result<Plan, NoMemory
     ensures chosen { IfOk result (IsChosen schema.now stmt.now) }
     ensures which { IfOk result (λ plan. plan.which ≤ length schema.now.keys) }
 {
-    match stmt {
-        Stmt::Select {
-            filter: Some(condition),
-            ..
-        } => choose(alloc, schema, condition),
-        Stmt::Select { filter: None, .. }
-        | Stmt::CreateTable { .. }
-        | Stmt::Insert { .. }
-        | Stmt::Update { .. }
-        | Stmt::Delete { .. }
-        | Stmt::Begin { .. }
-        | Stmt::Commit
-        | Stmt::Rollback
-        | Stmt::RollbackTo { .. }
-        | Stmt::Savepoint { .. }
-        | Stmt::SetAutocommit(_)
-        | Stmt::SetLevel { .. } => Ok(Plan::whole()),
+    if let Stmt::Select {
+        filter: Some(condition),
+        ..
+    } = stmt
+    {
+        choose(alloc, schema, condition)
+    } else {
+        Ok(Plan::whole())
     }
 }
 

@@ -1,10 +1,9 @@
 -- What is known where a statement begins, or is refused at once.
 use Rattle.std.specs.Prelude.{◌⊎◌}
-use Rattle.std.proofs.Common.{◌≡◌, ◌≢◌, ℕ, Bool, true, false, Option, Some, None, List, [], ◌∷◌, refl, sym, ap, subst, ◌∙◌, inl, inr}
+use Rattle.std.proofs.Common.{◌≡◌, ◌≢◌, ℕ, true, false, Option, Some, None, List, [], ◌∷◌, refl, sym, ap, subst, ◌∙◌, inl, inr}
 use Rattle.std.proofs.lemmas.Bool.Decides.{eqb_tells}
 use Rattle.std.proofs.lemmas.Bool.{false≢true}
 use Rattle.inno_types.specs.declared.stmt.Stmt.{Stmt}
-use Rattle.inno_types.specs.declared.lock.Level.{Level}
 use Rattle.inno_types.specs.declared.reply.Item.TheVariants.{Sql}
 use Rattle.inno_types.specs.declared.reply.SqlError.{SqlError}
 use Rattle.inno_types.specs.declared.reply.Reply.TheVariants as replies
@@ -25,6 +24,7 @@ use Rattle.sql_history.specs.Statements.{session_refusal, refused_at_once, first
 use Rattle.sql_lists.specs.Kept.{MayReply}
 use Rattle.giving_up.proofs.Nothing.{set_before, own_nothing, own_now, over_nothing}
 use Rattle.read_statement.specs.Running.{IsTakenWith}
+use Rattle.statement.specs.declared.under_way.Ready.{Ready}
 use Rattle.statement.specs.declared.under_way.Look.TheVariants as looks
 use Rattle.statement.specs.Running.{HasOnlyStarted, LooksAs}
 
@@ -50,8 +50,8 @@ module _ (s : ℕ) (text : List ℕ) (stmt : Stmt) (h : List Event) (only : HasO
   set_at_start x held = set_before s h x only.nothing held
 
   -- nothing refuses it
-  pub taken_with : (autocommit : Bool) (level : Level) → LooksAs s stmt h (looks.Ready autocommit level) → IsTakenWith autocommit level s stmt h
-  taken_with autocommit level ready =
+  pub taken_with : (found : Ready) → LooksAs s stmt h (looks.Ready found) → IsTakenWith found.autocommit found.level s stmt h
+  taken_with found ready =
       record {
         taken = record {
           takes =

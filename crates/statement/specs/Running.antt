@@ -13,7 +13,7 @@ use Rattle.sql_lists.specs.declared.advance.Advance.TheVariants as advances
 use Rattle.shared_lists.specs.Tasks.{Idle}
 use Rattle.shared_lists.specs.State.{State, task_of}
 use Rattle.sql_lists.specs.Steps.{HasRowsAlone}
-use Rattle.transaction_statements.specs.Committing.{IsOnTransactions}
+use Rattle.transaction_statements.specs.Committing.{asked_by}
 use Rattle.transaction_statements.specs.Running as of_transaction
 use Rattle.create_statement.specs.Running as of_create
 use Rattle.read_statement.specs.Running as of_read
@@ -78,14 +78,14 @@ abbrev pub IsOfKind : Kind → Stmt → Type 0
 IsOfKind kinds.Create stmt = IsCreation stmt
 IsOfKind kinds.Read stmt = is_select stmt ≡ true
 IsOfKind kinds.Write stmt = IsWriting stmt
-IsOfKind kinds.Transaction stmt = IsOnTransactions stmt
+IsOfKind (kinds.Transaction command) stmt = stmt ≡ asked_by command
 
 -- what is found of a statement before it begins, by what its session has set
 abbrev pub LooksAs : ℕ → Stmt → List Event → Look → Type 0
 LooksAs s stmt past (looks.Refused error) = (setting : Setting) × HasSet Spells s past setting × (refused_at_once s setting stmt past ≡ Some error)
-LooksAs s stmt past (looks.Ready autocommit level) =
-    (setting : Setting) × HasSet Spells s past setting × (refused_at_once s setting stmt past ≡ None) × (setting.autocommit ≡ autocommit) ×
-    (next_level setting ≡ level)
+LooksAs s stmt past (looks.Ready ready) =
+    (setting : Setting) × HasSet Spells s past setting × (refused_at_once s setting stmt past ≡ None) × (setting.autocommit ≡ ready.autocommit) ×
+    (next_level setting ≡ ready.level) × IsOfKind ready.kind stmt
 
 -- the machine of its kind is at work
 abbrev pub IsBegun : Statement → Type 0

@@ -21,7 +21,7 @@ use sql_lists::{Advance, SqlLists};
 use sql_refusals::refuse;
 use std::alloc::{AllocError, Global};
 use std::mem;
-use transaction_statements::TransactionStatement;
+use transaction_statements::{Command, TransactionStatement};
 use write_statement::WriteStatement;
 
 /// A statement under way.
@@ -207,10 +207,7 @@ fn first_step<L: SharedLists>(
 {
     match examine(alloc, stmt.get(), session, lists) {
         Ok(Look::Refused(error)) => refuse_at_once(error, stmt, session, lists),
-        Ok(Look::Ready { autocommit, level }) => (
-            begin(stmt, autocommit, level, session, lists),
-            Advance::Went,
-        ),
+        Ok(Look::Ready(ready)) => (begin(stmt, ready, session, lists), Advance::Went),
         Err(_) => {
             drop(stmt);
             (Statement::Failed, Advance::NoMemory)
@@ -218,11 +215,28 @@ fn first_step<L: SharedLists>(
     }
 }
 
-/// What is found before a statement begins: a refusal, or what its session has set.
+/// What is found before a statement begins.
 #[derive(Drop)]
 pub enum Look {
     Refused(SqlError),
-    Ready { autocommit: bool, level: Level },
+    Ready(Ready),
+}
+
+/// Nothing refuses a statement at once: of which kind it is, and what its session has set.
+#[derive(Drop)]
+pub struct Ready {
+    pub kind: Kind,
+    pub autocommit: bool,
+    pub level: Level,
+}
+
+/// The kinds of statements: the machines that run them. The tree of one on transactions is small, and is read at once.
+#[derive(Drop)]
+pub enum Kind {
+    Create,
+    Read,
+    Write,
+    Transaction(Command),
 }
 
 /// What refuses a statement before it sees a row: what its session has open and has kept, and then its text and the
@@ -237,17 +251,18 @@ fn examine<L: SharedLists>(
     ensures { IfOk result (LooksAs session stmt.now lists.now.past) }
 {
     let setting = lists.setting(session);
-    let level = lists.lists().level(session);
+    let level = lists.level(session);
     if let Some(error) = session_refusal(session, level, setting, stmt) {
         return Ok(Look::Refused(error));
     }
-    if let Some(error) = refuse(alloc, lists.lists().schemas(), stmt)? {
+    if let Some(error) = refuse(alloc, lists.schemas(), stmt)? {
         return Ok(Look::Refused(error));
     }
-    Ok(Look::Ready {
+    Ok(Look::Ready(Ready {
+        kind: kind_of(stmt)?,
         autocommit: setting.autocommit(),
         level: setting.next_level(),
-    })
+    }))
 }
 
 /// 1568 or 1305 by what the session has open and has kept. CREATE TABLE is for the setup part alone, and a SELECT that
@@ -334,54 +349,58 @@ fn refuse_at_once<L: SharedLists>(
     }
 }
 
-/// The kinds of statements.
-#[derive(Clone, Copy)]
-pub enum Kind {
-    Create,
-    Read,
-    Write,
-    Transaction,
-}
-
-fn kind_of(stmt: &Stmt) -> Kind
-    ensures { IsOfKind result stmt.now }
+fn kind_of(stmt: &Stmt) -> Result<Kind, AllocError>
+    ensures { IfOk result (λ kind. IsOfKind kind stmt.now) }
 {
-    match stmt {
-        Stmt::CreateTable { .. } => Kind::Create,
-        Stmt::Select { .. } => Kind::Read,
-        Stmt::Insert { .. } | Stmt::Update { .. } | Stmt::Delete { .. } => Kind::Write,
-        Stmt::Begin { .. }
-        | Stmt::Commit
-        | Stmt::Rollback
-        | Stmt::RollbackTo { .. }
-        | Stmt::Savepoint { .. }
-        | Stmt::SetAutocommit(_)
-        | Stmt::SetLevel { .. } => Kind::Transaction,
-    }
+    let command = match stmt {
+        Stmt::CreateTable { .. } => return Ok(Kind::Create),
+        Stmt::Select { .. } => return Ok(Kind::Read),
+        Stmt::Insert { .. } | Stmt::Update { .. } | Stmt::Delete { .. } => return Ok(Kind::Write),
+        Stmt::Begin { snapshot } => Command::Begin {
+            snapshot: *snapshot,
+        },
+        Stmt::Commit => Command::Commit,
+        Stmt::Rollback => Command::Rollback,
+        Stmt::RollbackTo { savepoint } => Command::RollbackTo {
+            savepoint: savepoint.copied()?,
+        },
+        Stmt::Savepoint { name } => Command::Savepoint {
+            name: name.copied()?,
+        },
+        Stmt::SetAutocommit(on) => Command::SetAutocommit(*on),
+        Stmt::SetLevel { scope, level } => Command::SetLevel {
+            scope: *scope,
+            level: *level,
+        },
+    };
+    Ok(Kind::Transaction(command))
 }
 
 /// Nothing refuses the statement at once: it begins.
 fn begin<L: SharedLists>(
     stmt: Boxed<Stmt>,
-    autocommit: bool,
-    level: Level,
+    ready: Ready,
     session: u32,
     lists: &SqlLists<L>,
 ) -> Statement
     requires joined { session < length lists.now.names }
     requires running { IsRunning lists.now session (Statement.Asked stmt) }
-    requires ready { LooksAs session stmt lists.now.past (Look.Ready autocommit level) }
+    requires ready { LooksAs session stmt lists.now.past (Look.Ready ready) }
     ensures running { IsRunning lists.now session result }
     ensures begun { IsBegun result }
 {
-    match kind_of(stmt.get()) {
+    let Ready {
+        kind,
+        autocommit,
+        level,
+    } = ready;
+    match kind {
         Kind::Create => Statement::Create(CreateStatement::new(stmt, session, lists)),
         Kind::Read => Statement::Read(ReadStatement::new(stmt, autocommit, level, session, lists)),
         Kind::Write => Statement::Write(WriteStatement::new(stmt, session, lists)),
-        Kind::Transaction => Statement::Transaction(TransactionStatement::new(
-            stmt.into_value(),
-            session,
-            lists,
-        )),
+        Kind::Transaction(command) => {
+            drop(stmt);
+            Statement::Transaction(TransactionStatement::new(command, session, lists))
+        }
     }
 }

@@ -1,7 +1,7 @@
 -- What one entry of its own makes of a statement, and how a statement begins.
-use Rattle.std.proofs.Common.{◌≡◌, ℕ, ◌<◌, ◌≤◌, true, false, Option, None, List, [], ◌∷◌, refl, sym, ap, subst, ◌∙◌, arith, length, suc}
+use Rattle.std.proofs.Common.{◌≡◌, ℕ, ◌<◌, ◌≤◌, true, false, None, List, [], ◌∷◌, refl, sym, ap, subst, ◌∙◌, arith, length, suc}
 use Rattle.std.proofs.lemmas.Bool.Decides.{nat_tests}
-use Rattle.std.specs.Prelude.{◌-◌, is_some}
+use Rattle.std.specs.Prelude.{◌-◌}
 use Rattle.std.specs.List.{AllByRecursion, list_any}
 use Rattle.inno_types.specs.declared.lock.Level.{Level}
 use Rattle.inno_types.specs.declared.stmt.Stmt.{Stmt}
@@ -17,7 +17,6 @@ use Rattle.sql_history.specs.Statements.{refused_at_once}
 use Rattle.sql_history.specs.Waiting.{is_victim}
 use Rattle.sql_history.specs.Legal.{MayCommit, CommitsBy}
 use Rattle.law_past_agreement.specs.Order.{IsOfRow, IsUndoable}
-use Rattle.shared_lists.specs.State.{State}
 use Rattle.sql_lists.specs.Steps.{HasRowsAlone, IsTaken}
 use Rattle.sql_lists.proofs.Staying.{point_now, point_before}
 use Rattle.transaction_statements.specs.declared.committer.Committer.{Committer}
@@ -27,21 +26,8 @@ use Rattle.giving_up.specs.Ends.{HasMadeNone, IsEmptied}
 use Rattle.transaction_statements.specs.Knowing.{IsAt, HasOpened, IsGoingBack, IsMissing}
 use Rattle.transaction_statements.specs.Running.{Nothing}
 use Rattle.giving_up.proofs.Ends.{point_kept}
-use Rattle.giving_up.proofs.Writing.{none_of}
 use Rattle.giving_up.proofs.Nothing.{own_nothing, level_nothing, own_now, over_nothing, made_nothing, set_before, sometime_too}
 use Rattle.transaction_statements.proofs.Staying.{at_on}
-
--- ---- what the lists say of a transaction
-
-module _ (s : ℕ) (seen state : State) (o : Option Level) (same : seen ≡ state) (told : o ≡ level s seen.past) where
-  pub closed_as_told : is_some o ≡ false → level s state.past ≡ None
-  closed_as_told none = ap (λ (x : State). level s x.past) (sym same) ∙ (sym told ∙ none_of o none)
-
-  pub own_as_told : is_some o ≡ false → (level s seen.past ≡ None → own s seen.past ≡ []) → own s state.past ≡ []
-  own_as_told none empty = ap (λ (x : State). own s x.past) (sym same) ∙ empty (sym told ∙ none_of o none)
-
-  pub open_as_told : is_some o ≡ true → IsOpen s state.past
-  open_as_told some = ap (λ (x : State). is_some (level s x.past)) (sym same) ∙ (ap is_some (sym told) ∙ some)
 
 -- ---- changes that are put back
 
@@ -233,20 +219,10 @@ pub taken_as : (s : ℕ) (statement : Stmt) (Knows : Setting → Type 0) (past :
 taken_as s statement Knows past taken knows =
     record { takes = taken.takes; knows = knows; rows_alone = taken.rows_alone; no_victim = ap (list_any is_victim) taken.nothing }
 
--- how many changes stand, as the lists say
-module _ (s n : ℕ) (seen state : State) (same : seen ≡ state) (told : n ≡ length (own s seen.past)) where
-  pub count_as_told : n ≡ length (own s state.past)
-  count_as_told = told ∙ ap (λ (x : State). length (own s x.past)) same
+-- none of its changes stands
+empty_of : (changes : List Change) → length changes ≤ 0 → changes ≡ []
+empty_of [] none = refl
+empty_of (c ∷ cs) none = absurd (omega (arith, none))
 
-  empty_of : (changes : List Change) → length changes ≤ 0 → changes ≡ []
-  empty_of [] none = refl
-  empty_of (c ∷ cs) none = absurd (omega (arith, none))
-
-  pub none_as_told : n ≤ 0 → own s state.past ≡ []
-  none_as_told none = empty_of (own s state.past) (subst (λ m. m ≤ 0) count_as_told none)
-
-  pub some_as_told : (m : ℕ) → m < n → m < length (own s state.past)
-  some_as_told m more = subst (λ k. m < k) count_as_told more
-
-  pub few_as_told : (m : ℕ) → n ≤ m → length (own s state.past) ≤ m
-  few_as_told m few = subst (λ k. k ≤ m) count_as_told few
+pub none_as_told : (s n : ℕ) (past : List Event) → n ≡ length (own s past) → n ≤ 0 → own s past ≡ []
+none_as_told s n past told none = empty_of (own s past) (subst (λ m. m ≤ 0) told none)

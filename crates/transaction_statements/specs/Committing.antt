@@ -3,21 +3,22 @@ use Rattle.std.specs.Prelude.{◌≡◌, ◌⊎◌, true, false}
 use Rattle.inno_types.specs.declared.stmt.Stmt.{Stmt}
 use Rattle.inno_types.specs.declared.stmt.Stmt.TheVariants as stmt
 use Rattle.sql_history.specs.Settings.{Setting, next_level}
+use Rattle.transaction_statements.specs.declared.command.Command.{Command}
+use Rattle.transaction_statements.specs.declared.command.Command.TheVariants as commands
 use Rattle.transaction_statements.specs.declared.committer.Committer.{Committer}
 use Rattle.transaction_statements.specs.declared.committer.Committer.TheVariants as committers
 use Rattle.transaction_statements.specs.declared.setter.Setter.{Setter}
 use Rattle.transaction_statements.specs.declared.setter.Setter.TheVariants as setters
 
--- a statement of this crate
-abbrev pub IsOnTransactions : Stmt → Type 0
-IsOnTransactions (stmt.Begin snapshot) = Unit {0}
-IsOnTransactions stmt.Commit = Unit {0}
-IsOnTransactions stmt.Rollback = Unit {0}
-IsOnTransactions (stmt.RollbackTo name) = Unit {0}
-IsOnTransactions (stmt.Savepoint name) = Unit {0}
-IsOnTransactions (stmt.SetAutocommit on) = Unit {0}
-IsOnTransactions (stmt.SetLevel scope l) = Unit {0}
-IsOnTransactions other = ⊥
+-- the statement that a command stands for
+abbrev pub asked_by : Command → Stmt
+asked_by (commands.Begin snapshot) = stmt.Begin snapshot
+asked_by commands.Commit = stmt.Commit
+asked_by commands.Rollback = stmt.Rollback
+asked_by (commands.RollbackTo name) = stmt.RollbackTo name
+asked_by (commands.Savepoint name) = stmt.Savepoint name
+asked_by (commands.SetAutocommit on) = stmt.SetAutocommit on
+asked_by (commands.SetLevel scope l) = stmt.SetLevel scope l
 
 abbrev pub stmt_of : Committer → Stmt
 stmt_of committers.Commit = stmt.Commit

@@ -25,7 +25,7 @@ pub fn step_committing<L: SharedLists>(
     ensures steps { Steps IsRunning session lists.old lists.new result.0 result.1 }
     ensures nears { Nears to_go session lists.old (TransactionStatement.Committing committer) lists.new result.0 result.1 }
 {
-    if lists.lists().level(session).is_none() {
+    if lists.level(session).is_none() {
         return (TransactionStatement::Closed { committer }, Advance::Went);
     }
     lists.commit(session);

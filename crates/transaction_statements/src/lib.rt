@@ -2,6 +2,7 @@
 //! adds at most one entry to the history, and steps of other sessions may come between.
 #![tactic(auto)]
 
+mod command;
 mod commits;
 mod committer;
 mod endings;
@@ -10,6 +11,7 @@ mod savepoints;
 mod setter;
 mod statement;
 
+pub use command::Command;
 pub use committer::Committer;
 pub use setter::Setter;
 pub use statement::TransactionStatement;

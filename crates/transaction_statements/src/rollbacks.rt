@@ -26,10 +26,10 @@ pub fn step_rollback<L: SharedLists>(
     ensures steps { Steps IsRunning session lists.old lists.new result.0 result.1 }
     ensures nears { Nears to_go session lists.old TransactionStatement.Rollback lists.new result.0 result.1 }
 {
-    if lists.lists().level(session).is_none() {
+    if lists.level(session).is_none() {
         return finish(Stmt::Rollback, session, lists);
     }
-    if lists.lists().change_count(session) > 0 {
+    if lists.change_count(session) > 0 {
         return undo_newest(session, lists);
     }
     lists.roll_back(session);
@@ -81,7 +81,7 @@ pub fn step_rollback_to<L: SharedLists>(
     ensures steps { Steps IsRunning session lists.old lists.new result.0 result.1 }
     ensures nears { Nears to_go session lists.old (TransactionStatement.RollbackTo savepoint made) lists.new result.0 result.1 }
 {
-    if lists.lists().level(session).is_some() && lists.lists().change_count(session) as u64 > made {
+    if lists.level(session).is_some() && lists.change_count(session) as u64 > made {
         return undo_one(savepoint, made, session, lists);
     }
     finish(Stmt::RollbackTo { savepoint }, session, lists)

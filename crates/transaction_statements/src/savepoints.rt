@@ -26,7 +26,7 @@ pub fn new_savepoint<L: SharedLists>(
     requires idle { task_of session lists.now ≡ Idle }
     ensures { IsRunning lists.now session result }
 {
-    if lists.lists().level(session).is_some() {
+    if lists.level(session).is_some() {
         return TransactionStatement::Saving {
             savepoint,
             opened: false,

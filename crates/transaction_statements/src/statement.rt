@@ -2,21 +2,23 @@
 //! The crate `statement` alone makes and drives one.
 
 ghost use Rattle.std.specs.Prelude.{◌≡◌, ◌<◌, length};
+ghost use Rattle.inno_types.specs.declared.stmt.Stmt.TheVariants.{SetAutocommit};
 ghost use Rattle.shared_lists.specs.Tasks.{Idle};
 ghost use Rattle.shared_lists.specs.State.{task_of};
 ghost use Rattle.sql_lists.specs.Steps.{IsTaken, StaysRunning};
 ghost use Rattle.giving_up.specs.Machines.{MayStep, StepsAs, MovesOnAcked};
-ghost use Rattle.transaction_statements.specs.Committing.{IsOnTransactions};
+ghost use Rattle.transaction_statements.specs.Committing.{asked_by};
 ghost use Rattle.transaction_statements.specs.Running.{IsRunning, owes_ack, acked};
 ghost use Rattle.transaction_statements.specs.Going.{to_go};
 
+use crate::command::Command;
 use crate::commits::{step_begun, step_closed, step_committing, step_unviewed, step_viewing};
 use crate::committer::Committer;
 use crate::endings::{step_failed, step_missing, step_quiet};
 use crate::rollbacks::{new_rollback_to, step_rollback, step_rollback_to};
 use crate::savepoints::{new_savepoint, step_opening, step_saving};
 use crate::setter::Setter;
-use inno_types::{Bytes, Level, Stmt};
+use inno_types::{Bytes, Level};
 use shared_lists::SharedLists;
 use sql_lists::{Advance, SqlLists};
 use std::alloc::Global;
@@ -53,36 +55,30 @@ pub enum TransactionStatement {
 
 impl TransactionStatement {
     /// The statement of an item that has done nothing yet.
-    pub fn new<L: SharedLists>(stmt: Stmt, session: u32, lists: &SqlLists<L>) -> Self
+    pub fn new<L: SharedLists>(command: Command, session: u32, lists: &SqlLists<L>) -> Self
         requires joined { session < length lists.now.names }
-        requires kind { IsOnTransactions stmt }
-        requires taken { IsTaken session stmt lists.now.past }
+        requires taken { IsTaken session (asked_by command) lists.now.past }
         requires idle { task_of session lists.now ≡ Idle }
         ensures { IsRunning lists.now session result }
     {
         let setting = lists.setting(session);
-        match stmt {
-            Stmt::Begin { snapshot } => {
+        match command {
+            Command::Begin { snapshot } => {
                 let level = setting.next_level();
                 TransactionStatement::Committing {
                     committer: Committer::Begin { snapshot, level },
                 }
             }
-            Stmt::Commit => TransactionStatement::Committing {
+            Command::Commit => TransactionStatement::Committing {
                 committer: Committer::Commit,
             },
-            Stmt::Rollback => TransactionStatement::Rollback,
-            Stmt::RollbackTo { savepoint } => new_rollback_to(savepoint, session, lists),
-            Stmt::Savepoint { name } => new_savepoint(name, session, lists),
-            Stmt::SetAutocommit(on) => new_autocommit(on, session, lists),
-            Stmt::SetLevel { scope, level } => TransactionStatement::Quiet {
+            Command::Rollback => TransactionStatement::Rollback,
+            Command::RollbackTo { savepoint } => new_rollback_to(savepoint, session, lists),
+            Command::Savepoint { name } => new_savepoint(name, session, lists),
+            Command::SetAutocommit(on) => new_autocommit(on, session, lists),
+            Command::SetLevel { scope, level } => TransactionStatement::Quiet {
                 setter: Setter::Level { scope, level },
             },
-            Stmt::CreateTable { .. }
-            | Stmt::Select { .. }
-            | Stmt::Insert { .. }
-            | Stmt::Update { .. }
-            | Stmt::Delete { .. } => unreachable!(),
         }
     }
 
@@ -158,7 +154,7 @@ fn new_autocommit<L: SharedLists>(
     lists: &SqlLists<L>,
 ) -> TransactionStatement
     requires joined { session < length lists.now.names }
-    requires taken { IsTaken session (Stmt.SetAutocommit on) lists.now.past }
+    requires taken { IsTaken session (SetAutocommit on) lists.now.past }
     requires idle { task_of session lists.now ≡ Idle }
     ensures { IsRunning lists.now session result }
 {

@@ -22,10 +22,6 @@ abbrev pub has_parts : Stmt → Bool
 has_parts (stmt.Insert table columns tuples) = nat_lt 1 (length tuples)
 has_parts other = false
 
-abbrev pub is_insert : Stmt → Bool
-is_insert (stmt.Insert table columns tuples) = true
-is_insert other = false
-
 -- an INSERT with this tuple alone
 abbrev pub with_tuple : List Literal → Stmt → Stmt
 with_tuple tuple (stmt.Insert table columns tuples) = stmt.Insert table columns (tuple ∷ [])

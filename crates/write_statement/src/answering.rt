@@ -35,13 +35,7 @@ pub fn answer<L: SharedLists>(
     ensures steps { Steps IsRunning session lists.now lists.now result.0 result.1 }
     ensures nears { (phases : ℕ) → 4 + 2 * length part.later.items < phases → (first second third : ℕ) → IsNearer (left phases first second third) session lists.now result.0 result.1 }
 {
-    match settle(
-        alloc,
-        lists.lists().schemas(),
-        part.table,
-        rows,
-        part.stmt.get(),
-    ) {
+    match settle(alloc, lists.schemas(), part.table, rows, part.stmt.get()) {
         Ok(Settled::Todo(todo)) => (WriteStatement::Changing { part, todo }, Advance::Went),
         Ok(Settled::Refused { kept, given }) => (refuse(part, kept, given), Advance::Went),
         Err(_) => give_up(part),

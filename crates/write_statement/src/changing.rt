@@ -108,7 +108,7 @@ fn begin<L: SharedLists>(
     ensures nears { IsNearer (to_change (length part.later.items) (length todo.items + 1)) session lists.new result.0 result.1 }
 {
     // that the change fits its table follows from what the lists say of their history
-    let _ = lists.lists();
+    let _ = lists.history();
     match lists.begin_change(session, change) {
         Ok(()) => (WriteStatement::Making { part, todo, rows }, Advance::Went),
         Err(_) => give_up(part),
@@ -176,7 +176,7 @@ fn finish<L: SharedLists>(
     ensures steps { Steps IsRunning session lists.old lists.new result.0 result.1 }
     ensures nears { (later : ℕ) → IsNearer (to_change later 0) session lists.new result.0 result.1 }
 {
-    let made = (lists.lists().change_count(session) - before) as u64;
+    let made = (lists.change_count(session) - before) as u64;
     let (kept, given) = (Reply::Count(made), Reply::Count(made));
     if alone {
         let (leaving, answer) = commit(kept, given, session, lists);

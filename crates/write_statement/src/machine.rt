@@ -80,7 +80,7 @@ impl WriteStatement {
         ensures { IsRunning lists.now session result }
     {
         // that the session's tables are all that were made follows from what the lists say of their history
-        let _ = lists.lists();
+        let _ = lists.history();
         WriteStatement::Fresh { stmt }
     }
 

@@ -73,7 +73,7 @@ pub fn step_change<L: SharedLists>(
     ensures nears { Nears to_go session lists.old statement.old lists.new statement.new result }
 {
     // that the row of a removal is there follows from what the lists say of their history
-    let _ = lists.lists();
+    let _ = lists.history();
     match lists.change(session) {
         Stepped::Went => Advance::Went,
         Stepped::Done(ChangePart::Record) => {

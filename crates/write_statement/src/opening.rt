@@ -41,7 +41,7 @@ pub fn step_fresh<L: SharedLists>(
     ensures steps { Steps IsRunning session lists.old lists.new result.0 result.1 }
     ensures nears { Nears to_go session lists.old (WriteStatement.Fresh stmt) lists.new result.0 result.1 }
 {
-    if lists.lists().level(session).is_some() {
+    if lists.level(session).is_some() {
         return (
             WriteStatement::Locking { stmt, alone: false },
             Advance::Went,
@@ -117,7 +117,7 @@ fn wait_for<L: SharedLists>(
         ),
         Err(_) => {
             drop(stmt);
-            give_up_at(alone, lists.lists().change_count(session))
+            give_up_at(alone, lists.change_count(session))
         }
     }
 }
@@ -136,9 +136,8 @@ fn begin_search<L: SharedLists>(
     ensures steps { Steps IsRunning session lists.old lists.new result.0 result.1 }
     ensures nears { Nears to_go session lists.old (WriteStatement.Locking stmt alone) lists.new result.0 result.1 }
 {
-    let tables = lists.lists();
-    let before = tables.change_count(session);
-    let table = table_number(tables.schemas(), stmt.get());
+    let before = lists.change_count(session);
+    let table = table_number(lists.schemas(), stmt.get());
     match first_part(alloc, stmt, table, alone, before) {
         Ok(part) => search_part(alloc, part, session, lists),
         Err(_) => give_up_at(alone, before),
@@ -158,7 +157,7 @@ pub fn search_part<L: SharedLists>(
     ensures steps { Steps IsRunning session lists.old lists.new result.0 result.1 }
     ensures nears { (phases : ℕ) → 5 + 2 * length part.later.items < phases → (first second third : ℕ) → IsNearer (left phases first second third) session lists.new result.0 result.1 }
 {
-    let Ok(plan) = plan_in(alloc, lists.lists().schemas(), part.table, part.stmt.get()) else {
+    let Ok(plan) = plan_in(alloc, lists.schemas(), part.table, part.stmt.get()) else {
         return give_up(part);
     };
     match lists.begin_search(session, part.table, plan, Reading::Newest) {
@@ -190,21 +189,28 @@ fn table_number(schemas: &Listed<Schema>, stmt: &Stmt) -> u8
     requires unrefused { refusal schemas.now stmt.now ≡ None }
     ensures { table_read schemas.now stmt.now ≡ Some result }
 {
+    match table_of(schemas, stmt) {
+        Some(place) => place as u8,
+        None => unreachable!(),
+    }
+}
+
+/// The table on whose rows a statement acts, by its place, where it is there.
+fn table_of(schemas: &Listed<Schema>, stmt: &Stmt) -> Option<usize>
+    ensures { result ≡ table_read schemas.now stmt.now }
+{
     match stmt {
-        Stmt::Insert { table, .. } | Stmt::Update { table, .. } | Stmt::Delete { table, .. } => {
-            match place_of_table(schemas, table) {
-                Some(place) => place as u8,
-                None => unreachable!(),
-            }
-        }
+        Stmt::Select { table, .. }
+        | Stmt::Insert { table, .. }
+        | Stmt::Update { table, .. }
+        | Stmt::Delete { table, .. } => place_of_table(schemas, table),
         Stmt::CreateTable { .. }
-        | Stmt::Select { .. }
         | Stmt::Begin { .. }
         | Stmt::Commit
         | Stmt::Rollback
         | Stmt::RollbackTo { .. }
         | Stmt::Savepoint { .. }
         | Stmt::SetAutocommit(_)
-        | Stmt::SetLevel { .. } => unreachable!(),
+        | Stmt::SetLevel { .. } => None,
     }
 }

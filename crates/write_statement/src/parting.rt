@@ -1,7 +1,7 @@
 //! A statement is taken apart: an INSERT of several tuples is worked off tuple by tuple.
 //! Nothing here looks at rows.
 
-ghost use Rattle.std.specs.Prelude.{◌≡◌, ℕ, List, [], ◌∷◌, None, Option, true, IfOk, reverse};
+ghost use Rattle.std.specs.Prelude.{◌≡◌, ℕ, List, [], ◌∷◌, None, Option, IfOk, reverse};
 ghost use Rattle.inno_types.specs.declared.value.Schema.{Schema};
 ghost use Rattle.inno_types.specs.declared.stmt.Literal.{Literal};
 ghost use Rattle.inno_types.specs.declared.stmt.Stmt.TheVariants.{Insert};
@@ -11,7 +11,7 @@ ghost use Rattle.inno_db.specs.Outcome.{outcome};
 ghost use Rattle.inno_db.specs.Refusals.{refusal};
 ghost use Rattle.inno_db.specs.Keyed.{IsKeyed};
 ghost use Rattle.write_statement.specs.Following.{followed_by};
-ghost use Rattle.write_statement.specs.Parts.{IsFirstPart, has_parts, is_insert, with_tuple};
+ghost use Rattle.write_statement.specs.Parts.{IsFirstPart, has_parts, with_tuple};
 
 use crate::machine::Part;
 use inno_types::{Boxed, Bytes, Literals, Names, Stmt, Tuples};
@@ -48,22 +48,28 @@ pub fn first_part(
     })
 }
 
-/// Takes an INSERT of several tuples apart.
+/// Takes an INSERT apart; any other statement is one part.
 fn cut(alloc: Global, stmt: Stmt, table: u8, alone: bool, before: usize) -> Result<Part, NoMemory>
-    requires parts { has_parts stmt ≡ true }
     ensures { (schemas : List Schema) → refusal schemas stmt ≡ None → IfOk result (IsFirstPart schemas stmt table alone before) }
 {
-    let Stmt::Insert {
-        table: name,
-        columns,
-        tuples,
-    } = stmt
-    else {
-        unreachable!()
-    };
-    let mut later = tuples.into_vec();
-    later.reverse();
-    cut_off(alloc, name, columns, later, table, alone, before)
+    match stmt {
+        Stmt::Insert {
+            table: name,
+            columns,
+            tuples,
+        } => {
+            let mut later = tuples.into_vec();
+            later.reverse();
+            cut_off(alloc, name, columns, later, table, alone, before)
+        }
+        other => Ok(Part {
+            stmt: Boxed::new(alloc, other)?,
+            later: Vec::new(alloc),
+            table,
+            alone,
+            before,
+        }),
+    }
 }
 
 /// An INSERT's part of the tuple that stands last.
@@ -76,7 +82,7 @@ fn cut_off(
     alone: bool,
     before: usize,
 ) -> Result<Part, NoMemory>
-    ensures { (schemas : List Schema) → has_parts (Insert name columns (reverse later.items)) ≡ true → refusal schemas (Insert name columns (reverse later.items)) ≡ None → IfOk result (IsFirstPart schemas (Insert name columns (reverse later.items)) table alone before) }
+    ensures { (schemas : List Schema) → refusal schemas (Insert name columns (reverse later.items)) ≡ None → IfOk result (IsFirstPart schemas (Insert name columns (reverse later.items)) table alone before) }
 {
     let tuples = Vec::new(alloc);
     let stmt = match later.pop() {
@@ -101,23 +107,14 @@ fn cut_off(
 fn has_parts(stmt: &Stmt) -> bool
     ensures { result ≡ has_parts stmt.now }
 {
-    match stmt {
-        Stmt::Insert { tuples, .. } => tuples.len() > 1,
-        Stmt::CreateTable { .. }
-        | Stmt::Select { .. }
-        | Stmt::Update { .. }
-        | Stmt::Delete { .. }
-        | Stmt::Begin { .. }
-        | Stmt::Commit
-        | Stmt::Rollback
-        | Stmt::RollbackTo { .. }
-        | Stmt::Savepoint { .. }
-        | Stmt::SetAutocommit(_)
-        | Stmt::SetLevel { .. } => false,
+    if let Stmt::Insert { tuples, .. } = stmt {
+        tuples.len() > 1
+    } else {
+        false
     }
 }
 
-/// The statement of an INSERT's next tuple, made of that of the tuple before.
+/// The statement of an INSERT's next tuple, made of that of the tuple before. Any other statement stays.
 pub fn next_tuple(
     alloc: Global,
     stmt: Boxed<Stmt>,
@@ -129,50 +126,23 @@ pub fn next_tuple(
     Ok(Boxed::new(alloc, part)?)
 }
 
-/// The part of an INSERT's next tuple, made of that of the tuple before.
 fn with_tuple(stmt: Stmt, tuple: Literals) -> Result<Stmt, NoMemory>
     ensures { IfOk result (λ part. part ≡ with_tuple tuple stmt) }
 {
-    if is_insert(&stmt) {
-        return of_next_tuple(stmt, tuple);
-    }
-    drop(tuple);
-    Ok(stmt)
-}
-
-fn of_next_tuple(stmt: Stmt, tuple: Literals) -> Result<Stmt, NoMemory>
-    requires insert { is_insert stmt ≡ true }
-    ensures { IfOk result (λ part. part ≡ with_tuple tuple stmt) }
-{
-    let Stmt::Insert {
-        table,
-        columns,
-        tuples,
-    } = stmt
-    else {
-        unreachable!()
-    };
-    let mut tuples = tuples.into_vec();
-    tuples.clear();
-    of_tuple(table, columns, tuples, tuple)
-}
-
-fn is_insert(stmt: &Stmt) -> bool
-    ensures { result ≡ is_insert stmt.now }
-{
     match stmt {
-        Stmt::Insert { .. } => true,
-        Stmt::CreateTable { .. }
-        | Stmt::Select { .. }
-        | Stmt::Update { .. }
-        | Stmt::Delete { .. }
-        | Stmt::Begin { .. }
-        | Stmt::Commit
-        | Stmt::Rollback
-        | Stmt::RollbackTo { .. }
-        | Stmt::Savepoint { .. }
-        | Stmt::SetAutocommit(_)
-        | Stmt::SetLevel { .. } => false,
+        Stmt::Insert {
+            table,
+            columns,
+            tuples,
+        } => {
+            let mut tuples = tuples.into_vec();
+            tuples.clear();
+            of_tuple(table, columns, tuples, tuple)
+        }
+        other => {
+            drop(tuple);
+            Ok(other)
+        }
     }
 }
 

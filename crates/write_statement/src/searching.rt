@@ -58,6 +58,6 @@ fn answer_found<L: SharedLists>(
     ensures nears { (first second third : ℕ) → IsNearer (left (5 + 2 * length part.later.items) first second third) session lists.new result.0 result.1 }
 {
     // that the rows are enough follows from what the lists say of their history
-    let _ = lists.lists();
+    let _ = lists.history();
     answer(alloc, part, &rows, session, lists)
 }

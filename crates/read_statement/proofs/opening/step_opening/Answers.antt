@@ -1,7 +1,6 @@
-use Rattle.std.proofs.Common.{◌≡◌, true, false, None, [], subst}
+use Rattle.std.proofs.Common.{◌≡◌, true, false}
 use Rattle.std.specs.Prelude.{is_some}
-use Rattle.inno_model.specs.Past.{level, own}
-use Rattle.shared_lists.specs.State.{State}
+use Rattle.inno_model.specs.Past.{level}
 use Rattle.giving_up.proofs.Writing.{none_of}
 use Rattle.giving_up.proofs.Nothing.{taken_fails}
 use Rattle.read_statement.proofs.Selects.{rows_of_plain}
@@ -23,9 +22,8 @@ pub returns-in-Ok-clause-steps : goal.returns-in-Ok-clause-steps
 returns-in-Ok-clause-steps g c =
     let none : is_some (level c.args.session c.args.lists.now.past) ≡ false = cc in
     let closed = none_of (level c.args.session c.args.lists.now.past) none in
-    let no-own =
-    subst (λ (x : State). level c.args.session x.past ≡ None → own c.args.session x.past ≡ []) c.lists.ensures.same c.level.ensures.closed closed in
-    begun c.args.session _ _ c.args.lists.now c.begin.new.self c.args.asked c.requires.running.0 closed no-own c.requires.running.1 c.in-Ok.ensures.ok
+    begun c.args.session _ _ c.args.lists.now c.begin.new.self c.args.asked c.requires.running.0 closed (c.level.ensures.closed closed)
+    c.requires.running.1 c.in-Ok.ensures.ok
 
 pub returns-in-Err-clause-steps : goal.returns-in-Err-clause-steps
 returns-in-Err-clause-steps g c =

@@ -1,10 +1,8 @@
-use Rattle.std.proofs.Common.{◌≡◌, subst, sym}
+use Rattle.std.proofs.Common.{subst, sym}
 use Rattle.law_stored_rows.specs.Storable.{AreStorable}
-use Rattle.law_past_agreement.specs.Order.{created}
 use Rattle.law_found_rows.proofs.FittingChanges.{tables_storable}
 use Rattle.read_statement.proofs.planning.plan_search.Goals as goal
 
 pub plan_among-requires-clause-storable : goal.plan_among-requires-clause-storable
 plan_among-requires-clause-storable g c =
-    let same : c.schemas.result.now ≡ created c.args.lists.now.past = cc in
-    subst AreStorable (sym same) (tables_storable c.args.lists.now.past c.lists.ensures.fits)
+    subst AreStorable (sym c.schemas.ensures.are) (tables_storable c.args.lists.now.past c.schemas.ensures.fits)

@@ -1,21 +1,18 @@
+use Rattle.giving_up.proofs.Writing.{closed_as_told, open_as_told}
 use Rattle.transaction_statements.proofs.Moving.{skips_commit, commits}
-use Rattle.transaction_statements.proofs.Stepping.{may_commit, closed_as_told, own_as_told, open_as_told}
+use Rattle.transaction_statements.proofs.Stepping.{may_commit}
 use Rattle.transaction_statements.proofs.commits.step_committing.Goals as goal
 
 pub returns-then-is_none-clause-steps : goal.returns-then-is_none-clause-steps
 returns-then-is_none-clause-steps g c =
-    let closed = c.if-is_none.ensures {u = tt} in
-    skips_commit c.args.session c.args.lists.now c.args.committer c.requires.running
-    (closed_as_told c.args.session (g.L.SharedLists.lists c.lists.result.now).state c.args.lists.now c.level.result c.lists.ensures.same
-    c.level.ensures.level closed)
-    (own_as_told c.args.session (g.L.SharedLists.lists c.lists.result.now).state c.args.lists.now c.level.result c.lists.ensures.same c.level.ensures.level
-    closed c.level.ensures.closed)
+    let closed = closed_as_told c.args.session c.args.lists.now.past c.level.result c.level.ensures.level (c.if-is_none.ensures {u = tt}) in
+    skips_commit c.args.session c.args.lists.now c.args.committer c.requires.running closed (c.level.ensures.closed closed)
 
 pub commit-requires-clause-may : goal.commit-requires-clause-may
 commit-requires-clause-may g c =
     may_commit c.args.session c.args.lists.now.past c.args.committer
-    (open_as_told c.args.session (g.L.SharedLists.lists c.lists.result.now).state c.args.lists.now c.level.result c.lists.ensures.same c.level.ensures.level
-    (c.if-is_none.ensures {u = tt})) c.requires.running.0.0 c.requires.running.0.1
+    (open_as_told c.args.session c.args.lists.now.past c.level.result c.level.ensures.level (c.if-is_none.ensures {u = tt})) c.requires.running.0.0
+    c.requires.running.0.1
 
 pub returns-clause-steps : goal.returns-clause-steps
 returns-clause-steps g c = commits c.args.session c.args.lists.now c.commit.new.self c.args.committer c.requires.running c.commit.ensures

@@ -1,9 +1,9 @@
 use Rattle.std.proofs.Common.{◌≡◌, ◌≤◌, [], length, subst, ap, sym, ◌∙◌, arith}
 use Rattle.inno_model.specs.Past.{own}
 use Rattle.shared_lists.specs.State.{task_of}
+use Rattle.giving_up.proofs.Writing.{closed_as_told}
 use Rattle.transaction_statements.proofs.Ending.{finishes_rollback_to}
 use Rattle.transaction_statements.proofs.Moving.{rests}
-use Rattle.transaction_statements.proofs.Stepping.{few_as_told, own_as_told}
 use Rattle.transaction_statements.proofs.rollbacks.step_rollback_to.Goals.{else-is_some-via-then-is_some+else-change_count-made, else-is_some-via-else-is_some}
 use Rattle.transaction_statements.proofs.rollbacks.step_rollback_to.Goals as goal
 
@@ -12,14 +12,10 @@ finish-requires-clause-finished g c =
     let s = c.args.session in
     let past = c.args.lists.now.past in
     let few : length (own s past) ≤ c.args.made = elim c.else-is_some.branch [
-      | else-is_some-via-then-is_some+else-change_count-made w ↦ few_as_told s w.change_count.result
-          (g.L.SharedLists.lists w.lists-then-is_some.result.now).state c.args.lists.now w.lists-then-is_some.ensures.same w.change_count.ensures c.args.made
-          w.if-change_count-made.false
+      | else-is_some-via-then-is_some+else-change_count-made w ↦ omega (arith, w.change_count.ensures, w.if-change_count-made.false)
       | else-is_some-via-else-is_some w ↦
-          let none : own s past ≡ [] =
-          own_as_told s (g.L.SharedLists.lists c.lists.result.now).state c.args.lists.now c.level.result c.lists.ensures.same c.level.ensures.level
-          (sym c.is_some.ensures ∙ w.if-is_some.false) c.level.ensures.closed in
-          subst (λ n. n ≤ c.args.made) (sym (ap length none)) (omega arith)
+          let closed = closed_as_told s past c.level.result c.level.ensures.level (sym c.is_some.ensures ∙ w.if-is_some.false) in
+          subst (λ n. n ≤ c.args.made) (sym (ap length (c.level.ensures.closed closed))) (omega arith)
     ] in
     finishes_rollback_to s past c.args.savepoint c.args.made c.requires.running.0.0 c.requires.running.0.1 few
 
@@ -28,13 +24,9 @@ finish-requires-clause-idle g c =
     let s = c.args.session in
     let past = c.args.lists.now.past in
     let few : length (own s past) ≤ c.args.made = elim c.else-is_some.branch [
-      | else-is_some-via-then-is_some+else-change_count-made w ↦ few_as_told s w.change_count.result
-          (g.L.SharedLists.lists w.lists-then-is_some.result.now).state c.args.lists.now w.lists-then-is_some.ensures.same w.change_count.ensures c.args.made
-          w.if-change_count-made.false
+      | else-is_some-via-then-is_some+else-change_count-made w ↦ omega (arith, w.change_count.ensures, w.if-change_count-made.false)
       | else-is_some-via-else-is_some w ↦
-          let none : own s past ≡ [] =
-          own_as_told s (g.L.SharedLists.lists c.lists.result.now).state c.args.lists.now c.level.result c.lists.ensures.same c.level.ensures.level
-          (sym c.is_some.ensures ∙ w.if-is_some.false) c.level.ensures.closed in
-          subst (λ n. n ≤ c.args.made) (sym (ap length none)) (omega arith)
+          let closed = closed_as_told s past c.level.result c.level.ensures.level (sym c.is_some.ensures ∙ w.if-is_some.false) in
+          subst (λ n. n ≤ c.args.made) (sym (ap length (c.level.ensures.closed closed))) (omega arith)
     ] in
     rests c.args.made (length (own s past)) (task_of s c.args.lists.now) c.requires.running.1 few

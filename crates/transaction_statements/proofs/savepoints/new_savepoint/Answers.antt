@@ -2,7 +2,8 @@ use Rattle.std.proofs.Common.{◌≡◌, false, sym, ◌∙◌}
 use Rattle.inno_types.specs.declared.stmt.Stmt.TheVariants as stmt
 use Rattle.sql_history.specs.Settings.{next_level}
 use Rattle.transaction_statements.specs.Committing.{SetsAlone}
-use Rattle.transaction_statements.proofs.Stepping.{retaken, closed_as_told, own_as_told}
+use Rattle.giving_up.proofs.Writing.{closed_as_told}
+use Rattle.transaction_statements.proofs.Stepping.{retaken}
 use Rattle.transaction_statements.proofs.savepoints.new_savepoint.Goals as goal
 
 pub returns-then-autocommit : goal.returns-then-autocommit
@@ -12,24 +13,21 @@ returns-then-autocommit g c = (
         c.requires.taken c.setting-setting.ensures (λ h found. found)
         (sym c.autocommit.ensures ∙ c.if-autocommit.true),
     c.requires.taken.nothing,
-    closed_as_told c.args.session (g.L.SharedLists.lists c.lists.result.now).state c.args.lists.now c.level.result c.lists.ensures.same c.level.ensures.level
-        (sym (c.if-is_some.ensures {u = tt})),
+    closed_as_told c.args.session c.args.lists.now.past c.level.result c.level.ensures.level (sym (c.if-is_some.ensures {u = tt})),
   ),
   c.requires.idle,
 )
 
 pub returns : goal.returns
 returns g c =
-    let closed = sym (c.if-is_some.ensures {u = tt}) in (
+    let closed = closed_as_told c.args.session c.args.lists.now.past c.level.result c.level.ensures.level (sym (c.if-is_some.ensures {u = tt})) in (
       (
         retaken c.args.session (stmt.Savepoint c.args.savepoint) (λ setting. (setting.autocommit ≡ false) × (c.next_level-level.result ≡ next_level setting))
             c.args.lists.now.past c.setting-setting.result.now c.requires.taken c.setting-setting.ensures (λ h found. found)
             (sym c.autocommit.ensures ∙ c.if-autocommit.false, c.next_level-level.ensures),
         c.requires.taken.nothing,
-        closed_as_told c.args.session (g.L.SharedLists.lists c.lists.result.now).state c.args.lists.now c.level.result c.lists.ensures.same
-            c.level.ensures.level closed,
-        own_as_told c.args.session (g.L.SharedLists.lists c.lists.result.now).state c.args.lists.now c.level.result c.lists.ensures.same
-            c.level.ensures.level closed c.level.ensures.closed,
+        closed,
+        c.level.ensures.closed closed,
       ),
       c.requires.idle,
     )

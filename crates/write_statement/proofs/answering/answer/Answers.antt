@@ -3,7 +3,6 @@ use Rattle.inno_types.specs.declared.value.Schema.{Schema}
 use Rattle.inno_db.specs.Refusals.{refusal}
 use Rattle.inno_db.specs.Outcome.{table_read}
 use Rattle.shared_lists.specs.Tasks.{Idle}
-use Rattle.shared_lists.specs.State.{State}
 use Rattle.law_past_agreement.specs.Order.{created}
 use Rattle.plain_sql.specs.Finding.{IsReadFrom}
 use Rattle.write_statement.specs.Settling.{IsSettledBy}
@@ -18,36 +17,34 @@ settle-requires-clause-unrefused g c =
     let r = c.requires.changing in
     rw c.get.ensures
     (subst (λ (schemas : List Schema). refusal schemas c.args.part.stmt ≡ None)
-    (sym (c.schemas.ensures ∙ ap (λ (st : State). created st.past) c.lists.ensures.same))
+    (sym c.schemas.ensures.are)
     (part_unrefused (created c.args.lists.now.past) c.args.part.stmt (behind c.args.part) r.cut))
 
 pub settle-requires-clause-table_is : goal.settle-requires-clause-table_is
 settle-requires-clause-table_is g c =
     rw c.get.ensures
-    (ap (λ schemas. table_read schemas c.args.part.stmt) (c.schemas.ensures ∙ ap (λ (st : State). created st.past) c.lists.ensures.same)
+    (ap (λ schemas. table_read schemas c.args.part.stmt) c.schemas.ensures.are
     ∙ c.requires.changing.table_is)
 
 pub returns-in-Ok-Todo-clause-steps : goal.returns-in-Ok-Todo-clause-steps
 returns-in-Ok-Todo-clause-steps g c =
     let enough = c.requires.enough in
-    let tables = c.schemas.ensures ∙ ap (λ (st : State). created st.past) c.lists.ensures.same in
-    todo_then c.args.session c.args.lists.now c.args.part c.args.rows.now c.requires.changing c.requires.idle enough c.lists.ensures.tables
-    c.lists.ensures.fits c.lists.ensures.sound c.lists.ensures.ordered c.in-Ok-Todo.todo
+    todo_then c.args.session c.args.lists.now c.args.part c.args.rows.now c.requires.changing c.requires.idle enough c.schemas.ensures.tables
+    c.schemas.ensures.fits c.schemas.ensures.sound c.schemas.ensures.ordered c.in-Ok-Todo.todo
     (subst (IsSettledBy c.args.part.stmt enough.db) c.in-Ok-Todo.field-0-is
     (rw c.get.ensures at
     (c.in-Ok-Todo.ensures enough.db
-    (rw c.get.ensures (subst (λ schemas. IsReadFrom schemas c.args.rows.now c.args.part.stmt enough.db) (sym tables) enough.read)))))
+    (rw c.get.ensures (subst (λ schemas. IsReadFrom schemas c.args.rows.now c.args.part.stmt enough.db) (sym c.schemas.ensures.are) enough.read)))))
 
 pub returns-in-Ok-Refused-clause-steps : goal.returns-in-Ok-Refused-clause-steps
 returns-in-Ok-Refused-clause-steps g c =
     let enough = c.requires.enough in
-    let tables = c.schemas.ensures ∙ ap (λ (st : State). created st.past) c.lists.ensures.same in
-    refused_then c.args.session c.args.lists.now c.args.part c.args.rows.now c.requires.changing c.requires.idle enough c.lists.ensures.tables
-    c.lists.ensures.fits c.lists.ensures.sound c.lists.ensures.ordered c.in-Ok-Refused.kept c.in-Ok-Refused.given c.refuse.result
+    refused_then c.args.session c.args.lists.now c.args.part c.args.rows.now c.requires.changing c.requires.idle enough c.schemas.ensures.tables
+    c.schemas.ensures.fits c.schemas.ensures.sound c.schemas.ensures.ordered c.in-Ok-Refused.kept c.in-Ok-Refused.given c.refuse.result
     (subst (IsSettledBy c.args.part.stmt enough.db) c.in-Ok-Refused.field-0-is
     (rw c.get.ensures at
     (c.in-Ok-Refused.ensures enough.db
-    (rw c.get.ensures (subst (λ schemas. IsReadFrom schemas c.args.rows.now c.args.part.stmt enough.db) (sym tables) enough.read)))))
+    (rw c.get.ensures (subst (λ schemas. IsReadFrom schemas c.args.rows.now c.args.part.stmt enough.db) (sym c.schemas.ensures.are) enough.read)))))
     c.refuse.ensures
 
 pub returns-in-Err-clause-steps : goal.returns-in-Err-clause-steps

@@ -14,8 +14,7 @@ begin_change-requires-clause-locked g c =
 pub begin_change-requires-clause-fits : goal.begin_change-requires-clause-fits
 begin_change-requires-clause-fits g c =
     fits c.args.lists.now.past c.args.lists.now.writer c.args.session c.args.part (of_rest c.args.part) c.args.todo.items c.args.change
-    c.requires.changing c.lists.ensures.fits
-    c.lists.ensures.sound c.lists.ensures.ordered
+    c.requires.changing c.history.ensures.fits c.history.ensures.sound c.history.ensures.ordered
 
 pub returns-in-Ok-clause-steps : goal.returns-in-Ok-clause-steps
 returns-in-Ok-clause-steps g c =

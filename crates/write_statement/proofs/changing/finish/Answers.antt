@@ -1,6 +1,4 @@
-use Rattle.std.proofs.Common.{◌-◌, length, ap, refl, ◌∙◌, inl}
-use Rattle.shared_lists.specs.State.{State}
-use Rattle.inno_model.specs.Past.{own}
+use Rattle.std.proofs.Common.{◌-◌, ap, refl, ◌∙◌, inl}
 use Rattle.write_statement.proofs.Committing.{count_is, may_commit, closing_then, may_end, acks_none}
 use Rattle.write_statement.proofs.changing.finish.Goals as goal
 
@@ -10,16 +8,14 @@ commit-leaving-requires-clause-may g c =
 
 pub commit-leaving-requires-clause-closing : goal.commit-leaving-requires-clause-closing
 commit-leaving-requires-clause-closing g c =
-    let many = c.change_count.ensures ∙ ap (λ (st : State). length (own c.args.session st.past)) c.lists.ensures.same in
     closing_then c.args.lists.now.past c.args.lists.now.writer c.args.session c.args.alone c.args.before _ c.requires.made
-    (ap (λ n. n - c.args.before) many ∙ count_is c.args.lists.now.past c.args.lists.now.writer c.args.session c.args.alone c.args.before c.requires.made)
+    (ap (λ n. n - c.args.before) c.change_count.ensures ∙ count_is c.args.lists.now.past c.args.lists.now.writer c.args.session c.args.alone c.args.before c.requires.made)
     c.if-alone.true
 
 pub end-leaving-requires-clause-may : goal.end-leaving-requires-clause-may
 end-leaving-requires-clause-may g c =
-    let many = c.change_count.ensures ∙ ap (λ (st : State). length (own c.args.session st.past)) c.lists.ensures.same in
     may_end c.args.lists.now.past c.args.lists.now.writer c.args.session c.args.alone c.args.before _ c.requires.made
-    (ap (λ n. n - c.args.before) many ∙ count_is c.args.lists.now.past c.args.lists.now.writer c.args.session c.args.alone c.args.before c.requires.made)
+    (ap (λ n. n - c.args.before) c.change_count.ensures ∙ count_is c.args.lists.now.past c.args.lists.now.writer c.args.session c.args.alone c.args.before c.requires.made)
     c.if-alone.false
 
 pub end-leaving-requires-clause-acked : goal.end-leaving-requires-clause-acked

@@ -15,8 +15,8 @@ change-requires g c =
       changing = now.2;
       alone = now.1;
       may = may_be_made s old old m c.requires.changing c.requires.running c.requires.within;
-      removes = removes s old old m c.requires.changing c.requires.running c.lists.ensures.fits c.lists.ensures.sound c.lists.ensures.ordered
-          c.lists.ensures.tables;
+      removes = removes s old old m c.requires.changing c.requires.running c.history.ensures.fits c.history.ensures.sound c.history.ensures.ordered
+          c.history.ensures.tables;
     }
 
 pub returns-in-Went-clause-steps : goal.returns-in-Went-clause-steps

@@ -1,9 +1,7 @@
-use Rattle.std.proofs.Common.{[], subst, sym, ap, ◌∙◌, inl, refl}
-use Rattle.law_past_agreement.specs.Order.{created}
+use Rattle.std.proofs.Common.{[], subst, sym, inl, refl}
 use Rattle.law_stored_rows.specs.Storable.{AreStorable}
 use Rattle.law_found_rows.proofs.FittingChanges.{tables_storable}
 use Rattle.shared_lists.specs.Tasks.{Idle}
-use Rattle.shared_lists.specs.State.{State}
 use Rattle.law_claims.specs.Claims.{Tables}
 use Rattle.law_claims.proofs.Keeping.{keeper_writes}
 use Rattle.write_statement.specs.Parts.{of_part}
@@ -16,10 +14,7 @@ begin_search-requires-clause-newest g c = λ newest.
 
 pub plan_in-requires : goal.plan_in-requires
 plan_in-requires g c =
-    record {
-      storable = subst AreStorable (sym (c.schemas.ensures ∙ ap (λ (st : State). created st.past) c.lists.ensures.same))
-          (tables_storable c.args.lists.now.past c.lists.ensures.fits);
-    }
+    record { storable = subst AreStorable (sym c.schemas.ensures.are) (tables_storable c.args.lists.now.past c.schemas.ensures.fits) }
 
 pub returns-in_default-clause-steps : goal.returns-in_default-clause-steps
 returns-in_default-clause-steps g c =
@@ -29,7 +24,7 @@ returns-in_default-clause-steps g c =
 pub returns-in-Ok-begin_search-clause-steps : goal.returns-in-Ok-begin_search-clause-steps
 returns-in-Ok-begin_search-clause-steps g c =
     begins_search c.args.session c.args.lists.now c.begin_search.new.self c.args.part c.in-Ok.plan c.schemas.result.now c.requires.changing
-    (c.schemas.ensures ∙ ap (λ (st : State). created st.past) c.lists.ensures.same) (rw c.get.ensures at c.in-Ok.ensures)
+    c.schemas.ensures.are (rw c.get.ensures at c.in-Ok.ensures)
     c.in-Ok-begin_search.ensures.ok
 
 pub returns-in-Err-clause-steps : goal.returns-in-Err-clause-steps

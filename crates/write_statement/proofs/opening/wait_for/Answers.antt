@@ -1,7 +1,5 @@
-use Rattle.std.proofs.Common.{length, inl, ap, ◌∙◌}
+use Rattle.std.proofs.Common.{inl}
 use Rattle.sql_lists.proofs.Moving.{stays_none}
-use Rattle.shared_lists.specs.State.{State}
-use Rattle.inno_model.specs.Past.{own}
 use Rattle.write_statement.proofs.Turning.{turns_none, early_given_up}
 use Rattle.write_statement.proofs.opening.wait_for.Goals as goal
 
@@ -23,5 +21,5 @@ returns-in-Ok-clause-steps g c =
 pub returns-in-Err-clause-steps : goal.returns-in-Err-clause-steps
 returns-in-Err-clause-steps g c =
     early_given_up c.args.session c.args.lists.now c.args.lists.now c.args.stmt c.args.alone c.change_count.result c.give_up_at.result.0 c.give_up_at.result.1
-    c.requires.running.0 (c.change_count.ensures ∙ ap (λ (st : State). length (own c.args.session st.past)) c.lists.ensures.same)
+    c.requires.running.0 c.change_count.ensures
     (turns_none c.args.session c.args.lists.now c.requires.running.1) c.give_up_at.ensures.state c.give_up_at.ensures.answer

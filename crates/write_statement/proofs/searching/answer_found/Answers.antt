@@ -4,8 +4,8 @@ use Rattle.write_statement.proofs.searching.answer_found.Goals as goal
 
 pub answer-requires-clause-enough : goal.answer-requires-clause-enough
 answer-requires-clause-enough g c =
-    found_enough c.args.lists.now c.args.session c.args.part c.args.rows c.requires.found c.lists.ensures.tables c.lists.ensures.sound
-    c.lists.ensures.ordered c.lists.ensures.fits
+    found_enough c.args.lists.now c.args.session c.args.part c.args.rows c.requires.found c.history.ensures.tables c.history.ensures.sound
+    c.history.ensures.ordered c.history.ensures.fits
 
 pub returns-clause-nears : goal.returns-clause-nears
 returns-clause-nears g c = c.answer.ensures.nears _ (omega arith)

@@ -8,6 +8,6 @@ pub returns : goal.returns
 returns g c = (
   taken_opens c.args.session c.args.lists.now.past (record { stmt = c.args.stmt; autocommit = c.args.autocommit; level = c.args.level }) c.requires.taken
       c.requires.select
-      (subst (λ (schemas : List Schema). refusal schemas c.args.stmt ≡ None) (sym (c.lists.ensures.tables.tables c.args.session)) c.requires.unrefused),
+      (subst (λ (schemas : List Schema). refusal schemas c.args.stmt ≡ None) (sym (c.history.ensures.tables.tables c.args.session)) c.requires.unrefused),
   c.requires.idle,
 )

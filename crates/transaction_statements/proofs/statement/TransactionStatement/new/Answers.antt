@@ -4,7 +4,7 @@ use Rattle.std.proofs.Common.{subst}
 use Rattle.inno_types.specs.declared.stmt.Stmt.TheVariants as stmt
 use Rattle.sql_lists.specs.Steps.{IsTaken}
 use Rattle.transaction_statements.specs.declared.committer.Committer.TheVariants as committers
-use Rattle.transaction_statements.specs.Committing.{Fits}
+use Rattle.transaction_statements.specs.Committing.{Fits, asked_by}
 use Rattle.transaction_statements.proofs.Stepping.{retaken}
 use Rattle.transaction_statements.proofs.statement.TransactionStatement.new.Goals as goal
 
@@ -13,7 +13,7 @@ returns-in-Begin g c =
     let s = c.args.session in
     let past = c.args.lists.now.past in
     let snapshot = c.in-Begin.snapshot in
-    let taken : IsTaken s (stmt.Begin snapshot) past = subst (λ statement. IsTaken s statement past) c.in-Begin.is c.requires.taken in (
+    let taken : IsTaken s (stmt.Begin snapshot) past = subst (λ command. IsTaken s (asked_by command) past) c.in-Begin.is c.requires.taken in (
       (
         retaken s (stmt.Begin snapshot) (Fits (committers.Begin snapshot c.next_level-level.result)) past c.setting-setting.result.now taken
             c.setting-setting.ensures (λ h found. found) c.next_level-level.ensures,
@@ -48,9 +48,6 @@ new_autocommit-requires-clause-taken g c = grind (arith, common_steps)
 
 pub new_autocommit-requires-clause-idle : goal.new_autocommit-requires-clause-idle
 new_autocommit-requires-clause-idle g c = grind (arith, common_steps)
-
-pub unreachable-unreachable : goal.unreachable-unreachable
-unreachable-unreachable g c = grind (arith, common_steps)
 
 pub returns-in-Commit : goal.returns-in-Commit
 returns-in-Commit g c = grind (arith, common_steps)

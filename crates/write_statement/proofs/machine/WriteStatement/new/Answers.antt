@@ -8,5 +8,5 @@ returns g c = (
   c.requires.taken,
   c.requires.writes,
   c.requires.idle,
-  subst (λ (schemas : List Schema). refusal schemas c.args.stmt ≡ None) (sym (c.lists.ensures.tables.tables c.args.session)) c.requires.unrefused,
+  subst (λ (schemas : List Schema). refusal schemas c.args.stmt ≡ None) (sym (c.history.ensures.tables.tables c.args.session)) c.requires.unrefused,
 )
