@@ -1,5 +1,5 @@
 //! Deadlocks: whether transactions wait for one another in a cycle, and which of them is rolled back.
-//! No engine asks yet, only tests do; granted locks and requests are read here and never changed.
+//! The world of the store asks; granted locks and requests are read here and never changed.
 #![tactic(auto)]
 
 mod cycle;

@@ -1,5 +1,5 @@
 //! The locks of all transactions: those granted, in order of grant, and the requests that wait, first come, first
-//! served. Only `deadlock` and tests ask here: no engine takes such locks yet. The rules stand in `lock_rules`. No key
+//! served. The world keeps one table for all sessions, and `deadlock` reads it. The rules stand in `lock_rules`. No key
 //! is longer than 67 bytes, so that a lock moves without memory.
 #![tactic(auto)]
 

@@ -1,5 +1,5 @@
 //! The table of all locks. Each call that changes it says what its two lists are afterwards.
-//! Its lists are changed by these calls alone. Outside this crate `deadlock` and tests make them, and so far no engine.
+//! Its lists are changed by these calls alone: the world of the store makes them, and tests.
 
 ghost use Rattle.std.specs.Prelude.{◌≡◌, ℕ, if◌then◌else◌, ◌+◌, ◌≤◌, ◌∷◌, ◌++◌, [], false, true, not, length, map, vec_capacity, OnOk, OnErr, IfOk};
 ghost use Rattle.lock_rules.specs.Rules.{FitsItsRule};
