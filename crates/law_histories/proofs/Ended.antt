@@ -1,5 +1,6 @@
--- No item of a legal history ends with an error of pages.
+-- An item of a legal history that ends for want of pages names fewer that are free than it needs.
 use Rattle.std.proofs.Common.{◌≡◌, ◌⊎◌, ℕ, Bool, true, false, ◌||◌, Option, Some, None, List, [], ◌∷◌, refl, sym, ap, subst, ◌∙◌, inl, inr}
+use Rattle.std.proofs.lemmas.Bool.{lt-leb}
 use Rattle.std.specs.List.{list_any}
 use Rattle.inno_types.specs.declared.stmt.Stmt.{Stmt}
 use Rattle.inno_types.specs.declared.stmt.Stmt.TheVariants as stmt
@@ -18,7 +19,7 @@ use Rattle.sql_history.specs.Settings.{Setting}
 use Rattle.sql_history.specs.Statements.{refused_at_once}
 use Rattle.sql_history.specs.Counts.{has_stopped}
 use Rattle.sql_history.specs.Legal.{IsLegal, EndsBy, EndsItem, EndsStatement, EndsAsked, EndsTaken, EndsEarly, AnswersRows}
-use Rattle.law_histories.specs.Space.{is_of_pages, says_of_pages, ends_for_pages}
+use Rattle.law_histories.specs.Space.{is_of_pages, says_of_pages, misstates_pages, ends_without_want}
 use Rattle.law_histories.proofs.Refused.{Spares, at_once_spares}
 use Rattle.law_histories.proofs.Answered.{outcome_spares}
 
@@ -56,35 +57,34 @@ asked None s setting statement error past h is ends = taken s setting statement 
 asked (Some other) s setting statement error past h is ends =
     ap is_of_pages (same_error error other ends.0) ∙ subst Spares is (at_once_spares s setting statement h)
 
-early : (s : ℕ) (error : SqlError) (past : List Event) → EndsEarly Spells s (replies.Fail error) past → is_of_pages error ≡ false
-early s (errors.Full need free) past ends = absurd ends
-early s errors.TooDeep past ends = absurd ends
+-- an error of something else misstates nothing
+spared : (error : SqlError) → is_of_pages error ≡ false → misstates_pages error ≡ false
+spared (errors.Full need free) other = absurd (cc)
+spared error other = refl
+
+early : (s : ℕ) (error : SqlError) (past : List Event) → EndsEarly Spells s (replies.Fail error) past → misstates_pages error ≡ false
+early s (errors.Full need free) past ends = lt-leb need free ends.0
 early s error past ends = refl
 
-item : (s : ℕ) (asks : Item) (error : SqlError) (past : List Event) → EndsItem Spells s asks (replies.Fail error) past → is_of_pages error ≡ false
+item : (s : ℕ) (asks : Item) (error : SqlError) (past : List Event) → EndsItem Spells s asks (replies.Fail error) past → misstates_pages error ≡ false
 item s (items.Sql text) error past (inl ends) =
     let found = some_past (λ h. refused_at_once s ends.setting ends.statement h ≡ ends.refusal) s past ends.found in
-    asked ends.refusal s ends.setting ends.statement error past found.0 found.1 ends.ends
-item s (items.Sql text) error past (inr (inl none)) = ap is_of_pages (same_error error (errors.Syntax none.place) none.answer)
+    spared error (asked ends.refusal s ends.setting ends.statement error past found.0 found.1 ends.ends)
+item s (items.Sql text) error past (inr (inl none)) = ap misstates_pages (same_error error (errors.Syntax none.place) none.answer)
 item s (items.Sql text) error past (inr (inr ends)) = early s error past ends
 item s (items.Signal name) error past ends = absurd ends
 item s (items.Await name) error past ends = absurd ends
 
-ended : (stopped : Bool) (s : ℕ) (asks : Item) (reply : Reply) (past : List Event) → EndsBy stopped Spells s asks reply past → says_of_pages reply ≡ false
-ended stopped s asks replies.Done past ends = refl
-ended stopped s asks (replies.Count n) past ends = refl
-ended stopped s asks (replies.Rows rows) past ends = refl
-ended stopped s asks (replies.RunLimit rows) past ends = refl
-ended stopped s asks (replies.NotSignalled waited) past ends = refl
-ended stopped s asks replies.Stopped past ends = refl
-ended stopped s asks replies.NoMemory past ends = refl
-ended true s asks (replies.Fail error) past ends = (let x = ends.0 in cc)
-ended false s asks (replies.Fail error) past ends = item s asks error past ends.2
+ended : (stopped : Bool) (s j : ℕ) (asks : Item) (reply : Reply) (past : List Event) → EndsBy stopped Spells s asks reply past
+    → ends_without_want (events.Ended s j reply) ≡ false
+ended true s j asks (replies.Fail error) past ends = (let x = ends.0 in cc)
+ended false s j asks (replies.Fail error) past ends = item s asks error past ends.2
+ended stopped s j asks other past ends = refl
 
-pub none_for_pages : (past : List Event) → IsLegal Spells past → list_any ends_for_pages past ≡ false
-none_for_pages [] legal = refl
-none_for_pages (events.Ended s j reply ∷ past) legal =
+pub none_without_want : (past : List Event) → IsLegal Spells past → list_any ends_without_want past ≡ false
+none_without_want [] legal = refl
+none_without_want (events.Ended s j reply ∷ past) legal =
     let may = legal.0.1 in
-    ap (λ b. b || list_any ends_for_pages past) (ended (has_stopped past) s may.item reply past may.ends) ∙ none_for_pages past legal.1
-none_for_pages (events.Opened db ∷ past) legal = none_for_pages past legal.1
-none_for_pages (e ∷ past) legal = none_for_pages past legal.1
+    ap (λ b. b || list_any ends_without_want past) (ended (has_stopped past) s j may.item reply past may.ends) ∙ none_without_want past legal.1
+none_without_want (events.Opened db ∷ past) legal = none_without_want past legal.1
+none_without_want (e ∷ past) legal = none_without_want past legal.1

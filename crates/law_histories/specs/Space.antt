@@ -1,5 +1,5 @@
 -- Errors of stores that keep pages: no page is left, or a tree has grown as high as it may.
-use Rattle.std.specs.Prelude.{Bool, true, false}
+use Rattle.std.specs.Prelude.{Bool, true, false, nat_le}
 use Rattle.inno_types.specs.declared.reply.SqlError.{SqlError}
 use Rattle.inno_types.specs.declared.reply.SqlError.TheVariants.{Full, TooDeep}
 use Rattle.inno_types.specs.declared.reply.Reply.{Reply}
@@ -16,7 +16,12 @@ abbrev pub says_of_pages : Reply → Bool
 says_of_pages (Fail error) = is_of_pages error
 says_of_pages other = false
 
--- an item ends with such an error
-abbrev pub ends_for_pages : Event → Bool
-ends_for_pages (Ended s j reply) = says_of_pages reply
-ends_for_pages other = false
+-- as many pages are free as it says are needed
+abbrev pub misstates_pages : SqlError → Bool
+misstates_pages (Full need free) = nat_le need free
+misstates_pages other = false
+
+-- an item ends for want of pages where, by its own words, there was none
+abbrev pub ends_without_want : Event → Bool
+ends_without_want (Ended s j (Fail error)) = misstates_pages error
+ends_without_want other = false

@@ -1,6 +1,5 @@
 //! Laws of histories: a text spells one statement; what an open transaction has done, its statements with their replies, its
-//! savepoints and its changes; and that no item ends for want of pages as long as no store keeps pages. Each function has an
-//! empty body: its contract is the law.
+//! savepoints and its changes; and that want of pages is told truly. Each function has an empty body: its contract is the law.
 #![tactic(auto)]
 
 mod one_tree;
@@ -12,5 +11,5 @@ pub use one_tree::{
     a_text_spells_each_statement_of_the_tree, a_text_spells_one_tree,
     an_item_asks_for_one_statement, bytes_are_one_list_of_tokens, one_tree_has_one_outcome,
 };
-pub use page_errors::no_item_ends_for_want_of_pages;
+pub use page_errors::want_of_pages_is_told_truly;
 pub use work::work_answers_alone;

@@ -328,6 +328,7 @@ module _ (says : Language) (one : ReadsOne says) (s : ℕ) (text : List ℕ) (pa
     early_moves : (reply : Reply) → EndsEarly says s reply past → Moves says s (items.Sql text) reply past work
     early_moves (Fail (errors.Deadlock cycle)) early = idle (Fail (errors.Deadlock cycle)) refl (inl early.1.rolled_back.closed)
     early_moves (Fail (errors.Timeout held waited)) early = idle (Fail (errors.Timeout held waited)) refl (given_up early.2)
+    early_moves (Fail error) early = idle (Fail error) refl (given_up early.1)
     early_moves (replies.RunLimit rows) early =
         elim early.1 [ inl gave ↦ idle (replies.RunLimit rows) refl (given_up gave) | inr was ↦ idle (replies.RunLimit rows) refl (inl was.commits.closed) ]
     early_moves replies.NoMemory early =

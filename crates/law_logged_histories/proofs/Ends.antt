@@ -150,6 +150,7 @@ module _ (says : Language) (P : Schema → Type 0) (declare : DeclareOnly says P
   early_ends : (reply : Reply) → EndsEarly says s reply past → MakeOnly P (own s past)
   early_ends (replies.Fail (errors.Deadlock cycle)) early = closed early.1.rolled_back.closed
   early_ends (replies.Fail (errors.Timeout held waited)) early = given_up early.2
+  early_ends (replies.Fail error) early = given_up early.1
   early_ends (replies.RunLimit rows) early = elim early.1 [ inl gave ↦ given_up gave | inr was ↦ closed was.commits.closed ]
   early_ends replies.NoMemory early = made_some early.made
   early_ends other early = absurd early

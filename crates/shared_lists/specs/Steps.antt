@@ -1,5 +1,5 @@
 -- What the steps of a session's task do, by their answers.
-use Rattle.std.specs.Prelude.{◌≡◌, ◌⊎◌, ℕ, ◌<◌, true, List, ◌∷◌, filter, slice_get, Option, Some, None}
+use Rattle.std.specs.Prelude.{◌≡◌, ◌⊎◌, ℕ, ◌<◌, Unit, true, List, ◌∷◌, filter, slice_get, Option, Some, None}
 use Rattle.inno_types.specs.{declared.value.Value.Value, declared.value.Schema.Schema}
 use Rattle.inno_db.specs.{Database.rows_of, declared.change.Change.Change, declared.change.Change.TheVariants.Put}
 use Rattle.inno_model.specs.declared.event.Event.{Event}
@@ -11,9 +11,18 @@ use Rattle.inno_types.specs.Ranges.{is_within}
 use Rattle.shared_lists.specs.{declared.answers.Reading.Reading, declared.answers.Reading.TheVariants.View, declared.answers.Reading.TheVariants.Newest}
 use Rattle.store_api.specs.declared.stepped.Stepped.TheVariants as stepped
 use Rattle.shared_lists.specs.declared.answers.ChangePart.TheVariants as part
+use Rattle.shared_lists.specs.declared.answers.Hindrance.{Hindrance}
+use Rattle.shared_lists.specs.declared.answers.Hindrance.TheVariants.{NoMemory, Full, TooDeep}
 use Rattle.shared_lists.specs.Answers.{Searched, Changed, Undone}
 use Rattle.shared_lists.specs.Tasks.{Task, Idle, Undoing, is_changing, asked, steps_left, left_by, undo_to_go}
 use Rattle.shared_lists.specs.State.{State, task_of, IsNow, Turns}
+
+-- ---- what hinders them
+
+-- pages are lacking only where fewer are free than are needed
+abbrev pub IsLacking : Hindrance → Type 0
+IsLacking (Full need free) = free < need
+IsLacking other = Unit {0}
 
 -- ---- searches
 
@@ -42,7 +51,7 @@ AreFoundBy Newest table plan past s rows = AreRowsSeen table plan past s (commit
 abbrev pub Searches : ℕ → Plan → Reading → ℕ → State → State → Searched → Type 0
 Searches table plan reading s old new stepped.Went = Turns s (task_of s old) old new
 Searches table plan reading s old new (stepped.Done rows) = Turns s Idle old new × AreFoundBy reading table plan old.past s rows
-Searches table plan reading s old new (stepped.Hindered why) = Turns s Idle old new
+Searches table plan reading s old new (stepped.Hindered why) = (why ≡ NoMemory) × Turns s Idle old new
 
 -- ---- changes
 
@@ -65,7 +74,7 @@ abbrev pub Changes : ℕ → State → State → Changed → Type 0
 Changes s old new stepped.Went = GoesOn s old new
 Changes s old new (stepped.Done part.Record) = Enters s old new
 Changes s old new (stepped.Done part.Keys) = (asked (task_of s old) ≡ None) × Turns s Idle old new
-Changes s old new (stepped.Hindered why) = Turns s (left_by (asked (task_of s old))) old new
+Changes s old new (stepped.Hindered why) = IsLacking why × Turns s (left_by (asked (task_of s old))) old new
 
 -- how many rows the history holds more where it tells the change
 abbrev pub rows_of_change : Option Change → ℕ

@@ -3,7 +3,7 @@
 
 use inno_types::Rows;
 use std::convert::Infallible;
-use store_api::{NoMemory, Stepped};
+use store_api::Stepped;
 
 /// How a session reads.
 #[derive(Clone, Copy)]
@@ -14,13 +14,26 @@ pub enum Reading {
     Newest,
 }
 
-/// How far a search came: the rows that were found, in the order of their primary keys, or that it is given up for want of
-/// memory.
-pub type Searched = Stepped<Rows, NoMemory>;
+/// What hinders a step of a search or of a change.
+#[derive(Clone, Copy)]
+pub enum Hindrance {
+    NoMemory,
+    /// The change needs more pages than are free.
+    Full {
+        need: u32,
+        free: u32,
+    },
+    /// A tree of eight levels would have one more.
+    TooDeep,
+}
 
-/// How far a change of a row came: which part of it is done, or that it is given up for want of memory. If the history tells
-/// it by then, it is to be taken back.
-pub type Changed = Stepped<ChangePart, NoMemory>;
+/// How far a search came: the rows that were found, in the order of their primary keys, or that it is given up. A search
+/// asks for no pages.
+pub type Searched = Stepped<Rows, Hindrance>;
+
+/// How far a change of a row came: which part of it is done, or what it is given up for. If the history tells it by then, it
+/// is to be taken back.
+pub type Changed = Stepped<ChangePart, Hindrance>;
 
 /// The parts of a change of a row.
 #[derive(Clone, Copy)]

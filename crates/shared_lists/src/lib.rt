@@ -6,5 +6,5 @@
 mod answers;
 mod shared_lists;
 
-pub use answers::{ChangePart, Changed, Reading, Searched, Undone};
+pub use answers::{ChangePart, Changed, Hindrance, Reading, Searched, Undone};
 pub use shared_lists::SharedLists;

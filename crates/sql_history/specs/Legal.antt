@@ -357,11 +357,20 @@ pub record WantsMemory (says : Language) (s : ℕ) (past : List Event) : Type 0 
   pub leaves : RollsBack s past ⊎ (WasCommitted says s past ⊎ (CommittedFirst says s past ⊎ LeavesIt says s past))
   pub made : MadeSome says s past
 
+-- ---- want of pages
+
+-- fewer pages are free than are needed, or a tree would have a ninth level
+abbrev pub LacksPages : SqlError → Type 0
+LacksPages (errors.Full need free) = free < need
+LacksPages errors.TooDeep = Unit {0}
+LacksPages other = ⊥
+
 -- a reply that breaks off an item
 abbrev pub EndsEarly : Language → ℕ → Reply → List Event → Type 0
 EndsEarly says s (replies.Fail (errors.Deadlock cycle)) past = NamesCycle cycle (of_item s past) × IsRolledBackWhole says s past
 EndsEarly says s (replies.Fail (errors.Timeout held waited)) past =
     HasTimedOut s held waited past × Sometime (IsFitting says held) s past × IsGivenUp says s past
+EndsEarly says s (replies.Fail error) past = LacksPages error × IsGivenUp says s past
 EndsEarly says s (replies.RunLimit rows) past = IsOverfull says s rows past × (IsGivenUp says s past ⊎ WasCommitted says s past)
 EndsEarly says s replies.NoMemory past = WantsMemory says s past
 EndsEarly says s other past = ⊥
