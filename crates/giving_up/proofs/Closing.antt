@@ -8,6 +8,8 @@ use Rattle.inno_types.specs.declared.stmt.Stmt.TheVariants as stmt
 use Rattle.inno_types.specs.declared.reply.Item.TheVariants.{Sql}
 use Rattle.inno_types.specs.declared.reply.Reply.{Reply}
 use Rattle.inno_types.specs.declared.reply.Reply.TheVariants as replies
+use Rattle.inno_types.specs.declared.reply.SqlError.{SqlError}
+use Rattle.inno_types.specs.declared.reply.SqlError.TheVariants as errors
 use Rattle.inno_db.specs.Database.{Database}
 use Rattle.inno_db.specs.Outcome.{outcome}
 use Rattle.inno_model.specs.declared.event.Event.{Event}
@@ -17,7 +19,7 @@ use Rattle.inno_model.specs.Moments.{Sometime}
 use Rattle.sql_grammar.specs.Grammar.{Spells}
 use Rattle.sql_history.specs.{Items.point, Items.own_before, Settings.Setting, Statements.Sight, Statements.is_on_rows, Statements.is_select}
 use Rattle.sql_history.specs.{Statements.refused_at_once, Answers.MaySee, Counts.rows_of_reply, Counts.rows_kept, Counts.most_rows, Endings.RollsBack}
-use Rattle.sql_history.specs.Legal.{AnswersRows, EndsRows, EndsTaken, EndsItem, NextBrings, IsOverfull, IsWithin, RollsBackBy, MayRollBack, is_alone}
+use Rattle.sql_history.specs.Legal.{AnswersRows, EndsRows, EndsTaken, EndsItem, EndsEarly, LacksPages, IsGivenUp, NextBrings, IsOverfull, IsWithin, RollsBackBy, MayRollBack, is_alone}
 use Rattle.law_past_agreement.specs.Order.{IsOfRow}
 use Rattle.shared_lists.specs.Tasks.{Task, Idle, Lagging, Undoing, MayTakeBack, asked}
 use Rattle.shared_lists.specs.State.{State, Closes, task_of}
@@ -44,6 +46,12 @@ ends_taken s setting h reply (stmt.Update table sets condition) is answers ends 
 ends_taken s setting h reply (stmt.Delete table condition) is answers ends = (answers, ends)
 ends_taken s setting h reply other is answers ends = absurd (false≢true is)
 
+-- for want of pages
+early_for_pages : {s : ℕ} {h : List Event} (error : SqlError) → LacksPages error → IsGivenUp Spells s h → EndsEarly Spells s (replies.Fail error) h
+early_for_pages (errors.Full need free) lacks given-up = (lacks, given-up)
+early_for_pages errors.TooDeep lacks given-up = (lacks, given-up)
+early_for_pages other lacks given-up = absurd lacks
+
 module _ (s : ℕ) (h : List Event) (kept given : Reply) (m : MayEndWith s kept given h) where
   answered : (reply : Reply) → IsAnswered s reply h → EndsItem Spells s (Sql m.text) reply h
   answered reply a =
@@ -61,7 +69,10 @@ module _ (s : ℕ) (h : List Event) (kept given : Reply) (m : MayEndWith s kept 
   ends_item : (reply : Reply) → EndsWith s reply h → EndsItem Spells s (Sql m.text) reply h
   ends_item (replies.Rows rows) a = answered (replies.Rows rows) a
   ends_item (replies.Count n) a = answered (replies.Count n) a
-  ends_item (replies.Fail error) a = answered (replies.Fail error) a
+  ends_item (replies.Fail error) a = elim a [
+    | inl refused ↦ answered (replies.Fail error) refused
+    | inr lacks ↦ inr (inr (early_for_pages error lacks.0 lacks.1))
+  ]
   ends_item (replies.RunLimit rows) broken = inr (inr broken)
   ends_item replies.NoMemory leaves = inr (inr (record { leaves = leaves; made = m.made }))
   ends_item other none = absurd none

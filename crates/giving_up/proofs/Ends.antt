@@ -280,7 +280,10 @@ module _ (e : Event) (h : List Event) (s : ℕ) (sp : Spares e h s) where
     ends_on : (kept : Reply) → EndsWith s kept h → EndsWith s kept after
     ends_on (replies.Rows rows) a = answered_on (replies.Rows rows) a
     ends_on (replies.Count n) a = answered_on (replies.Count n) a
-    ends_on (replies.Fail error) a = answered_on (replies.Fail error) a
+    ends_on (replies.Fail error) a = elim a [
+      | inl refused ↦ inl (answered_on (replies.Fail error) refused)
+      | inr lacks ↦ inr (lacks.0, given_up_on lacks.1)
+    ]
     ends_on (replies.RunLimit rows) o =
         (overfull_on rows o.0, elim o.1 [ inl given-up ↦ inl (given_up_on given-up) | inr was ↦ inr (was_committed_on was) ])
     ends_on replies.NoMemory leaves = no_memory_on leaves

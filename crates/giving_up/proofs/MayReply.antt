@@ -125,7 +125,10 @@ module _ (s : ℕ) (statement : Stmt) (past : List Event) (takes : Takes Spells 
   pub backed_out : (kept : Reply) → is_count kept ≡ false → HasReply s statement kept past
       → BacksOut (level s (before_item s past)) takes.setting.autocommit s past → RollsBack s past ⊎ LeavesIt Spells s past → EndsWith s kept past
   backed_out (replies.Fail error) no-count reply backs leaves =
-      is_answered (replies.Fail error) refl (answers_rows (replies.Fail error) reply reply.answers (reply.count, reply.made)) backs
+      elim reply.answers [
+        | inl refused ↦ inl (is_answered (replies.Fail error) refl (answers_rows (replies.Fail error) reply refused.1 (reply.count, reply.made)) backs)
+        | inr lacks ↦ inr (lacks, given_up (replies.Fail error) reply backs)
+      ]
   backed_out replies.NoMemory no-count reply backs leaves = elim leaves [ inl rolled ↦ inl rolled | inr left ↦ inr (inr (inr left)) ]
   backed_out (replies.RunLimit rows) no-count reply backs leaves = (overfull rows reply, inl (given_up (replies.RunLimit rows) reply backs))
   backed_out (replies.Count n) no-count reply backs leaves = absurd (false≢true (sym no-count))

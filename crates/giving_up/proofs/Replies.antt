@@ -1,7 +1,7 @@
 -- A reply that may come stays so where the item's point does, or the rows that were latest there.
-use Rattle.std.proofs.Common.{◌≡◌, ℕ, ◌+◌, false, List, ◌++◌, length, reverse, refl, sym, ap, subst, ◌∙◌}
+use Rattle.std.proofs.Common.{◌≡◌, ℕ, ◌+◌, inl, inr, false, List, ◌++◌, length, reverse, refl, sym, ap, subst, ◌∙◌}
 use Rattle.std.proofs.lemmas.Bool.{false≢true}
-use Rattle.std.specs.Prelude.{is_some}
+use Rattle.std.specs.Prelude.{is_some, not}
 use Rattle.inno_types.specs.declared.stmt.Stmt.{Stmt}
 use Rattle.inno_types.specs.declared.reply.Reply.{Reply}
 use Rattle.inno_types.specs.declared.reply.Reply.TheVariants as replies
@@ -19,7 +19,10 @@ module _ (s : ℕ) (old new : List Event) (some : (P : List Event → Type 0) �
       → MayAnswer s statement count kept new
   answers_on same statement count (replies.Count n) may =
       (may.0 ∙ ap (λ db. (outcome statement db).reply) (sym same), may.1 ∙ ap (λ db. length (outcome statement db).changes) (sym same))
-  answers_on same statement count (replies.Fail error) may = may ∙ ap (λ db. (outcome statement db).reply) (sym same)
+  answers_on same statement count (replies.Fail error) may = elim may [
+    | inl refused ↦ inl (refused.0, refused.1 ∙ ap (λ db. (outcome statement db).reply) (sym same))
+    | inr lacks ↦ inr lacks
+  ]
   answers_on same statement count replies.NoMemory may = tt
   answers_on same statement count (replies.RunLimit rows) may = (may.0, may.1, some (λ h. rows ≡ rows_kept h + 1) may.2)
   answers_on same statement count other may = absurd may
@@ -39,7 +42,10 @@ module _ (s : ℕ) (old new : List Event) (some : (P : List Event → Type 0) �
       → AnswersAlike count kept statement (base s (point s new)) (base s (point s old)) → MayAnswer s statement count kept old
       → MayAnswer s statement count kept new
   answers_alike statement count (replies.Count n) no-count alike may = absurd (false≢true (sym no-count))
-  answers_alike statement count (replies.Fail error) no-count alike may = may ∙ sym (alike.reply refl)
+  answers_alike statement count (replies.Fail error) no-count alike may = elim may [
+    | inl refused ↦ inl (refused.0, refused.1 ∙ sym (alike.reply (ap not refused.0)))
+    | inr lacks ↦ inr lacks
+  ]
   answers_alike statement count replies.NoMemory no-count alike may = tt
   answers_alike statement count (replies.RunLimit rows) no-count alike may = (may.0, may.1, some (λ h. rows ≡ rows_kept h + 1) may.2)
   answers_alike statement count other no-count alike may = absurd may

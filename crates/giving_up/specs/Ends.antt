@@ -11,7 +11,7 @@ use Rattle.sql_history.specs.Items.{is_over, point, own_before}
 use Rattle.sql_history.specs.Settings.{Setting}
 use Rattle.sql_history.specs.Statements.{is_on_rows, is_select}
 use Rattle.sql_history.specs.Endings.{RollsBack}
-use Rattle.sql_history.specs.Legal.{Takes, is_alone, AnswersRows, EndsRows, MadeSome, IsGivenUp, WasCommitted, IsOverfull, LeavesIt, CommittedFirst}
+use Rattle.sql_history.specs.Legal.{Takes, is_alone, AnswersRows, EndsRows, MadeSome, IsGivenUp, WasCommitted, IsOverfull, LacksPages, LeavesIt, CommittedFirst}
 use Rattle.sql_history.specs.Waiting.{is_victim}
 use Rattle.sql_lists.specs.Steps.{HasRowsAlone}
 
@@ -37,7 +37,7 @@ pub record IsAnswered (s : ℕ) (kept : Reply) (past : List Event) : Type 0 wher
 abbrev pub EndsWith : ℕ → Reply → List Event → Type 0
 EndsWith s (replies.Rows rows) past = IsAnswered s (replies.Rows rows) past
 EndsWith s (replies.Count n) past = IsAnswered s (replies.Count n) past
-EndsWith s (replies.Fail error) past = IsAnswered s (replies.Fail error) past
+EndsWith s (replies.Fail error) past = IsAnswered s (replies.Fail error) past ⊎ (LacksPages error × IsGivenUp Spells s past)
 EndsWith s (replies.RunLimit rows) past = IsOverfull Spells s rows past × (IsGivenUp Spells s past ⊎ WasCommitted Spells s past)
 EndsWith s replies.NoMemory past = RollsBack s past ⊎ (WasCommitted Spells s past ⊎ (CommittedFirst Spells s past ⊎ LeavesIt Spells s past))
 EndsWith s other past = ⊥

@@ -3,7 +3,8 @@
 use Rattle.std.specs.Prelude.{◌≡◌, ◌⊎◌, ℕ, ◌<◌, Bool, true, false, Option, List, [], ◌++◌, length}
 use Rattle.inno_types.specs.declared.stmt.Stmt.{Stmt}
 use Rattle.inno_types.specs.declared.reply.Reply.{Reply}
-use Rattle.inno_types.specs.declared.reply.Reply.TheVariants.{NoMemory}
+use Rattle.inno_types.specs.declared.reply.Reply.TheVariants.{NoMemory, Fail}
+use Rattle.inno_types.specs.declared.reply.SqlError.TheVariants as errors
 use Rattle.inno_db.specs.declared.change.Change.{Change}
 use Rattle.inno_model.specs.declared.event.Event.{Event}
 use Rattle.inno_model.specs.Past.{before_item, of_item, did, begins_txn, commits_txn, rolls_back_txn, level, own, awaits_ack, IsOpen, IsClosed}
@@ -14,6 +15,8 @@ use Rattle.sql_history.specs.Legal.{Takes, IsWriting}
 use Rattle.sql_history.specs.Waiting.{is_victim}
 use Rattle.shared_lists.specs.Tasks.{Task, Idle, MayTakeBack}
 use Rattle.shared_lists.specs.State.{State, task_of}
+use Rattle.shared_lists.specs.declared.answers.Hindrance.{Hindrance}
+use Rattle.shared_lists.specs.declared.answers.Hindrance.TheVariants as hindrances
 use Rattle.sql_lists.specs.Steps.{HasRowsAlone}
 use Rattle.giving_up.specs.declared.leaving.Work.{Work}
 use Rattle.giving_up.specs.declared.leaving.Leaving.{Leaving}
@@ -77,6 +80,16 @@ MayGoBack before s past task = (task ≡ Idle) ⊎ (MayTakeBack task × (before 
 -- a statement that is given up for want of memory
 abbrev pub given_up : Bool → ℕ → Work
 given_up alone before = record { alone = alone; before = before; kept = NoMemory; given = NoMemory }
+
+-- the reply that names what a change lacked
+abbrev pub reply_for : Hindrance → Reply
+reply_for hindrances.NoMemory = NoMemory
+reply_for (hindrances.Full need free) = Fail (errors.Full need free)
+reply_for hindrances.TooDeep = Fail errors.TooDeep
+
+-- a statement that is given up amid its changes
+abbrev pub given_up_for : Hindrance → Bool → ℕ → Work
+given_up_for why alone before = record { alone = alone; before = before; kept = reply_for why; given = reply_for why }
 
 -- ---- the end
 

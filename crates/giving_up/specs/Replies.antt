@@ -1,5 +1,5 @@
 -- Why a statement that changes rows may reply so, and what its reply rests on.
-use Rattle.std.specs.Prelude.{◌≡◌, ℕ, ◌+◌, ◌<◌, Bool, true, false, Option, List, length, take}
+use Rattle.std.specs.Prelude.{◌≡◌, ◌⊎◌, ℕ, ◌+◌, ◌<◌, Bool, true, false, not, Option, List, length, take}
 use Rattle.inno_types.specs.declared.stmt.Stmt.{Stmt}
 use Rattle.inno_types.specs.declared.stmt.Stmt.TheVariants as stmt
 use Rattle.inno_types.specs.declared.reply.Reply.{Reply}
@@ -11,11 +11,14 @@ use Rattle.inno_model.specs.Moments.{Sometime}
 use Rattle.inno_model.specs.Past.{own, IsOpen}
 use Rattle.sql_history.specs.Items.{base, point, HasMade}
 use Rattle.sql_history.specs.Counts.{rows_kept, most_rows}
+use Rattle.sql_history.specs.Legal.{LacksPages}
+use Rattle.law_histories.specs.Space.{is_of_pages}
 use Rattle.law_db.specs.Beside.{touches}
 use Rattle.law_claims.specs.Claims.{Basis, KeepsBasis, Stands}
 
+-- an error that the statement itself has on its database
 abbrev pub is_refusal : Reply → Bool
-is_refusal (replies.Fail error) = true
+is_refusal (replies.Fail error) = not (is_of_pages error)
 is_refusal other = false
 
 abbrev pub is_count : Reply → Bool
@@ -32,7 +35,8 @@ PutsRows other = ⊥
 abbrev pub MayAnswer : ℕ → Stmt → ℕ → Reply → List Event → Type 0
 MayAnswer s statement count (replies.Count n) past =
     (replies.Count n ≡ (outcome statement (base s (point s past))).reply) × (count ≡ length (outcome statement (base s (point s past))).changes)
-MayAnswer s statement count (replies.Fail error) past = replies.Fail error ≡ (outcome statement (base s (point s past))).reply
+MayAnswer s statement count (replies.Fail error) past =
+    ((is_of_pages error ≡ false) × (replies.Fail error ≡ (outcome statement (base s (point s past))).reply)) ⊎ LacksPages error
 MayAnswer s statement count replies.NoMemory past = Unit {0}
 MayAnswer s statement count (replies.RunLimit rows) past = (most_rows < rows) × PutsRows statement × Sometime (λ h. rows ≡ rows_kept h + 1) s past
 MayAnswer s statement count other past = ⊥

@@ -6,13 +6,13 @@ ghost use Rattle.shared_lists.specs.Tasks.{asked};
 ghost use Rattle.shared_lists.specs.State.{State, task_of};
 ghost use Rattle.sql_lists.specs.Steps.{StaysRunning};
 ghost use Rattle.giving_up.specs.Going.{to_leave};
-ghost use Rattle.giving_up.specs.Leaving.{IsLeaving, owes_ack, acked, given_up};
+ghost use Rattle.giving_up.specs.Leaving.{IsLeaving, owes_ack, acked, given_up, reply_for};
 ghost use Rattle.giving_up.specs.Machines.{MayStep, StepsAs, MovesOnAcked};
 
 use crate::backing::step_backing;
 use crate::ending::{step_ending, step_failed};
-use inno_types::Reply;
-use shared_lists::SharedLists;
+use inno_types::{Reply, SqlError};
+use shared_lists::{Hindrance, SharedLists};
 use sql_lists::{Advance, SqlLists};
 
 /// A statement that ends. Of a reply the history is to keep one copy, and the caller is given the other.
@@ -50,6 +50,17 @@ impl Work {
             kept: Reply::NoMemory,
             given: Reply::NoMemory,
         }
+    }
+}
+
+/// The reply to a statement one of whose changes was hindered.
+pub fn reply_for(why: Hindrance) -> Reply
+    ensures { result ≡ reply_for why }
+{
+    match why {
+        Hindrance::NoMemory => Reply::NoMemory,
+        Hindrance::Full { need, free } => Reply::Fail(SqlError::Full { need, free }),
+        Hindrance::TooDeep => Reply::Fail(SqlError::TooDeep),
     }
 }
 

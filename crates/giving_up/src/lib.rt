@@ -9,5 +9,6 @@ mod leaving;
 
 pub use ending::{commit, end, overfull_by, roll_back};
 pub use leaving::{
-    Leaving, Work, an_acknowledgement_moves_it_on, one_that_leaves_tells_no_change, others_leave_it,
+    Leaving, Work, an_acknowledgement_moves_it_on, one_that_leaves_tells_no_change,
+    others_leave_it, reply_for,
 };

@@ -12,7 +12,7 @@ use giving_up::Leaving;
 use shared_lists::SharedLists;
 use sql_lists::{Advance, SqlLists};
 use std::mem;
-use store_api::{NoMemory, Stepped};
+use store_api::Stepped;
 
 /// Makes one step of the search, whose rows are kept when it is over.
 pub fn step_searching<L: SharedLists>(
@@ -41,7 +41,7 @@ pub fn step_searching<L: SharedLists>(
             drop(mem::replace(statement, ReadStatement::Found(found)));
             Advance::Went
         }
-        Stepped::Hindered(NoMemory) => {
+        Stepped::Hindered(_) => {
             let read = statement.read();
             let alone = read.alone;
             drop(read);

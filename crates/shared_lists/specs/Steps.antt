@@ -1,5 +1,5 @@
 -- What the steps of a session's task do, by their answers.
-use Rattle.std.specs.Prelude.{◌≡◌, ◌⊎◌, ℕ, ◌<◌, Unit, true, List, ◌∷◌, filter, slice_get, Option, Some, None}
+use Rattle.std.specs.Prelude.{◌≡◌, ◌⊎◌, ℕ, ◌<◌, true, List, ◌∷◌, filter, slice_get, Option, Some, None}
 use Rattle.inno_types.specs.{declared.value.Value.Value, declared.value.Schema.Schema}
 use Rattle.inno_db.specs.{Database.rows_of, declared.change.Change.Change, declared.change.Change.TheVariants.Put}
 use Rattle.inno_model.specs.declared.event.Event.{Event}

@@ -379,7 +379,7 @@ pub by_change : (s : ℕ) (old new : Lists) (answer : Changed) → ((other : ℕ
     AreKept new
 by_change s old new stepped.Went alone may changes sets counts kept = by_now old new changes.turns sets (counts ∙ omega arith) kept
 by_change s old new (stepped.Done part.Keys) alone may changes sets counts kept = by_now old new changes.1 sets (counts ∙ omega arith) kept
-by_change s old new (stepped.Hindered why) alone may changes sets counts kept = by_now old new changes sets (counts ∙ omega arith) kept
+by_change s old new (stepped.Hindered why) alone may changes sets counts kept = by_now old new changes.1 sets (counts ∙ omega arith) kept
 by_change s old new (stepped.Done part.Record) alone may changes sets counts kept =
     go changes.change (may changes.change changes.asked_was) changes.now (counts ∙ ap (λ change. old.rows + rows_of_change change) changes.asked_was) where
       go : (change : Change) → MayChange Spells s change old.state.past × IsTabled (length (created old.state.past)) change × IsOfRow change

@@ -28,13 +28,16 @@ use Rattle.write_statement.specs.declared.machine.WriteStatement.{WriteStatement
 use Rattle.giving_up.specs.declared.leaving.Leaving.TheVariants as leaving
 use Rattle.write_statement.specs.declared.machine.WriteStatement.TheVariants as machine
 use Rattle.write_statement.specs.Parts.{of_rest}
-use Rattle.giving_up.specs.Leaving.{given_up}
+use Rattle.giving_up.specs.Leaving.{given_up, given_up_for}
+use Rattle.write_statement.specs.Going.{advance_for}
+use Rattle.shared_lists.specs.declared.answers.Hindrance.{Hindrance}
+use Rattle.shared_lists.specs.declared.answers.Hindrance.TheVariants as hindrances
 use Rattle.write_statement.specs.Running.{IsChanging, IsMaking, IsFinishing, IsRunning, AreParts, HasRoomFor, is_at_change}
 use Rattle.law_claims.specs.Claims.{Tables}
 use Rattle.law_claims.proofs.Keeping.{keeper_writes, keeper_alone}
 use Rattle.write_statement.proofs.Changes.{with_entry, tabled, may_change, changing_then, stands_now}
 use Rattle.write_statement.proofs.There.{removes_one}
-use Rattle.write_statement.proofs.Turning.{changing_given_up}
+use Rattle.write_statement.proofs.Turning.{changing_given_up_for}
 
 -- the change that is asked for may come
 pub may_make : (past : List Event) (writer : Option ℕ) (task : Task) (s : ℕ) (part : Part) (todo : List Change) (rows : ℕ)
@@ -122,22 +125,28 @@ module _ (s : ℕ) (old new : State) (part : Part) (todo : Vec Change Global) (r
   finishing_done turns =
       (moves_turns s Idle old new turns, (changing_on turns.past_is turns.writer_is, turns.task_is), ap (started s) turns.past_is)
 
--- ---- for want of memory
+-- ---- given up
 
 -- what the history doesn't tell was never made
+making_hindered : (s : ℕ) (old new : State) (part : Part) (todo : List Change) (rows : ℕ) (why : Hindrance) (m : WriteStatement) (a : Advance)
+    → IsMaking old.past old.writer (task_of s old) s part todo rows → Changes s old new (stepped.Hindered why)
+    → m ≡ machine.Leaving (leaving.BackingOut (given_up_for why part.alone part.before)) → a ≡ advance_for why → Steps IsRunning s old new m a
+making_hindered s old new part todo rows why m a r changes state answer =
+    changing_given_up_for s old new (left_by (asked (task_of s old))) part (of_rest part) (todo ++ r.change ∷ []) why m a changes.0 r.changing changes.1
+    (inl (ap left_by r.asked_is)) state answer
+
 pub making_given_up : (s : ℕ) (old new : State) (part : Part) (todo : List Change) (rows : ℕ) (m : WriteStatement) (a : Advance)
     → IsMaking old.past old.writer (task_of s old) s part todo rows → Turns s (left_by (asked (task_of s old))) old new
     → m ≡ machine.Leaving (leaving.BackingOut (given_up part.alone part.before)) → a ≡ advance.NoMemory → Steps IsRunning s old new m a
 making_given_up s old new part todo rows m a r turns state answer =
-    changing_given_up s old new (left_by (asked (task_of s old))) part (of_rest part) (todo ++ r.change ∷ []) m a r.changing turns
-    (inl (ap left_by r.asked_is)) state answer
+    making_hindered s old new part todo rows hindrances.NoMemory m a r (tt, turns) state answer
 
 -- and what it tells is to be taken back
-pub finishing_given_up : (s : ℕ) (old new : State) (part : Part) (todo : List Change) (m : WriteStatement) (a : Advance)
-    → IsFinishing old.past old.writer (task_of s old) s part todo → Turns s (left_by (asked (task_of s old))) old new
-    → m ≡ machine.Leaving (leaving.BackingOut (given_up part.alone part.before)) → a ≡ advance.NoMemory → Steps IsRunning s old new m a
-finishing_given_up s old new part todo m a r turns state answer =
-    changing_given_up s old new (left_by (asked (task_of s old))) part (of_rest part) todo m a r.changing turns
+finishing_hindered : (s : ℕ) (old new : State) (part : Part) (todo : List Change) (why : Hindrance) (m : WriteStatement) (a : Advance)
+    → IsFinishing old.past old.writer (task_of s old) s part todo → Changes s old new (stepped.Hindered why)
+    → m ≡ machine.Leaving (leaving.BackingOut (given_up_for why part.alone part.before)) → a ≡ advance_for why → Steps IsRunning s old new m a
+finishing_hindered s old new part todo why m a r changes state answer =
+    changing_given_up_for s old new (left_by (asked (task_of s old))) part (of_rest part) todo why m a changes.0 r.changing changes.1
     (inr (subst MayTakeBack (sym (ap left_by r.told)) tt, r.stands)) state answer
 
 -- ---- where the statement lies
@@ -192,13 +201,13 @@ module _ (s : ℕ) (old new : State) where
       rw (are.0, are.1) (finishing_done s old new it behind r (subst (Changes s old new) done changes).1)
   change_done other answer part todo are r done changes = absurd are
 
-  pub change_fails : (m : WriteStatement) (answer : Changed) (part : Part) (todo : Vec Change Global) (next : WriteStatement) (a : Advance)
-      → AreParts m part todo → IsRunning old s m → answer ≡ stepped.Hindered (record {}) → Changes s old new answer
-      → next ≡ machine.Leaving (leaving.BackingOut (given_up part.alone part.before)) → a ≡ advance.NoMemory → Steps IsRunning s old new next a
-  change_fails (machine.Making it behind rows) answer part todo next a are r failed changes state told =
-      making_given_up s old new it behind.items rows next a r (subst (Changes s old new) failed changes)
-      (state ∙ ap (λ (p : Part). machine.Leaving (leaving.BackingOut (given_up p.alone p.before))) are.0) told
-  change_fails (machine.Finishing it behind) answer part todo next a are r failed changes state told =
-      finishing_given_up s old new it behind.items next a r (subst (Changes s old new) failed changes)
-      (state ∙ ap (λ (p : Part). machine.Leaving (leaving.BackingOut (given_up p.alone p.before))) are.0) told
-  change_fails other answer part todo next a are r failed changes state told = absurd are
+  pub change_fails : (m : WriteStatement) (answer : Changed) (why : Hindrance) (part : Part) (todo : Vec Change Global) (next : WriteStatement) (a : Advance)
+      → AreParts m part todo → IsRunning old s m → answer ≡ stepped.Hindered why → Changes s old new answer
+      → next ≡ machine.Leaving (leaving.BackingOut (given_up_for why part.alone part.before)) → a ≡ advance_for why → Steps IsRunning s old new next a
+  change_fails (machine.Making it behind rows) answer why part todo next a are r failed changes state told =
+      making_hindered s old new it behind.items rows why next a r (subst (Changes s old new) failed changes)
+      (state ∙ ap (λ (p : Part). machine.Leaving (leaving.BackingOut (given_up_for why p.alone p.before))) are.0) told
+  change_fails (machine.Finishing it behind) answer why part todo next a are r failed changes state told =
+      finishing_hindered s old new it behind.items why next a r (subst (Changes s old new) failed changes)
+      (state ∙ ap (λ (p : Part). machine.Leaving (leaving.BackingOut (given_up_for why p.alone p.before))) are.0) told
+  change_fails other answer why part todo next a are r failed changes state told = absurd are

@@ -3,11 +3,12 @@ use Rattle.std.proofs.Common.{◌≡◌, ℕ, ◌+◌, ◌<◌, Bool, true, fals
 use Rattle.std.proofs.Common.{reverse, refl, sym, ap, subst, ◌∙◌, inl, inr}
 use Rattle.std.proofs.lemmas.Bool.{false≢true}
 use Rattle.std.proofs.lemmas.List.{append_assoc}
-use Rattle.std.specs.Prelude.{is_some}
+use Rattle.std.specs.Prelude.{is_some, not}
 use Rattle.inno_types.specs.declared.stmt.Stmt.{Stmt}
 use Rattle.inno_types.specs.declared.stmt.Stmt.TheVariants as stmt
 use Rattle.inno_types.specs.declared.reply.Reply.{Reply}
 use Rattle.inno_types.specs.declared.reply.Reply.TheVariants as replies
+use Rattle.inno_types.specs.declared.reply.SqlError.TheVariants as errors
 use Rattle.inno_types.specs.declared.value.Value.{Value}
 use Rattle.inno_db.specs.declared.change.Change.{Change}
 use Rattle.inno_db.specs.declared.change.Change.TheVariants.{Put}
@@ -20,8 +21,12 @@ use Rattle.inno_model.specs.Moments.{Sometime}
 use Rattle.inno_model.specs.Past.{changed, level, own, IsOpen}
 use Rattle.sql_history.specs.Items.{own_before, base, point, HasMade}
 use Rattle.sql_history.specs.Legal.{IsWriting}
+use Rattle.law_histories.specs.Space.{is_of_pages}
 use Rattle.sql_history.specs.Counts.{rows_kept, most_rows}
 use Rattle.shared_lists.specs.Tasks.{Task, Idle}
+use Rattle.shared_lists.specs.Steps.{IsLacking}
+use Rattle.shared_lists.specs.declared.answers.Hindrance.{Hindrance}
+use Rattle.shared_lists.specs.declared.answers.Hindrance.TheVariants as hindrances
 use Rattle.sql_lists.proofs.Staying.{point_now}
 use Rattle.write_statement.specs.declared.machine.Part.{Part}
 use Rattle.giving_up.specs.declared.leaving.Work.{Work}
@@ -30,7 +35,7 @@ use Rattle.write_statement.specs.Parts.{GoesOnWith}
 use Rattle.giving_up.specs.Replies.{KeepsReply, PutsRows, MayAnswer}
 use Rattle.giving_up.specs.Leaving.{IsWorking, IsBackingOut, MayGoBack}
 use Rattle.write_statement.specs.Running.{IsEarly, IsChanging}
-use Rattle.giving_up.specs.Leaving.{given_up}
+use Rattle.giving_up.specs.Leaving.{given_up, given_up_for}
 use Rattle.write_statement.specs.Running.{basis_for}
 use Rattle.law_db.specs.Beside.{touches}
 use Rattle.law_claims.specs.Claims.{Claim, Tables, Basis, RestsOn, Stands}
@@ -64,6 +69,11 @@ early_given_up h writer s statement work early before-is kept-is given-is =
       rest = [];
       own_is = early.unchanged;
     }
+
+-- a refusal is no error of pages
+not_pages : (b : Bool) → not b ≡ true → b ≡ false
+not_pages false is = refl
+not_pages true is = absurd (false≢true is)
 
 module _ (g : List Event) (writer : Option ℕ) (s : ℕ) (part : Part) (next : Database → Outcome) (todo : List Change)
     (r : IsChanging g writer s part next todo) where
@@ -126,7 +136,7 @@ module _ (g : List Event) (writer : Option ℕ) (s : ℕ) (part : Part) (next : 
 
   refused_answers : (count : ℕ) (kept : Reply) → is_refusal kept ≡ true → kept ≡ (outcome r.statement (base s (point s g))).reply
       → (is_count kept ≡ false) × MayAnswer s r.statement count kept g
-  refused_answers count (replies.Fail error) is answer = (refl, answer)
+  refused_answers count (replies.Fail error) is answer = (refl, inl (not_pages (is_of_pages error) is, answer))
   refused_answers count other is answer = absurd (false≢true is)
 
   -- the interpreter refuses it
@@ -156,6 +166,20 @@ pub changing_no_memory : (past : List Event) (writer : Option ℕ) (s : ℕ) (pa
     → IsChanging past writer s part next todo → IsBackingOut past writer s (given_up part.alone part.before)
 changing_no_memory past writer s part next todo r = gives_up past writer s part next todo r (given_up part.alone part.before) refl refl refl refl tt
     (unrefused_keeps past writer s part next todo r replies.NoMemory refl)
+
+-- ---- for what a change lacks
+
+pub changing_hindered : (past : List Event) (writer : Option ℕ) (s : ℕ) (part : Part) (next : Database → Outcome) (todo : List Change) (why : Hindrance)
+    → IsLacking why → IsChanging past writer s part next todo → IsBackingOut past writer s (given_up_for why part.alone part.before)
+changing_hindered past writer s part next todo hindrances.NoMemory lacks r = changing_no_memory past writer s part next todo r
+changing_hindered past writer s part next todo (hindrances.Full need free) lacks r =
+    let reply : Reply = replies.Fail (errors.Full need free) in
+    gives_up past writer s part next todo r (given_up_for (hindrances.Full need free) part.alone part.before) refl refl refl refl (inr lacks)
+    (unrefused_keeps past writer s part next todo r reply refl)
+changing_hindered past writer s part next todo hindrances.TooDeep lacks r =
+    let reply : Reply = replies.Fail errors.TooDeep in
+    gives_up past writer s part next todo r (given_up_for hindrances.TooDeep part.alone part.before) refl refl refl refl (inr lacks)
+    (unrefused_keeps past writer s part next todo r reply refl)
 
 -- ---- for want of rows
 

@@ -17,11 +17,13 @@ use Rattle.shared_lists.specs.Answers.{Searched}
 use Rattle.store_api.specs.declared.stepped.Stepped.TheVariants as stepped
 use Rattle.shared_lists.specs.Tasks.{Task, Idle, Searching, is_changing, asked}
 use Rattle.shared_lists.specs.State.{State, Turns, Stays, task_of}
-use Rattle.shared_lists.specs.Steps.{AreRowsSeen, Searches}
+use Rattle.shared_lists.specs.Steps.{AreRowsSeen, Searches, IsLacking}
+use Rattle.shared_lists.specs.declared.answers.Hindrance.{Hindrance}
+use Rattle.shared_lists.specs.declared.answers.Hindrance.TheVariants as hindrances
 use Rattle.sql_history.specs.Counts.{rows_of_entry, rows_kept, most_rows}
 use Rattle.law_past_agreement.specs.Order.{created, IsOfRow}
 use Rattle.sql_plan.specs.declared.choice.Plan.{Plan}
-use Rattle.sql_lists.specs.Steps.{Steps}
+use Rattle.sql_lists.specs.Steps.{Steps, Moves}
 use Rattle.sql_lists.specs.declared.advance.Advance.{Advance}
 use Rattle.sql_lists.specs.declared.advance.Advance.TheVariants as advance
 use Rattle.sql_lists.proofs.Moving.{moves_turns, moves_stays, moves_none, carried}
@@ -31,10 +33,11 @@ use Rattle.giving_up.specs.declared.leaving.Leaving.TheVariants as leaving
 use Rattle.write_statement.specs.declared.machine.WriteStatement.TheVariants as machine
 use Rattle.sql_plan.specs.Planning.{IsPlanFor}
 use Rattle.write_statement.specs.Parts.{of_part, of_rest}
-use Rattle.giving_up.specs.Leaving.{IsBackingOut, MayGoBack, given_up}
+use Rattle.giving_up.specs.Leaving.{IsBackingOut, MayGoBack, given_up, given_up_for}
+use Rattle.write_statement.specs.Going.{advance_for}
 use Rattle.write_statement.specs.Running.{IsEarly, IsReading, IsSearching, IsFound, IsChanging, IsRunning}
 use Rattle.giving_up.proofs.Moving.{steps_as}
-use Rattle.write_statement.proofs.GivingUp.{early_no_memory, changing_no_memory, broken_off, overfull}
+use Rattle.write_statement.proofs.GivingUp.{early_no_memory, changing_hindered, broken_off, overfull}
 
 pub turns_none : (s : ℕ) (state : State) → task_of s state ≡ Idle → Turns s Idle state state
 turns_none s state idle = record { names_are = refl; past_is = refl; writer_is = refl; task_is = idle; others = λ t differ. refl }
@@ -45,6 +48,12 @@ turns_stayed s old new stays idle =
     record { names_are = stays.names_are; past_is = stays.past_is; writer_is = stays.writer_is; task_is = stays.task_is ∙ idle; others = stays.others }
 
 -- ---- given up
+
+-- a step that changes nothing, for whatever it lacks
+leaves_by : {s : ℕ} {old new : State} {m : WriteStatement} (why : Hindrance) → Moves s old new → IsRunning new s m → new.past ≡ old.past
+    → Steps IsRunning s old new m (advance_for why)
+leaves_by hindrances.NoMemory moves runs same = (moves, runs, same)
+leaves_by {s} other moves runs same = (moves, runs, ap (started s) same)
 
 pub early_given_up : (s : ℕ) (old new : State) (statement : Stmt) (alone : Bool) (before : ℕ) (m : WriteStatement) (a : Advance)
     → IsEarly s statement alone old.past → before ≡ length (own s old.past) → Turns s Idle old new
@@ -58,18 +67,25 @@ early_given_up s old new statement alone before m a early before-is turns state 
     )
 
 -- amid its changes
+pub changing_given_up_for : (s : ℕ) (old new : State) (task : Task) (part : Part) (next : Database → Outcome) (todo : List Change) (why : Hindrance)
+    (m : WriteStatement) (a : Advance) → IsLacking why → IsChanging old.past old.writer s part next todo → Turns s task old new
+    → MayGoBack part.before s old.past task → m ≡ machine.Leaving (leaving.BackingOut (given_up_for why part.alone part.before)) → a ≡ advance_for why
+    → Steps IsRunning s old new m a
+changing_given_up_for s old new task part next todo why m a lacks r turns back state answer =
+    let work = given_up_for why part.alone part.before in
+    let given : IsBackingOut new.past new.writer s work =
+    subst (λ h. IsBackingOut h new.writer s work) (sym turns.past_is)
+    (subst (λ w. IsBackingOut old.past w s work) (sym turns.writer_is) (changing_hindered old.past old.writer s part next todo why lacks r)) in
+    let goes : MayGoBack part.before s new.past (task_of s new) =
+    subst (λ h. MayGoBack part.before s h (task_of s new)) (sym turns.past_is) (subst (MayGoBack part.before s old.past) (sym turns.task_is) back) in
+    steps_as IsRunning s old new m (machine.Leaving (leaving.BackingOut work)) a (advance_for why) state answer
+    (leaves_by why (moves_turns s task old new turns) (given, goes) turns.past_is)
+
 pub changing_given_up : (s : ℕ) (old new : State) (task : Task) (part : Part) (next : Database → Outcome) (todo : List Change) (m : WriteStatement)
     (a : Advance) → IsChanging old.past old.writer s part next todo → Turns s task old new → MayGoBack part.before s old.past task
     → m ≡ machine.Leaving (leaving.BackingOut (given_up part.alone part.before)) → a ≡ advance.NoMemory → Steps IsRunning s old new m a
 changing_given_up s old new task part next todo m a r turns back state answer =
-    let given : IsBackingOut new.past new.writer s (given_up part.alone part.before) =
-    subst (λ h. IsBackingOut h new.writer s (given_up part.alone part.before)) (sym turns.past_is)
-    (subst (λ w. IsBackingOut old.past w s (given_up part.alone part.before)) (sym turns.writer_is)
-    (changing_no_memory old.past old.writer s part next todo r)) in
-    let goes : MayGoBack part.before s new.past (task_of s new) =
-    subst (λ h. MayGoBack part.before s h (task_of s new)) (sym turns.past_is) (subst (MayGoBack part.before s old.past) (sym turns.task_is) back) in
-    steps_as IsRunning s old new m (machine.Leaving (leaving.BackingOut (given_up part.alone part.before))) a advance.NoMemory state answer
-    (moves_turns s task old new turns, (given, goes), turns.past_is)
+    changing_given_up_for s old new task part next todo hindrances.NoMemory m a tt r turns back state answer
 
 -- its reply is that the history would hold too many rows
 pub broke_off : (s : ℕ) (state : State) (part : Part) (next : Database → Outcome) (todo : List Change) (change : Change) (table : ℕ) (row : List Value)

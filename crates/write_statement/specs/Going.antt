@@ -2,6 +2,8 @@
 use Rattle.std.specs.Prelude.{ℕ, ◌+◌, ◌*◌, List, length}
 use Rattle.shared_lists.specs.Tasks.{steps_left}
 use Rattle.shared_lists.specs.State.{State, task_of}
+use Rattle.shared_lists.specs.declared.answers.Hindrance.{Hindrance}
+use Rattle.shared_lists.specs.declared.answers.Hindrance.TheVariants.{NoMemory}
 use Rattle.sql_lists.specs.declared.advance.Advance.{Advance}
 use Rattle.sql_lists.specs.declared.advance.Advance.TheVariants as advance
 use Rattle.sql_lists.specs.Going.{left, to_search}
@@ -27,6 +29,11 @@ to_go s state (machine.Making part todo rows) =
 to_go s state (machine.Finishing part todo) =
     left (4 + 2 * length part.later.items) (3 * length todo.items + 1) (steps_left (task_of s state)) 0
 to_go s state (machine.Leaving leaving) = to_leave s state leaving
+
+-- how the step answers by which a change is given up
+abbrev pub advance_for : Hindrance → Advance
+advance_for NoMemory = advance.NoMemory
+advance_for other = advance.Went
 
 -- A step that went, or that found no memory, leaves less than so much.
 abbrev pub IsNearer : List ℕ → ℕ → State → WriteStatement → Advance → Type 0

@@ -6,16 +6,16 @@ ghost use Rattle.shared_lists.specs.Tasks.{Idle};
 ghost use Rattle.shared_lists.specs.State.{task_of};
 ghost use Rattle.sql_lists.specs.Steps.{Steps};
 ghost use Rattle.sql_lists.specs.Going.{left};
-ghost use Rattle.write_statement.specs.Going.{IsNearer};
+ghost use Rattle.write_statement.specs.Going.{IsNearer, advance_for};
 ghost use Rattle.write_statement.specs.Parts.{of_part};
 ghost use Rattle.write_statement.specs.Running.{IsChanging, AreEnough, IsRunning};
-ghost use Rattle.giving_up.specs.Leaving.{given_up};
+ghost use Rattle.giving_up.specs.Leaving.{given_up, given_up_for};
 
 use crate::machine::{Part, WriteStatement};
 use crate::settling::{Settled, settle};
-use giving_up::{Leaving, Work};
+use giving_up::{Leaving, Work, reply_for};
 use inno_types::{Reply, Rows};
-use shared_lists::SharedLists;
+use shared_lists::{Hindrance, SharedLists};
 use sql_lists::{Advance, SqlLists};
 use std::alloc::Global;
 
@@ -64,6 +64,18 @@ pub fn give_up(part: Part) -> (WriteStatement, Advance)
     let (alone, before) = (part.alone, part.before);
     drop(part);
     give_up_at(alone, before)
+}
+
+/// A change was hindered: what was made of the whole statement is to be taken back, and the reply names what was lacking.
+pub fn give_up_for(why: Hindrance, part: Part) -> (WriteStatement, Advance)
+    ensures state { result.0 ≡ WriteStatement.Leaving (Leaving.BackingOut (given_up_for why part.alone part.before)) }
+    ensures answer { result.1 ≡ advance_for why }
+{
+    let answer = match why {
+        Hindrance::NoMemory => Advance::NoMemory,
+        Hindrance::Full { .. } | Hindrance::TooDeep => Advance::Went,
+    };
+    (refuse(part, reply_for(why), reply_for(why)), answer)
 }
 
 /// No memory was found, where no part is at work.

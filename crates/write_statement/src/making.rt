@@ -7,13 +7,13 @@ ghost use Rattle.sql_lists.specs.Going.{Nears};
 ghost use Rattle.write_statement.specs.Going.{to_go};
 ghost use Rattle.write_statement.specs.Running.{IsRunning, HasRoomFor, is_at_change};
 
-use crate::answering::give_up;
+use crate::answering::{give_up, give_up_for};
 use crate::machine::{Part, WriteStatement};
 use inno_db::Change;
 use shared_lists::{ChangePart, SharedLists};
 use sql_lists::{Advance, SqlLists};
 use std::mem;
-use store_api::{NoMemory, Stepped};
+use store_api::Stepped;
 
 /// Makes a step of a change that the history doesn't tell yet, and by which it will hold so many rows more.
 pub fn step_making<L: SharedLists>(
@@ -86,10 +86,10 @@ pub fn step_change<L: SharedLists>(
             drop(mem::replace(statement, WriteStatement::Changing { part, todo }));
             Advance::Went
         }
-        Stepped::Hindered(NoMemory) => {
+        Stepped::Hindered(why) => {
             let (part, todo) = statement.parts();
             drop(todo);
-            let (next, answer) = give_up(part);
+            let (next, answer) = give_up_for(why, part);
             drop(mem::replace(statement, next));
             answer
         }

@@ -14,7 +14,7 @@ use shared_lists::SharedLists;
 use sql_lists::{Advance, SqlLists};
 use std::alloc::Global;
 use std::mem;
-use store_api::{NoMemory, Stepped};
+use store_api::Stepped;
 
 /// Makes one step of the search.
 pub fn step_searching<L: SharedLists>(
@@ -37,7 +37,7 @@ pub fn step_searching<L: SharedLists>(
             drop(mem::replace(statement, next));
             answer
         }
-        Stepped::Hindered(NoMemory) => {
+        Stepped::Hindered(_) => {
             let (next, answer) = give_up(statement.part());
             drop(mem::replace(statement, next));
             answer

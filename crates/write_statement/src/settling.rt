@@ -6,8 +6,8 @@ ghost use Rattle.inno_db.specs.Database.{Database};
 ghost use Rattle.inno_db.specs.Outcome.{outcome, table_read};
 ghost use Rattle.inno_db.specs.Refusals.{refusal};
 ghost use Rattle.plain_sql.specs.Finding.{IsReadFrom};
-ghost use Rattle.giving_up.specs.Replies.{is_count, is_refusal};
-ghost use Rattle.write_statement.specs.Settling.{IsSettledBy};
+ghost use Rattle.giving_up.specs.Replies.{is_count};
+ghost use Rattle.write_statement.specs.Settling.{IsSettledBy, is_fail};
 
 use inno_db::{Change, Outcome};
 use inno_types::{Listed, Reply, Rows, Schema, Stmt};
@@ -65,7 +65,7 @@ fn is_count(reply: &Reply) -> bool
 /// A copy of a refusal. A statement that changes rows has no other reply but a count.
 fn copied(reply: &Reply) -> Result<Reply, NoMemory>
     ensures same { IfOk result (λ copy. copy ≡ reply.now) }
-    ensures refused { IfOk result (λ copy. is_refusal copy ≡ true) }
+    ensures failed { IfOk result (λ copy. is_fail copy ≡ true) }
 {
     match reply {
         Reply::Fail(_) => Ok(reply.copied()?),

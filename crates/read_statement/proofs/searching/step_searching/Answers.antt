@@ -38,5 +38,5 @@ returns-in-Hindered-clause-steps g c =
     let read = c.read-read.result in
     let is = subst (λ (m : ReadStatement). IsRunning c.args.lists.now c.args.session m) c.read-read.ensures c.requires.running in
     fails c.args.session c.args.lists.now c.search.new.self read.stmt read.alone
-    (c.in-Hindered.ensures.searches read.table is.plan View is.task_is) is.early is.is_open
+    (c.in-Hindered.ensures.searches read.table is.plan View is.task_is).1 is.early is.is_open
     )

@@ -43,6 +43,7 @@ pub returns-in-Hindered-clause-steps : goal.returns-in-Hindered-clause-steps
 returns-in-Hindered-clause-steps g c =
     rw (c.replace-in-Hindered.ensures.after) (
     change_fails c.args.session c.args.lists.now c.change.new.self c.args.statement.now c.change.result
-    c.parts-part-in-Hindered.result.0 c.parts-part-in-Hindered.result.1 c.give_up-next.result.0 c.give_up-next.result.1
-    c.parts-part-in-Hindered.ensures c.requires.running c.in-Hindered.is c.change.ensures.changes c.give_up-next.ensures.state c.give_up-next.ensures.answer
+    c.in-Hindered.why c.parts-part-in-Hindered.result.0 c.parts-part-in-Hindered.result.1 c.give_up_for-next.result.0 c.give_up_for-next.result.1
+    c.parts-part-in-Hindered.ensures c.requires.running c.in-Hindered.is c.change.ensures.changes c.give_up_for-next.ensures.state
+    c.give_up_for-next.ensures.answer
     )

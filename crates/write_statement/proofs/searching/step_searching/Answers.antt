@@ -74,8 +74,8 @@ returns-in-Hindered-clause-steps g c =
     let part = c.part.result in
     let r = subst (λ (m : WriteStatement). IsRunning c.args.lists.now c.args.session m) c.part.ensures c.requires.running in
     let turns =
-    searches_as c.args.session c.args.lists.now c.search.new.self part c.search.result (Hindered c.in-Hindered.field-0) r c.in-Hindered.is
-    (c.search.ensures.searches part.table r.reading.plan Newest r.task_is) in
+    (searches_as c.args.session c.args.lists.now c.search.new.self part c.search.result (Hindered c.in-Hindered.field-0) r c.in-Hindered.is
+    (c.search.ensures.searches part.table r.reading.plan Newest r.task_is)).1 in
     changing_given_up c.args.session c.args.lists.now c.search.new.self Idle part (of_part part) [] c.give_up-next.result.0 c.give_up-next.result.1
     r.reading.changing turns (inl refl) c.give_up-next.ensures.state c.give_up-next.ensures.answer
     )
