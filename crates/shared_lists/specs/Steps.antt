@@ -12,7 +12,7 @@ use Rattle.shared_lists.specs.{declared.answers.Reading.Reading, declared.answer
 use Rattle.store_api.specs.declared.stepped.Stepped.TheVariants as stepped
 use Rattle.shared_lists.specs.declared.answers.ChangePart.TheVariants as part
 use Rattle.shared_lists.specs.declared.answers.Hindrance.{Hindrance}
-use Rattle.shared_lists.specs.declared.answers.Hindrance.TheVariants.{NoMemory, Full, TooDeep}
+use Rattle.shared_lists.specs.declared.answers.Hindrance.TheVariants.{NoMemory, Full}
 use Rattle.shared_lists.specs.Answers.{Searched, Changed, Undone}
 use Rattle.shared_lists.specs.Tasks.{Task, Idle, Undoing, is_changing, asked, steps_left, left_by, undo_to_go}
 use Rattle.shared_lists.specs.State.{State, task_of, IsNow, Turns}
