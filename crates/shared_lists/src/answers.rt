@@ -19,10 +19,7 @@ pub enum Reading {
 pub enum Hindrance {
     NoMemory,
     /// The change needs more pages than are free.
-    Full {
-        need: u32,
-        free: u32,
-    },
+    Full { need: u32, free: u32 },
     /// A tree of eight levels would have one more.
     TooDeep,
 }
