@@ -1,5 +1,5 @@
 -- A reply that may come stays so where the item's point does, or the rows that were latest there.
-use Rattle.std.proofs.Common.{◌≡◌, ℕ, ◌+◌, inl, inr, false, List, ◌++◌, length, reverse, refl, sym, ap, subst, ◌∙◌}
+use Rattle.std.proofs.Common.{◌≡◌, ℕ, ◌+◌, inl, inr, false, List, ◌++◌, length, reverse, sym, ap, subst, ◌∙◌}
 use Rattle.std.proofs.lemmas.Bool.{false≢true}
 use Rattle.std.specs.Prelude.{is_some, not}
 use Rattle.inno_types.specs.declared.stmt.Stmt.{Stmt}
