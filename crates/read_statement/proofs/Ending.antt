@@ -104,7 +104,7 @@ module _ (s : ℕ) (h p : List Event) (there : point s p ≡ h) (statement : Stm
 
   ends_with : (kept : Reply) → IsSettledBy kept h s statement → LeavesTxn kept takes.setting s p → EndsWith s kept p
   ends_with (replies.Rows rows) seen goes = answered (replies.Rows rows) seen goes
-  ends_with (replies.Fail error) seen backs = answered (replies.Fail error) seen backs
+  ends_with (replies.Fail error) seen backs = inl (answered (replies.Fail error) seen backs)
   ends_with (replies.RunLimit rows) many backs = (overfull rows many, inl (given_up backs))
   ends_with other settled backs = absurd settled
 

@@ -1,8 +1,6 @@
 -- The rows that a search found are enough: a part has the outcome that it has over the latest rows with the session's own.
-use Rattle.std.proofs.Common.{◌≡◌, ℕ, ◌<◌, Bool, true, false, Option, Some, None, List, [], ◌∷◌, ◌++◌, length, reverse, refl, sym, ap, subst, ◌∙◌, arith}
-use Rattle.std.proofs.lemmas.List.{append-nil, append_assoc, length-append}
+use Rattle.std.proofs.Common.{◌≡◌, ℕ, Bool, true, false, Option, Some, None, List, [], ◌∷◌, ◌++◌, length, reverse, refl, sym, ap, subst, ◌∙◌}
 use Rattle.std.proofs.lemmas.List.Elements.{All-nil, All-cons, All-head, All-tail, All-weaker}
-use Rattle.std.specs.FinMap.{insert, remove}
 use Rattle.std.specs.List.{list_all}
 use Rattle.std.specs.Prelude.{All, ◌&&◌, ◌==◌, not, filter, slice_get}
 use Rattle.inno_types.specs.declared.value.Value.{Value}
@@ -15,9 +13,8 @@ use Rattle.inno_types.specs.declared.stmt.Stmt.TheVariants as stmt
 use Rattle.inno_types.specs.declared.reply.SqlError.{SqlError}
 use Rattle.inno_types.specs.declared.reply.SqlError.TheVariants.{NoColumn, NoDefault, Syntax, TwiceNamed, WrongCount}
 use Rattle.inno_db.specs.declared.change.Change.{Change}
-use Rattle.inno_db.specs.declared.change.Change.TheVariants.{Create, Put, Remove}
 use Rattle.inno_db.specs.declared.outcome.Outcome.{Outcome}
-use Rattle.inno_db.specs.Database.{Database, RowMap, key_in, rows_of}
+use Rattle.inno_db.specs.Database.{Database, RowMap, rows_of}
 use Rattle.inno_db.specs.Names.{table_place}
 use Rattle.inno_db.specs.Outcome.{outcome, answer_to, unless_refused, counted, inserted, insert_answer, on_number, on_schema, table_read}
 use Rattle.inno_db.specs.Refusals.{refusal, refused_if, on_table, schema_at, schema_named, insert_refusal, update_refusal, delete_refusal, names_known}
@@ -25,10 +22,9 @@ use Rattle.inno_db.specs.Refusals.{names_twice, width_of, leaves_out}
 use Rattle.inno_db.specs.Typing.{filter_fits, set_fits, set_known, tuple_fits, where_fits, where_known}
 use Rattle.inno_db.specs.Keyed.{IsKeyed}
 use Rattle.inno_model.specs.declared.event.Event.{Event}
-use Rattle.inno_model.specs.Past.{own, commits, opening, changed, current}
+use Rattle.inno_model.specs.Past.{own, commits, changed, current}
 use Rattle.law_past_agreement.specs.Order.{created, IsOrdered}
 use Rattle.law_past_agreement.specs.Rows.{seen}
-use Rattle.law_past_agreement.proofs.Tables.{key_stays}
 use Rattle.law_past_agreement.specs.DatabaseTables.{with_all_tables}
 use Rattle.sql_history.specs.Items.{own_before, base}
 use Rattle.sql_history.specs.Legal.{IsWriting}
@@ -49,7 +45,7 @@ use Rattle.sql_plan.specs.declared.choice.Plan.{Plan}
 use Rattle.sql_plan.specs.Plans.{whole_index}
 use Rattle.inno_types.specs.Ranges.{is_within}
 use Rattle.sql_plan.specs.Visits.{index_key, IsRowOf}
-use Rattle.sql_lists.specs.Kept.{AreStanding, AreInOrder, IsInOrder, made}
+use Rattle.sql_lists.specs.Kept.{AreStanding, IsInOrder}
 use Rattle.sql_lists.proofs.MoreTables.{same_map}
 use Rattle.write_statement.specs.declared.machine.Part.{Part}
 use Rattle.sql_plan.specs.Planning.{Covers, HoldsKeys, HoldsMatches}

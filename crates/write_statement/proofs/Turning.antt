@@ -50,10 +50,10 @@ turns_stayed s old new stays idle =
 -- ---- given up
 
 -- a step that changes nothing, for whatever it lacks
-leaves_by : {s : ℕ} {old new : State} {m : WriteStatement} (why : Hindrance) → Moves s old new → IsRunning new s m → new.past ≡ old.past
+leaves_by : (s : ℕ) (old new : State) (m : WriteStatement) (why : Hindrance) → Moves s old new → IsRunning new s m → new.past ≡ old.past
     → Steps IsRunning s old new m (advance_for why)
-leaves_by hindrances.NoMemory moves runs same = (moves, runs, same)
-leaves_by {s} other moves runs same = (moves, runs, ap (started s) same)
+leaves_by s old new m hindrances.NoMemory moves runs same = (moves, runs, same)
+leaves_by s old new m other moves runs same = (moves, runs, ap (started s) same)
 
 pub early_given_up : (s : ℕ) (old new : State) (statement : Stmt) (alone : Bool) (before : ℕ) (m : WriteStatement) (a : Advance)
     → IsEarly s statement alone old.past → before ≡ length (own s old.past) → Turns s Idle old new
@@ -79,7 +79,7 @@ changing_given_up_for s old new task part next todo why m a lacks r turns back s
     let goes : MayGoBack part.before s new.past (task_of s new) =
     subst (λ h. MayGoBack part.before s h (task_of s new)) (sym turns.past_is) (subst (MayGoBack part.before s old.past) (sym turns.task_is) back) in
     steps_as IsRunning s old new m (machine.Leaving (leaving.BackingOut work)) a (advance_for why) state answer
-    (leaves_by why (moves_turns s task old new turns) (given, goes) turns.past_is)
+    (leaves_by s old new (machine.Leaving (leaving.BackingOut work)) why (moves_turns s task old new turns) (given, goes) turns.past_is)
 
 pub changing_given_up : (s : ℕ) (old new : State) (task : Task) (part : Part) (next : Database → Outcome) (todo : List Change) (m : WriteStatement)
     (a : Advance) → IsChanging old.past old.writer s part next todo → Turns s task old new → MayGoBack part.before s old.past task
