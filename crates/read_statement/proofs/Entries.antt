@@ -23,7 +23,6 @@ use Rattle.giving_up.specs.Machines.{MovesOnAcked}
 use Rattle.giving_up.proofs.Closing as of_leaving
 use Rattle.giving_up.proofs.Nothing.{own_nothing, level_nothing, turn_nothing}
 use Rattle.read_statement.specs.declared.machine.Asked.{Asked}
-use Rattle.read_statement.specs.declared.machine.ReadStatement.{ReadStatement}
 use Rattle.read_statement.specs.declared.machine.ReadStatement.TheVariants as machine
 use Rattle.read_statement.specs.Going.{to_go}
 use Rattle.read_statement.specs.Running.{IsTakenWith, IsUnrefused, IsOpening, IsIn, IsEarly, HasView, MayTakeView, IsRunning, owes_ack, acked}

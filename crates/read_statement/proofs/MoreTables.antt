@@ -1,9 +1,8 @@
 -- Changes leave the same rows over more tables, and what a session sees of a table stays where tables come to these.
-use Rattle.std.proofs.Common.{◌≡◌, ℕ, zero, suc, ◌<◌, ◌≤◌, true, Some, List, [], ◌∷◌, ◌++◌, length, refl, sym, ap, subst, ◌∙◌}
-use Rattle.std.proofs.lemmas.List.{append-nil, append_assoc}
+use Rattle.std.proofs.Common.{◌≡◌, ℕ, zero, suc, ◌≤◌, true, Some, List, [], ◌∷◌, ◌++◌, length, refl, sym, ap, subst, ◌∙◌}
 use Rattle.std.specs.Prelude.{slice_get}
 use Rattle.std.specs.List.{AllByRecursion}
-use Rattle.std.specs.FinMap.{insert, remove}
+use Rattle.std.specs.FinMap.{remove}
 use Rattle.inno_types.specs.declared.value.Value.{Value}
 use Rattle.inno_types.specs.declared.value.Schema.{Schema}
 use Rattle.inno_types.specs.declared.stmt.Stmt.{Stmt}
@@ -18,7 +17,7 @@ use Rattle.law_past_agreement.proofs.Tables.{key_stays}
 use Rattle.law_past_agreement.specs.DatabaseTables.{with_all_tables}
 use Rattle.sql_plan.specs.declared.choice.Plan.{Plan}
 use Rattle.shared_lists.specs.Steps.{AreRowsSeen, rows_in_range}
-use Rattle.sql_lists.specs.Kept.{made, AreInOrder}
+use Rattle.sql_lists.specs.Kept.{made}
 use Rattle.sql_lists.proofs.MoreTables.{over, key_over, put_alike, rows_of_map}
 use Rattle.sql_lists.proofs.Standing.{schemas_after}
 use Rattle.sql_lists.proofs.Staying.{opening_stays}
