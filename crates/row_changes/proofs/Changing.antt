@@ -8,7 +8,7 @@ use Rattle.entries.specs.{Index.Index, Index.Paged, Index.Told, Index.Goes, Inde
 use Rattle.entries.specs.{Calls.Inserts}
 use Rattle.entries.specs.Pairs.{Pair, value_of}
 use Rattle.law_stored_rows.specs.{Edits.clustered_index, Edits.with_value, Records.IsCodeOf, Records.row_shown, Storable.IsStorable}
-use Rattle.world.specs.{Stores.StoreGoes, Undoing.IsReady, Undoing.IsUnchanged, Undoing.MakesRoom, Sessions.with_room}
+use Rattle.world.specs.{Stores.StoreGoes, Undoing.IsReady, Undoing.IsUnchanged, Undoing.MakesRoom, Sessions.with_room, AtHand.IsAtHand}
 use Rattle.world.specs.State.{WorldState, Session, Work, with_session, IsIndex, HasWork}
 use Rattle.world.specs.Indexes.{InIndex, KeepsAsSaid, Calls, MayLog, IsLogged, KeepsIf, Changes, Brings, StaysBeside, InsertsWith, ReplacesWith}
 use Rattle.world.proofs.Stores.{store_stays, store_goes_on}
@@ -98,7 +98,7 @@ goes_itself None = record {}
 goes_itself (Some paged) = record { faults = omega arith; key_len = refl; value_len = refl }
 
 pub reaches_itself : (actor : ℕ) (index : Index) → IsReached actor index index
-reaches_itself actor index = record { pairs = same_pairs index.pairs; place = refl; awaited = λ by is. inl is; later = goes_itself index.paged }
+reaches_itself actor index = record { pairs = same_pairs index.pairs; place = refl; awaited = λ by is. inl is; later = goes_itself index.paged; at_hand = λ are. are }
 
 pub at_once : {actor : ℕ} {old new : Index} {why : Move} → AreKept old.pairs new.pairs → Hinders actor old new why → HindersBehind actor old new why
 at_once {actor} {old} kept cause = record { mid = old; reached = reaches_itself actor old; kept = kept; cause = cause }
@@ -275,9 +275,9 @@ module _ (s : ℕ) (old new : WorldState) (change : RecordChange) (p : IsChangin
       (spoiled p.schema change.key read (old.indexes i) why s (new.indexes i) c.index_is.here.0 (decodes p.schema (rw stay.rest p.table.there))))
 
   -- the place has no record
-  pub looked_up_none : (read : List ℕ) → change.stage ≡ Find → Calls (clustered_index change.table) (λ b a. Fetches s change.key read b a moves.End) old new
-      → IsMissing s change old new
-  looked_up_none read at c = record {
+  pub looked_up_none : (read : List ℕ) → change.stage ≡ Find → IsAtHand new
+      → Calls (clustered_index change.table) (λ b a. Fetches s change.key read b a moves.End) old new → IsMissing s change old new
+  looked_up_none read at hand c = record {
     changing = p;
     stage_is = at;
     absent = c.index_is.here.0;
@@ -287,6 +287,7 @@ module _ (s : ℕ) (old new : WorldState) (change : RecordChange) (p : IsChangin
       place = c.index_is.here.1.place;
       awaited = λ by is. inl (sym c.index_is.here.1.awaited ∙ is);
       later = c.index_is.later;
+      at_hand = λ were. hand.indexes (clustered_index change.table);
     };
   }
 

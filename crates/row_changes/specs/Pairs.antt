@@ -5,7 +5,7 @@ use Rattle.store_api.specs.declared.moves.Move.TheVariants.{At, End, Done, Latch
 use Rattle.entries.specs.{Index.Index, Index.Goes, Index.AreKept, Index.GoesOn, Calls.Delays, Calls.LacksPages, Calls.IsKeptOff}
 use Rattle.row_versions.specs.Versions.{Stays}
 use Rattle.law_stored_rows.specs.Edits.{with_value}
-use Rattle.world.specs.{State.WorldState, Stores.StoreGoes}
+use Rattle.world.specs.{State.WorldState, Stores.StoreGoes, AtHand.IsIndexAtHand}
 
 -- no pair has changed anywhere, and no actor's place
 pub record RowsStay (old new : WorldState) : Type 0 where
@@ -36,12 +36,14 @@ Hinders actor old new TooDeep = LacksPages old new TooDeep
 Hinders actor old new NoMemory = Unit {0}
 Hinders actor old new other = Delays actor old new other
 
--- What calls that came before in the same step have left: no pair has changed and no place, and who is awaited was so, or is this actor.
+-- What calls that came before in the same step have left: no pair has changed and no place, who is awaited was so, or is this actor, and
+-- pages are at hand as they were.
 pub record IsReached (actor : ℕ) (old mid : Index) : Type 0 where
   pub pairs : AreKept old.pairs mid.pairs
   pub place : mid.place ≡ old.place
   pub awaited : (by : ℕ) → mid.awaited ≡ Some by → (old.awaited ≡ Some by) ⊎ (by ≡ actor)
   pub later : GoesOn old.paged mid.paged
+  pub at_hand : IsIndexAtHand old → IsIndexAtHand mid
 
 -- why the last of a step's calls has not done what it was asked
 pub record HindersBehind (actor : ℕ) (old new : Index) (why : Move) : Type 0 where

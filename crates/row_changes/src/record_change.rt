@@ -22,7 +22,7 @@ use inno_types::{Bytes, Row, Value};
 use std::alloc::Global;
 use std::mem;
 use store_api::{MOST_BYTES_OF_VALUE, Move, NoMemory, Stepped, Undo, Version};
-use world::World;
+use world::{EngineWorld, World};
 
 /// The longest undo record: seven bytes, a key and a value.
 const MOST_UNDO_BYTES: u16 = 1098;
@@ -52,7 +52,7 @@ pub struct RecordChange {
 impl RecordChange {
     /// One step. It asks that nobody else changes this row's record between the steps. The last one tells the row that was there
     /// before, for who reads the newest rows. `End` hinders it where a row that is to be removed isn't there.
-    pub fn step<W: World>(
+    pub fn step<W: EngineWorld>(
         &mut self,
         alloc: Global,
         world: &mut W,
@@ -107,7 +107,13 @@ impl RecordChange {
         }
     }
 
-    fn find<W: World>(&mut self, alloc: Global, world: &mut W, s: u32) -> Stepped<Option<Row>, Move>
+    /// A row that isn't there is inserted in the same step, by a second call, which the world doesn't put off either.
+    fn find<W: EngineWorld>(
+        &mut self,
+        alloc: Global,
+        world: &mut W,
+        s: u32,
+    ) -> Stepped<Option<Row>, Move>
         requires changing { IsChangingRecord s (W.state world.old) self.old }
         requires stage { self.old.stage ≡ RecordStage.Find }
         ensures changes { ChangesRecord s (W.state world.old) (W.state world.new) self.old (record_reached self.new result) }

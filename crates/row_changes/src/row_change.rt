@@ -15,7 +15,7 @@ use inno_types::{Bytes, Row};
 use std::alloc::Global;
 use std::mem;
 use store_api::{Move, NoMemory, Stepped};
-use world::World;
+use world::EngineWorld;
 
 /// A change of a row.
 #[derive(Drop)]
@@ -43,7 +43,12 @@ impl RowChange {
 
     /// One step. Between the steps others may change other rows, and what keys say of those. It asks that nobody else changes
     /// this row.
-    pub fn advance<W: World>(&mut self, alloc: Global, world: &mut W, s: u32) -> Stepped<(), Move>
+    pub fn advance<W: EngineWorld>(
+        &mut self,
+        alloc: Global,
+        world: &mut W,
+        s: u32,
+    ) -> Stepped<(), Move>
         requires { (chains : Chains) × (beside : Said) × IsAtRow s chains beside (W.state world.old) self.old }
         ensures makes { (chains : Chains) (beside : Said) → IsAtRow s chains beside (W.state world.old) self.old → MakesRow s chains beside (W.state world.old) (W.state world.new) self.old (reached_at self.new result) }
         ensures awaits { AwaitsIn s (table_of self.old) (W.state world.old) (W.state world.new) }

@@ -1,18 +1,17 @@
--- Who is awaited after a step of a taking back, and that nothing hinders it in memory where nobody else is awaited.
-use Rattle.std.proofs.Common.{◌≡◌, ◌⊎◌, inl, inr, ⊎_elim, ℕ, ◌<◌, Option, Some, None, refl, arith, length, rules}
+-- Who is awaited after a step of a taking back, and that nothing hinders it over a store at hand where nobody else is awaited.
+use Rattle.std.proofs.Common.{◌≡◌, ◌⊎◌, inl, inr, ⊎_elim, ℕ, ◌<◌, refl, arith, length}
 use Rattle.store_api.specs.{declared.answers.Undo.Undo, declared.moves.Move.Move}
-use Rattle.store_api.specs.declared.moves.Move.TheVariants.{Done, Step, Latch, Failed}
-use Rattle.entries.specs.{Index.Index, Index.Paged, Calls.IsPutOff, Calls.Delays, Calls.IsKeptOff}
+use Rattle.store_api.specs.declared.moves.Move.TheVariants.{At, End, Done, Step, Latch, Again, Full, TooDeep, Failed, Bad, NoMemory}
+use Rattle.store_api.specs.declared.visits.Visit.TheVariants as visit
+use Rattle.entries.specs.{Calls.Delays, Calls.IsKeptOff}
 use Rattle.row_versions.specs.{declared.place.Place.Place, Chains.Chains}
 use Rattle.law_stored_rows.specs.{Edits.clustered_index, Edits.key_index, Tables.Said}
-use Rattle.world.specs.{State.WorldState, Memory.IsInMemory}
-use Rattle.world.proofs.Memory.{no_pages}
+use Rattle.world.specs.{State.WorldState, AtHand.IsAtHand}
+use Rattle.world.proofs.AtHand.{index_not_delayed, never_unseen}
 use Rattle.row_changes.specs.Awaited.{AwaitsAt, AwaitsIn, IsAwaitedAlone}
 use Rattle.row_changes.proofs.Awaited.{awaits_in, clustered_of_table, key_of_table}
 use Rattle.undo_apply.specs.{declared.work_room.WorkRoom.WorkRoom, declared.work_room.Stage.Stage, declared.work_room.Stage.TheVariants.Walk}
 use Rattle.undo_apply.specs.Stages.{FitsKeys, IsPuttingBack, PutsBack, Stops, StopsWalk, StopsAt, index_at}
-use Rattle.row_versions.specs.Calls as chain
-use Rattle.row_versions.specs.Versions as versions
 
 module _ {chains : Chains} {beside : Said} {place : Place} {actor : ℕ} {undo : Undo} {room : WorkRoom} {old new : WorldState}
     (is : IsPuttingBack chains beside place undo room old) where
@@ -27,30 +26,40 @@ module _ {chains : Chains} {beside : Said} {place : Place} {actor : ℕ} {undo :
       awaits_in actor (key_index undo.table which) undo.table old new
       (key_of_table undo.table which old.schemas is.schema is.tells.there (omega (arith, within)))
 
--- ---- in memory
+-- ---- at hand
 
-no_page_of_versions : (why : versions.Paged → versions.Paged → Type 0) (old new : Option versions.Paged) → old ≡ None → chain.InPages why old new → ⊥
-no_page_of_versions why None new none in_pages = absurd in_pages
-no_page_of_versions why (Some old) new none in_pages = absurd (cc)
-
-never_put_off : (why : Paged → Paged → Type 0) (old new : Index) → old.paged ≡ None → IsPutOff why old new → ⊥
-never_put_off why old new none h = no_pages _ old.paged new.paged none h.cause
-
-never_delays : (actor : ℕ) (old new : Index) (answer : Move) → old.paged ≡ None → Delays actor old new answer → ⊥
-never_delays actor old new Failed none h = no_pages _ old.paged new.paged none h.cause
-never_delays actor old new other none h = search (rules, never_put_off)
-
-module _ (actor : ℕ) (old new : WorldState) (memory : IsInMemory old) (alone : IsAwaitedAlone actor old) where
+module _ (actor : ℕ) (old new : WorldState) (was : IsAtHand old) (is : IsAtHand new) (alone : IsAwaitedAlone actor old) where
   not_kept_off : (index by : ℕ) → IsKeptOff actor by (old.indexes index) (new.indexes index) → ⊥
   not_kept_off index by off = off.held.another (alone index by off.held.awaited)
 
+  never_delays : (index : ℕ) (answer : Move) → Delays actor (old.indexes index) (new.indexes index) answer → ⊥
+  never_delays index answer off = index_not_delayed actor (old.indexes index) (new.indexes index) (was.indexes index) (is.indexes index) answer off
+
   never_stops : (index : ℕ) (why : Move) → Stops actor index old new why → ⊥
-  never_stops index (Latch by) h =
-      ⊎_elim (not_kept_off index by) (never_delays actor (old.indexes index) (new.indexes index) (Latch by) (memory.no_page_of_index index)) h
-  never_stops index other h = search (rules, never_delays actor (old.indexes index) (new.indexes index) other (memory.no_page_of_index index), memory.told)
+  never_stops index (Latch by) h = ⊎_elim (not_kept_off index by) (never_delays index (Latch by)) h
+  never_stops index Step h = never_delays index Step h
+  never_stops index Again h = never_delays index Again h
+  never_stops index Failed h = never_delays index Failed h
+  never_stops index (Bad page rule) h = never_delays index (Bad page rule) h
+  never_stops index (At key value) h = h was.told
+  never_stops index End h = h was.told
+  never_stops index Done h = h was.told
+  never_stops index (Full need free) h = h was.told
+  never_stops index TooDeep h = h was.told
+  never_stops index NoMemory h = h was.told
 
   never_stops_walk : (why : Move) → StopsWalk old new why → ⊥
-  never_stops_walk other h = search (rules, no_page_of_versions, memory.no_page_of_versions, memory.told)
+  never_stops_walk Failed h = never_unseen old.versions new.versions was.versions is.versions visit.Failed h
+  never_stops_walk Again h = never_unseen old.versions new.versions was.versions is.versions visit.Again h
+  never_stops_walk (Bad page rule) h = never_unseen old.versions new.versions was.versions is.versions (visit.Bad page rule) h
+  never_stops_walk (At key value) h = h was.told
+  never_stops_walk End h = h was.told
+  never_stops_walk Done h = h was.told
+  never_stops_walk Step h = h was.told
+  never_stops_walk (Latch by) h = h was.told
+  never_stops_walk (Full need free) h = h was.told
+  never_stops_walk TooDeep h = h was.told
+  never_stops_walk NoMemory h = h was.told
 
   never_stops_at : (undo : Undo) (stage : Stage) (why : Move) → StopsAt actor undo stage old new why → ⊥
   never_stops_at undo (Walk which pointer) why h = never_stops_walk why h

@@ -13,7 +13,7 @@ mod taking_back;
 mod work_room;
 
 pub use entry_room::EntryRoom;
-pub use laws::{nothing_hinders_in_memory, others_leave_it};
+pub use laws::{nothing_hinders_at_hand, others_leave_it};
 pub use record_room::RecordRoom;
 pub use taking_back::put_back;
 pub use work_room::{Stage, WorkRoom};

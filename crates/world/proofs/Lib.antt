@@ -1,2 +1,2 @@
 pub mod Stores
-pub mod Memory
+pub mod AtHand

@@ -7,4 +7,4 @@ pub mod Locks
 pub mod Endings
 pub mod Told
 pub mod EngineCalls
-pub mod Memory
+pub mod AtHand

@@ -1,12 +1,12 @@
-//! The calls of a world that the engine alone makes. So far such a world tells all that it holds, as worlds in memory
-//! do. `world_lists` alone makes them, and `ListWorld` alone answers them.
+//! The calls of a world that the engine alone makes. Such a world tells all that it holds, and puts no call off.
+//! `world_lists` alone makes them, and `ListWorld` alone answers them.
 
 ghost use Rattle.std.specs.Prelude.{◌≡◌, ◌+◌, ◌<◌, ◌≤◌, ◌^◌, true, is_some, length, OnOk, OnErr, IfOk};
 ghost use Rattle.inno_db.specs.declared.limits.TheConstants.{MOST_KEYS};
 ghost use Rattle.sql_history.specs.Counts.{rows_of_reply};
 ghost use Rattle.world.specs.State.{Session, Work, HasWork, IsSession};
 ghost use Rattle.world.specs.EngineCalls.{joined, item_started, item_ended, acknowledged, signalled, with_setting, MakesTable};
-ghost use Rattle.world.specs.Memory.{IsInMemory};
+ghost use Rattle.world.specs.AtHand.{IsAtHand};
 
 use crate::World;
 use inno_model::History;
@@ -82,6 +82,6 @@ pub trait EngineWorld: World + Drop {
         ensures ok { OnOk result (MakesTable s schema (Self.state self.old) (Self.state self.new)) }
         ensures err { OnErr result (Self.state self.new ≡ Self.state self.old) };
 
-    /// It tells all that it holds.
-    ghost tells: { (world : Self) → IsInMemory (Self.state world) };
+    /// It tells all that it holds, and puts no call off: what it has in pages is at hand, before each call and after it.
+    ghost never_delays: { (world : Self) → IsAtHand (Self.state world) };
 }

@@ -9,16 +9,16 @@ ghost use Rattle.world.specs.State.{WorldState};
 ghost use Rattle.world.specs.Stores.{StoreGoes};
 ghost use Rattle.world.specs.Undoing.{IsUnchanged};
 ghost use Rattle.world.specs.Endings.{IsCommitted, IsRolledBack, Commits, RollsBack, FreesLog};
-ghost use Rattle.world.specs.Memory.{IsInMemory};
+ghost use Rattle.world.specs.AtHand.{IsAtHand};
 
-/// A world in memory puts nothing off: it ends transactions, and frees their logs, at once.
-pub fn memory_ends_at_once()
+/// A store at hand puts nothing off: it ends transactions, and frees their logs, at once.
+pub fn a_store_at_hand_ends_at_once()
     ensures commits { (s : ℕ) (old new : WorldState) (answer : Move)
-        → IsInMemory old → Commits s old new answer → (answer ≡ Done) × IsCommitted s old new }
+        → IsAtHand old → IsAtHand new → Commits s old new answer → (answer ≡ Done) × IsCommitted s old new }
     ensures rolls_back { (s : ℕ) (old new : WorldState) (answer : Move)
-        → IsInMemory old → RollsBack s old new answer → (answer ≡ Done) × IsRolledBack s old new }
+        → IsAtHand old → IsAtHand new → RollsBack s old new answer → (answer ≡ Done) × IsRolledBack s old new }
     ensures frees { (s : ℕ) (old new : WorldState) (answer : Move)
-        → IsInMemory old → FreesLog s old new answer → (answer ≡ Done) × IsUnchanged old new }
+        → IsAtHand old → IsAtHand new → FreesLog s old new answer → (answer ≡ Done) × IsUnchanged old new }
 {}
 
 /// A store goes on from itself, and by one step after another.

@@ -10,7 +10,7 @@ mod undo_room;
 mod world;
 
 pub use engine_world::EngineWorld;
-pub use laws::{memory_ends_at_once, stores_go_on};
+pub use laws::{a_store_at_hand_ends_at_once, stores_go_on};
 pub use lock_world::{LockAnswer, LockWorld};
 pub use undo_room::UndoRoom;
 pub use world::World;

@@ -10,14 +10,16 @@ use Rattle.row_changes.proofs.record_change.RecordChange.find.Goals as goal
 abbrev pub returns-in-End-clause-changes : goal.returns-in-End-clause-changes
 returns-in-End-clause-changes g c =
     c.missed.ensures.changes _
-    (looked_up_none _ _ _ _ c.requires.changing c.fetch.new.into.items c.requires.stage (rw c.index.ensures at (rw c.in-End.is at c.fetch.ensures.answer)))
+    (looked_up_none _ _ _ _ c.requires.changing c.fetch.new.into.items c.requires.stage
+    (g.met.W.EngineWorld.never_delays c.fetch.new.self) (rw c.index.ensures at (rw c.in-End.is at c.fetch.ensures.answer)))
 
 abbrev pub missed-requires : goal.missed-requires
 missed-requires g c =
     record {
       missing = (
         _,
-        looked_up_none _ _ _ _ c.requires.changing c.fetch.new.into.items c.requires.stage (rw c.index.ensures at (rw c.in-End.is at c.fetch.ensures.answer)),
+        looked_up_none _ _ _ _ c.requires.changing c.fetch.new.into.items c.requires.stage
+            (g.met.W.EngineWorld.never_delays c.fetch.new.self) (rw c.index.ensures at (rw c.in-End.is at c.fetch.ensures.answer)),
       );
     }
 

@@ -17,3 +17,7 @@ returns-in-Done-clause-awaits g c =
 abbrev pub returns-in-Hindered-clause-makes : goal.returns-in-Hindered-clause-makes
 returns-in-Hindered-clause-makes g c =
     λ chains beside p. record_waits c.args.s chains beside _ c.in-Record.is p c.step.new.self c.in-Hindered.why c.in-Hindered.ensures.changes
+
+pub returns-in-Hindered-clause-awaits : goal.returns-in-Hindered-clause-awaits
+returns-in-Hindered-clause-awaits g c =
+    record_awaits_at _ _ _ _ _ _ _ _ _ c.in-Record.is c.requires.2 c.in-Hindered.ensures.awaits

@@ -1,6 +1,0 @@
-use Rattle.undo_apply.proofs.Hindrances.{never_hindered}
-use Rattle.undo_apply.proofs.laws.nothing_hinders_in_memory.Goals as goal
-
-pub returns : goal.returns
-returns c = λ chains beside place actor undo room next old new answer memory alone puts.
-    never_hindered actor old new memory alone chains beside place undo room next answer puts
