@@ -14,9 +14,9 @@ use Rattle.law_crashes.specs.Since.{KeepsSince, HasHeader, LogRests, IsBegun, Is
 use Rattle.law_crashes.proofs.AtRest.{left_at_rest}
 use Rattle.law_crashes.proofs.Keeps.{files_before, leaves_opened}
 use Rattle.law_crashes.proofs.Mount.{keeps_scanned}
-use Rattle.file_zero.specs.Looks.{LeavesPages}
+use Rattle.file_zero.specs.Looks.{LeavesPages, Had}
 use Rattle.store_api.specs.Looks.{HoldsSame, HoldsAs, Looks, LeavesState}
-use Rattle.file_zero.specs.Reading.{SaysHeader, IsOfRun, IsFound}
+use Rattle.file_zero.specs.Reading.{SaysHeader, IsOfRun, IsFound, HoldsDatabase}
 
 -- what a disk holds by its own law
 abbrev pub IsLawful : Past → Type 0
@@ -201,6 +201,25 @@ module _ (root mid : Past) (law : IsLawful root) (law_mid : IsLawful mid) (looks
           let b = left_pages s ticks is in
           let first = stays b.1 b.0 b.2 in
           (first.0, b.1, first.1, b.3, b.4)
+
+      -- the files held the database that was read
+      pub held_after : LeavesState root mid → Had (HoldsDatabase db) root now
+      held_after stays = λ s ticks is.
+          let b = left_pages s ticks is in
+          let first = stays b.1 b.0 b.2 in
+          let log = found.log b.1 b.0 b.2 in (
+            first.0,
+            b.1,
+            first.1,
+            record {
+              run = run;
+              first = found.first;
+              groups = found.groups;
+              header = found.header b.1 b.0 b.2;
+              scan = log.scan;
+              makes = found.reads;
+            },
+          )
 
     pub mounted_after : (now : Past)
         → ((r f : ℕ) (base : List Group) (double pages : Contents) → Now (IsScanned r f block base rest double pages) mid

@@ -8,7 +8,7 @@ use Rattle.sum64.specs.Fnv.{fnv_of}
 use Rattle.std.specs.Int.{w64, from_be_bytes}
 use Rattle.store_api.specs.declared.disk.Area.TheVariants.{Log, Double, Pages}
 use Rattle.store_api.specs.Areas.{Contents, State, Image, Write, MayLeave, IsImage, WasWhole, seen_image, piece, write_of, overwritten, Within, Wrote, Synced}
-use Rattle.store_api.specs.Past.{Past, Now, Goes, Meanwhile}
+use Rattle.store_api.specs.Past.{Past, Ticks, Now, Goes, Meanwhile}
 use Rattle.store_api.proofs.Moments.{Now-goes, Now-weaker, Meanwhile-none, Meanwhile-goes}
 use Rattle.log_format.specs.Block.{IsGood}
 use Rattle.log_format.specs.Group.{group_bytes}
@@ -22,7 +22,9 @@ use Rattle.law_crashes.specs.Files.{IsAtRest, StandsFor}
 use Rattle.law_crashes.proofs.AtRest.{left_at_rest}
 use Rattle.store_api.specs.declared.answers.MountBad.{MountBad}
 use Rattle.store_api.specs.declared.answers.MountBad.TheVariants.{Disk, NotEmpty}
-use Rattle.store_api.specs.Looks.{HoldsSame, Looks}
+use Rattle.store_api.specs.Causes.{next_count}
+use Rattle.store_api.specs.Looks.{HoldsSame, Looks, LeavesState}
+use Rattle.file_zero.specs.Looks.{Had}
 use Rattle.file_zero.specs.Making.{IsEmptyArea, AreEmpty, AreNew, AreBeingMade, HasBytes, IsNotMade, IsPageAlone}
 use Rattle.store_api.proofs.Looks.{looks_join}
 
@@ -115,8 +117,28 @@ now_empty past bytes law none has rest = λ s ticks is.
       pages = (none_synced s.pages left.pages (omega (arith, total, none)), rests.pages);
     }
 
+next_ticks : (before now : ℕ) → now ≡ next_count before → Ticks now → Ticks before
+next_ticks before now is ticks = omega arith
+
 pub no_bytes : (past : Past) (bytes : ℕ) → bytes ≤ 0 → Now (HasBytes bytes) past → Now (HasBytes 0) past
 no_bytes past bytes none has = let same : bytes ≡ 0 = omega (arith, none) in subst (λ (n : ℕ). Now (HasBytes n) past) same has
+
+-- what a disk holds after two calls it held before, and so what was known of it
+pub had_none : (p0 p1 p2 : Past) (first second : State → State → Type 0) → Now (HasBytes 0) p0 → Goes first p0 p1 → Goes second p1 p2
+    → Had (HasBytes 0) p0 p2
+had_none p0 p1 p2 first second none one other = λ s ticks is.
+    let before = next_ticks p1.moment p2.moment other.clock ticks in
+    let mid = other.now s before is in
+    let begins = next_ticks p0.moment p1.moment one.clock before in
+    let root = one.now mid.0 begins mid.1 in
+    (begins, root.0, root.1, none root.0 begins root.1)
+
+-- and before calls that left it as it was
+pub had_before : (P : State → Type 0) (root mid now : Past) → LeavesState root mid → Had P mid now → Had P root now
+had_before P root mid now stays had = λ s ticks is.
+    let at = had s ticks is in
+    let first = stays at.1 at.0 at.2 in
+    (first.0, at.1, first.1, at.3)
 
 pub not_made_later : (old mid new : Past) (why : MountBad) → old.faults ≤ mid.faults → Looks old mid → IsNotMade mid new why → IsNotMade old new why
 not_made_later old mid new Disk le looks rose = omega (arith, le, rose)

@@ -2,6 +2,7 @@
 use Rattle.std.specs.Prelude.{◌≡◌, ℕ, ◌+◌, ◌*◌, ◌<◌, List, length, take, Some, All}
 use Rattle.store_api.specs.Areas.{State}
 use Rattle.store_api.specs.Past.{Past, Now}
+use Rattle.log_format.specs.declared.block.TheConstants.{BLOCK}
 use Rattle.inno_db.specs.Database.{Database}
 use Rattle.inno_model.specs.Past.{changed}
 use Rattle.log_format.specs.declared.group.Group.{Group}
@@ -28,7 +29,7 @@ IsOfRun run s = (first : ℕ) × SaysHeader run first s
 pub record HasGroups (run first : ℕ) (area : List ℕ) (groups : List Group) (block rest : ℕ) : Type 0 where
   pub scan : IsRowScan run first area groups
   pub ends : EndsAt run block area groups
-  pub long : length area ≡ 512 * block + rest
+  pub long : length area ≡ BLOCK * block + rest
 
 -- A mount has read the groups that make this database; the next LSN is this.
 pub record IsFound (run block next : ℕ) (db : Database) (rest : ℕ) (now : Past) : Type 0 where
@@ -40,3 +41,12 @@ pub record IsFound (run block next : ℕ) (db : Database) (rest : ℕ) (now : Pa
   pub some : 0 < next
   pub header : Now (SaysHeader run first) now
   pub log : Now (λ s. HasGroups run first s.log.seen groups block rest) now
+
+-- The files hold this database: page 0 is a header of version 0, and the log has groups of rows that make it.
+pub record HoldsDatabase (db : Database) (s : State) : Type 0 where
+  pub run : ℕ
+  pub first : ℕ
+  pub groups : List Group
+  pub header : SaysHeader run first s
+  pub scan : IsRowScan run first s.log.seen groups
+  pub makes : db ≡ changed no_db (changes_in groups)

@@ -17,6 +17,7 @@ use Rattle.law_crashes.specs.Header.{HasMagic, version_of}
 use Rattle.law_crashes.specs.RowScan.{IsRowScan}
 use Rattle.law_crashes.specs.Records.{no_db, changes_in}
 use Rattle.store_api.specs.Looks.{Looks}
+use Rattle.stored_pages.specs.declared.layout.TheConstants.{PAGE}
 use Rattle.file_zero.specs.Reading.{SaysHeader}
 
 -- page 0 can be read, and is this
@@ -35,13 +36,13 @@ IsOther page why = ⊥
 -- Page 0 is bad, and was written once: the sum that stands there, and the one of the bytes behind it.
 pub record IsDamaged (place stored computed : ℕ) (pages : List ℕ) : Type 0 where
   pub at : place ≡ 0
-  pub long : 4096 ≤ length pages
+  pub long : PAGE ≤ length pages
   pub says : stored ≡ u64_at 0 (place_of 0 pages)
   pub is : computed ≡ fnv_of (drop 8 (place_of 0 pages))
 
 -- no page 0 can be read
 abbrev pub IsMissing : List ℕ → MountBad → Type 0
-IsMissing pages NotInitialised = length pages < 4096
+IsMissing pages NotInitialised = length pages < PAGE
 IsMissing pages (Damaged area.Pages place stored computed) = IsDamaged place stored computed pages
 IsMissing pages why = ⊥
 

@@ -2,6 +2,7 @@
 //! Nothing here meets the disk.
 
 ghost use Rattle.std.specs.Prelude.{◌≡◌, length, IfOk, IfErr};
+ghost use Rattle.stored_pages.specs.declared.layout.TheConstants.{PAGE};
 ghost use Rattle.law_crashes.specs.Header.{IsHeader};
 ghost use Rattle.file_zero.specs.Refused.{IsOther};
 
@@ -18,7 +19,7 @@ pub struct Header {
 
 /// What a good page 0 says.
 pub fn header_of(page: &[u8]) -> Result<Header, MountBad>
-    requires { length page.now ≡ 4096 }
+    requires { length page.now ≡ PAGE }
     ensures ok { IfOk result (λ header. IsHeader header.run header.first page.now) }
     ensures other { IfErr result (IsOther page.now) }
 {

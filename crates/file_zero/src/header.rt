@@ -11,17 +11,14 @@ ghost use Rattle.file_zero.specs.Refused.{IsRefused, IsMissing};
 use crate::fields::{Header, header_of};
 use std::alloc::Global;
 use store_api::{Area, Disk, MountBad};
-use stored_pages::layout::{NUMBER, PAGE, SLOTS, SUM};
+use stored_pages::layout::{DOUBLE, NUMBER, PAGE, SUM};
 use stored_pages::{good_number, newest_copy, read_u64};
 use sum64::fnv;
 
-/// The copies of the doublewrite take so many bytes.
-const COPIES: usize = SLOTS * PAGE;
-
 /// Whether the first bytes of the pages are a good page 0.
 fn is_in_place(place: &[u8], len: usize) -> bool
-    requires size { length place.now ≡ 4096 }
-    requires fits { len ≤ 4096 }
+    requires size { length place.now ≡ PAGE }
+    requires fits { len ≤ PAGE }
     ensures { (pages : List ℕ) → IsRead len place.now pages →
         MatchBool result ((place_of 0 pages ≡ place.now) × IsGoodPage 0 place.now) (IsGoodPage 0 (place_of 0 pages) → ⊥) }
 {
@@ -36,8 +33,8 @@ fn is_in_place(place: &[u8], len: usize) -> bool
 
 /// Why there is no page 0, where it has no good copy.
 fn missing(place: &[u8], len: usize) -> MountBad
-    requires size { length place.now ≡ 4096 }
-    requires fits { len ≤ 4096 }
+    requires size { length place.now ≡ PAGE }
+    requires fits { len ≤ PAGE }
     ensures { (pages : List ℕ) → IsRead len place.now pages → IsMissing pages result }
 {
     if len < PAGE {
@@ -58,8 +55,8 @@ fn read_copy<D: Disk>(
     place: &[u8],
     len: usize,
 ) -> Result<Header, MountBad>
-    requires size { length place.now ≡ 4096 }
-    requires fits { len ≤ 4096 }
+    requires size { length place.now ≡ PAGE }
+    requires fits { len ≤ PAGE }
     requires read { Now (λ s. IsRead len place.now s.pages.seen) (D.past disk.old) }
     requires bad { Now (λ s. IsGoodPage 0 (place_of 0 s.pages.seen) → ⊥) (D.past disk.old) }
     ensures looks { Looks (D.past disk.old) (D.past disk.new) }
@@ -68,7 +65,7 @@ fn read_copy<D: Disk>(
     ensures refused { IfErr result (IsRefused (D.past disk.old) (D.past disk.new)) }
     ensures later { (D.past disk.old).faults ≤ (D.past disk.new).faults }
 {
-    let Ok(mut copies) = vec![in alloc; 0; COPIES] else {
+    let Ok(mut copies) = vec![in alloc; 0; DOUBLE] else {
         return Err(MountBad::NoMemory);
     };
     let Ok(count) = disk.read(Area::Double, 0, &mut copies) else {

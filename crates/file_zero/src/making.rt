@@ -7,6 +7,7 @@ ghost use Rattle.stored_pages.specs.Reading.{IsGoodPage};
 ghost use Rattle.law_crashes.specs.Header.{IsHeader};
 ghost use Rattle.law_crashes.specs.Files.{IsAtRest};
 ghost use Rattle.store_api.specs.Looks.{Looks, LeavesState};
+ghost use Rattle.file_zero.specs.Looks.{Had};
 ghost use Rattle.file_zero.specs.Making.{AreEmpty, AreNew, AreBeingMade, HasBytes, IsNotMade, IsPageAlone};
 
 use big_endian::u64_bytes;
@@ -66,6 +67,7 @@ fn bytes_in<D: Disk>(disk: &mut D) -> Result<u64, MountBad>
 fn write_first<D: Disk>(disk: &mut D) -> Result<(), MountBad>
     ensures new { OnOk result (Now AreEmpty (D.past disk.old) → Now AreNew (D.past disk.new)) }
     ensures made { OnOk result (Now (HasBytes 0) (D.past disk.old) → Now IsPageAlone (D.past disk.new)) }
+    ensures empty { OnOk result (Now (HasBytes 0) (D.past disk.old) → Had (HasBytes 0) (D.past disk.old) (D.past disk.new)) }
     ensures crash { Now AreEmpty (D.past disk.old) → Meanwhile AreBeingMade (D.past disk.old) (D.past disk.new) }
     ensures refused { IfErr result (IsNotMade (D.past disk.old) (D.past disk.new)) }
     ensures later { (D.past disk.old).faults ≤ (D.past disk.new).faults }
@@ -82,6 +84,7 @@ fn write_first<D: Disk>(disk: &mut D) -> Result<(), MountBad>
 /// Makes the files of a database without tables, where all three are empty. It takes no memory.
 pub fn init<D: Disk>(disk: &mut D) -> Result<(), MountBad>
     // The files were empty. If nothing was pending, they stand for that database from then on.
+    ensures empty { OnOk result (Had (HasBytes 0) (D.past disk.old) (D.past disk.new)) }
     ensures made { OnOk result (Now IsPageAlone (D.past disk.new)) }
     ensures ok { OnOk result (Now IsAtRest (D.past disk.old) → Now AreNew (D.past disk.new)) }
     ensures refused { IfErr result (IsNotMade (D.past disk.old) (D.past disk.new)) }

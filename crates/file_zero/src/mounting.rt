@@ -10,9 +10,9 @@ ghost use Rattle.law_crashes.specs.Files.{LeavesFiles};
 ghost use Rattle.law_crashes.specs.Records.{no_db, changes_in};
 ghost use Rattle.law_crashes.specs.Since.{LogRests, IsBegun, IsScanned, StillScans, IsMounted};
 ghost use Rattle.log_format.specs.declared.group.Group.{Group as GroupValue};
-ghost use Rattle.file_zero.specs.Looks.{LeavesPages};
+ghost use Rattle.file_zero.specs.Looks.{LeavesPages, Had};
 ghost use Rattle.store_api.specs.Looks.{Looks, LeavesState};
-ghost use Rattle.file_zero.specs.Reading.{IsFound, IsOfRun};
+ghost use Rattle.file_zero.specs.Reading.{IsFound, IsOfRun, HoldsDatabase};
 ghost use Rattle.file_zero.specs.Refused.{IsRefused, IsTooMany, HasFewRows, IsFailure, IsLeft};
 
 use crate::database::{database_of, rows_in};
@@ -135,7 +135,9 @@ pub fn mount<D: Disk>(alloc: Global, disk: &mut D) -> Result<Mounted, MountBad>
     // Each row stands at its key in a table that is there.
     ensures keyed { IfOk result (λ m. IsKeyed m.db) }
 
-    // Page 0 is a header of version 0, and the rows are not too many; else a refusal says why.
+    // The files held that database: page 0 is a header of version 0, and the log's groups make it. Its rows are not too many.
+    // Else a refusal says why.
+    ensures held { IfOk result (λ m. Had (HoldsDatabase m.db) (D.past disk.old) (D.past disk.new)) }
     ensures header { IfOk result (λ m. Now (IsOfRun m.run) (D.past disk.new)) }
     ensures few { IfOk result (λ m. HasFewRows m.db) }
     ensures refused { IfErr result (IsRefused (D.past disk.old) (D.past disk.new)) }

@@ -1,9 +1,9 @@
 use Rattle.std.proofs.lemmas.Result.{on_ok_weaker, IfErr-weaker}
 use Rattle.store_api.proofs.Moments.{Meanwhile-join}
 use Rattle.law_crashes.specs.Files.{IsAtRest}
-use Rattle.file_zero.specs.Making.{AreEmpty, AreBeingMade}
+use Rattle.file_zero.specs.Making.{AreEmpty, AreBeingMade, HasBytes}
 use Rattle.store_api.proofs.Looks.{Now-stays}
-use Rattle.file_zero.proofs.NewFiles.{looks_made, now_empty, no_bytes, not_made_later}
+use Rattle.file_zero.proofs.NewFiles.{looks_made, now_empty, no_bytes, not_made_later, had_before}
 use Rattle.file_zero.proofs.making.init.Goals as goal
 
 pub returns-in_err-bytes-clause-crash : goal.returns-in_err-bytes-clause-crash
@@ -42,3 +42,12 @@ pub returns-clause-made : goal.returns-clause-made
 returns-clause-made g c =
     let p1 = g.D.Disk.past c.bytes_in.new.disk in
     on_ok_weaker c.write_first.result (λ made. made (no_bytes p1 _ c.if-bytes-gt0.false c.in_ok-bytes.ensures.bytes)) c.write_first.ensures.made
+
+pub returns-clause-empty : goal.returns-clause-empty
+returns-clause-empty g c =
+    let past = g.D.Disk.past in
+    let p1 = past c.bytes_in.new.disk in
+    on_ok_weaker c.write_first.result
+    (λ empty. had_before (HasBytes 0) (past c.args.disk.now) p1 (past c.write_first.new.disk) c.in_ok-bytes.ensures.same
+    (empty (no_bytes p1 _ c.if-bytes-gt0.false c.in_ok-bytes.ensures.bytes)))
+    c.write_first.ensures.empty

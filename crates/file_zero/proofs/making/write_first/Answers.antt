@@ -1,5 +1,5 @@
 use Rattle.std.specs.Prelude.{is_ok}
-use Rattle.file_zero.proofs.NewFiles.{during_write, during_failed, after_sync, during_sync, alone_after}
+use Rattle.file_zero.proofs.NewFiles.{during_write, during_failed, after_sync, during_sync, alone_after, had_none}
 use Rattle.file_zero.proofs.making.write_first.Goals as goal
 
 pub returns-in_default-clause-crash : goal.returns-in_default-clause-crash
@@ -32,3 +32,8 @@ returns-clause-made g c = λ none.
     let past = g.D.Disk.past in
     alone_after c.first_page.result c.first_page.ensures.good c.first_page.ensures.header (past c.args.disk.now) (past c.write.new.self) (past c.sync.new.self)
     none c.in-Ok.ensures.goes c.in-Ok-sync.ensures.goes
+
+pub returns-clause-empty : goal.returns-clause-empty
+returns-clause-empty g c = λ none.
+    let past = g.D.Disk.past in
+    had_none (past c.args.disk.now) (past c.write.new.self) (past c.sync.new.self) _ _ none c.in-Ok.ensures.goes c.in-Ok-sync.ensures.goes
