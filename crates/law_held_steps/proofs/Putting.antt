@@ -7,7 +7,7 @@ use Rattle.std.proofs.Common.{Bool, ◌+◌, ◌*◌, ◌^◌, ◌<◌, inl, inr
 use Rattle.std.proofs.{lemmas.Bool.cases_eq, lemmas.Bool.Decides.nat_tests, lemmas.List.length-set, lemmas.List.set-set}
 use Rattle.world.specs.State.{WorldState, Logged, Session, Work, HasWork, IsSession, standing_of}
 use Rattle.world.specs.{Undoing.read_into, Undoing.ReadsLast, Undoing.newest, Undoing.IsRead, Undoing.HoldsRecord, Undoing.IsCutBack, Told.IsTold}
-use Rattle.world.specs.{Told.pairs_of, Told.TellsTogether, Told.LeavesRows, declared.undo_room.UndoRoom.UndoRoom, Memory.IsInMemory, Sessions.undone_added}
+use Rattle.world.specs.{Told.pairs_of, Told.TellsTogether, Told.LeavesRows, declared.undo_room.UndoRoom.UndoRoom, AtHand.IsAtHand, Sessions.undone_added}
 use Rattle.desks.specs.Holding.{IsLast, IsLastIfTold, IsGoingBack, SearchHeld, IsHeld}
 use Rattle.law_held_steps.proofs.AnyStep.{HoldsAlone, HoldsAloneAt, held_alone, coded_all, rows_by}
 use Rattle.desks.specs.Undoing.{left_at, keys_if, undo_left_in, left_in}
@@ -35,7 +35,7 @@ use Rattle.inno_model.specs.Past.{own, is_of, started, under_way, of_item, await
 use Rattle.inno_model.specs.{declared.event.Event.Event, declared.event.Event.TheVariants.Undone}
 use Rattle.shared_lists.specs.{Tasks.Task, Tasks.MayTakeBack, Tasks.undo_to_go, Fitting.FitsThen, State.task_of, State.Turns}
 use Rattle.inno_types.specs.declared.value.Schema.{Schema}
-use Rattle.world.proofs.Memory.{no_pages}
+use Rattle.world.proofs.AtHand.{index_not_delayed}
 use Rattle.law_stored_rows.specs.{Records.LeadTo, Records.kept_of, Tables.Said, Tables.what_is_there}
 use Rattle.law_stored_rows.proofs.{KeptRows.found_of, RowRecords.leads_still}
 use Rattle.law_stored_rows.proofs.Tables.{popped_elsewhere}
@@ -133,12 +133,12 @@ module _ (s : ℕ) {store : Store} (held : IsHeld store) where
       (rows_by held.chains new now s (others_quiet mine now gives.others) tells logs gives.here rows) logs
 
 -- a step that was hindered doesn't answer that it went on
-module _ (actor : ℕ) (old new : WorldState) (memory : IsInMemory old) where
+module _ (actor : ℕ) (old new : WorldState) (was : IsAtHand old) (is : IsAtHand new) where
   no_step : (index : ℕ) → Stops actor index old new Step → ⊥
-  no_step index stops = no_pages _ (old.indexes index).paged (new.indexes index).paged (memory.no_page_of_index index) stops.cause
+  no_step index stops = index_not_delayed actor (old.indexes index) (new.indexes index) (was.indexes index) (is.indexes index) Step stops
 
   not_stopped : (undo : Undo) (stage : Stage) → StopsAt actor undo stage old new Step → ⊥
-  not_stopped undo (Walk which pointer) stops = stops memory.told
+  not_stopped undo (Walk which pointer) stops = stops was.told
   not_stopped undo stage stops = no_step _ stops
 
 -- ---- how much is left of a change that is being taken back: steps first, and within a walk the versions
@@ -299,7 +299,7 @@ module _ (s : ℕ) {store : Store} (held : IsHeld store) where
       is_read : (logged : Logged) (place : Place) → IsLast old s logged place → read_into read ≡ logged.undo
       is_read logged place last = read_there last.work.log logged last.log (read_into read) there last.log_is (reads.0 last.session last.work last.has_work)
 
-      module _ {desk : Desk} (at : desk_at s store.desks ≡ Some desk) (ready : IsReady desk.doing) (memory : IsInMemory new) where
+      module _ {desk : Desk} (at : desk_at s store.desks ≡ Some desk) (ready : IsReady desk.doing) (hand : IsAtHand new) where
         rooms_were : HasRooms desk
         rooms_were = held.rooms s desk at
 
@@ -324,7 +324,7 @@ module _ (s : ℕ) {store : Store} (held : IsHeld store) where
         pub held_begun : HoldsRecord read → IsHeld (record store { world = new; desks = with_read s read store.desks })
         held_begun holds =
             held_given s held may_write (record { places = λ index. (reads.1.indexes index).place; versions = reads.1.versions; rest = reads.1.rest })
-            (leaves_told left_rows memory.told) memory.told (is_given s (λ d. record d { undo = read; doing = Undoing }) store.desks at refl) going_back
+            (leaves_told left_rows hand.told) hand.told (is_given s (λ d. record d { undo = read; doing = Undoing }) store.desks at refl) going_back
             (all_left old new (rows_leave old new left_rows) (logs_beside old new reads.1.rest) held.logs) (record {})
             (record { record_room = holds; whole = rooms_were.whole; anew = λ none. rooms_were.anew (ready_undoes_not desk.doing ready) })
 
@@ -358,18 +358,18 @@ module _ (s : ℕ) {store : Store} (held : IsHeld store) where
     abbrev pub going : IsGoingBack held.chains (what_is_there held.chains) old s (read_into undo) room
     going = goes_back.going
 
-    pub asks_for : IsInMemory old
+    pub asks_for : IsAtHand old
         → ((chains : Chains) × (beside : Said) × (place : Place) × IsPuttingBack chains beside place (read_into undo) room old) × TellsTogether old
-    asks_for memory = ((held.chains, what_is_there held.chains, going.place, going.putting), λ told index. memory.told.pairs index)
+    asks_for hand = ((held.chains, what_is_there held.chains, going.place, going.putting), λ told index. hand.told.pairs index)
 
     module _ (new : WorldState) (next : WorkRoom) (answer : Move) (put : HasPutBack s (read_into undo) room next old new answer) where
       answers : PutsBack held.chains (what_is_there held.chains) going.place s (read_into undo) room next old new answer
       answers = put held.chains (what_is_there held.chains) going.place going.putting
 
-      -- in memory each step is made, where nobody else is awaited
-      pub goes_or_is_done : IsInMemory old → IsAwaitedAlone s old → (answer ≡ Done) ⊎ (answer ≡ Step)
-      goes_or_is_done memory alone =
-          never_hindered s old new memory alone held.chains (what_is_there held.chains) going.place (read_into undo) room next answer answers
+      -- over a store at hand each step is made, where nobody else is awaited
+      pub goes_or_is_done : IsAtHand old → IsAtHand new → IsAwaitedAlone s old → (answer ≡ Done) ⊎ (answer ≡ Step)
+      goes_or_is_done hand later alone =
+          never_hindered s old new hand later alone held.chains (what_is_there held.chains) going.place (read_into undo) room next answer answers
 
       pub rest_beside : ChangesPairsAlone old new
       rest_beside = step_beside held.chains (what_is_there held.chains) going.place s (read_into undo) room next old new answer answers
@@ -378,10 +378,10 @@ module _ (s : ℕ) {store : Store} (held : IsHeld store) where
         still_putting : StaysPutting held.chains going.place (read_into undo) next old new
         still_putting = stays_putting held.chains going.place s (read_into undo) room next old new answer not_done answers
 
-        pub held_on : IsInMemory old → IsInMemory new → IsHeld (record store { world = new; desks = with_room s next store.desks })
-        held_on memory later =
+        pub held_on : IsAtHand old → IsAtHand new → IsHeld (record store { world = new; desks = with_room s next store.desks })
+        held_on hand later =
             let stays = still_putting in
-            held_given s held mine stays.leaves memory.told later.told (is_given s (λ d. record d { room = next }) store.desks goes_back.at refl)
+            held_given s held mine stays.leaves hand.told later.told (is_given s (λ d. record d { room = next }) store.desks goes_back.at refl)
             (undoing_rows stays) (step_all held.chains (what_is_there held.chains) going.place s (read_into undo) room next old new answer answers
             not_done held.logs)
             (subst (λ doing. SearchHeld held.chains (record store { world = new; desks = with_room s next store.desks }) s doing) (sym is_busy) (record {}))
@@ -404,8 +404,8 @@ module _ (s : ℕ) {store : Store} (held : IsHeld store) where
               putting = stays.putting;
             })
 
-    module _ (new : WorldState) (next : WorkRoom) (put : HasPutBack s (read_into undo) room next old new Step) (memory : IsInMemory old)
-        (later : IsInMemory new) where
+    module _ (new : WorldState) (next : WorkRoom) (put : HasPutBack s (read_into undo) room next old new Step) (hand : IsAtHand old)
+        (later : IsAtHand new) where
       goes_nearer : GoesOn held.chains (what_is_there held.chains) going.place (read_into undo) room next old new
           → undo_left_in undo.table next.stage new < undo_left_in undo.table room.stage old
       goes_nearer goes =
@@ -420,7 +420,7 @@ module _ (s : ℕ) {store : Store} (held : IsHeld store) where
           = omega (arith, older_fewer (versions_at going.place held.chains), held.short going.place, held.agrees.lists.small) in
           let holds = subst (λ (x : Schema).
           StageHolds held.chains (what_is_there held.chains) going.place (read_into undo) x (rows_of old) room.newest.items room.stage) one
-          (was.holds memory.told) in
+          (was.holds hand.told) in
           let less : left_at (length now.schema.keys) most_versions new.versions.kept_at next.stage < left_at (length now.schema.keys) most_versions
           new.versions.kept_at room.stage = ⊎_elim (λ fewer. left_nears (length now.schema.keys) most_versions new.versions.kept_at room.stage next.stage
           (omega arith) fewer) (λ walks. walks_near held.chains going.place (read_into undo) now.schema old new room.newest.items next.newest.items
@@ -432,7 +432,7 @@ module _ (s : ℕ) {store : Store} (held : IsHeld store) where
           subst (λ (n : ℕ). undo_left_in undo.table next.stage new < n) (left_same undo.table room.stage old new schemas kept) less_now
 
       pub nearer : undo_left_in undo.table next.stage new < undo_left_in undo.table room.stage old
-      nearer = ⊎_elim goes_nearer (λ is. absurd (not_stopped s old new memory (read_into undo) room.stage is.cause)) (answers new next Step put)
+      nearer = ⊎_elim goes_nearer (λ is. absurd (not_stopped s old new hand later (read_into undo) room.stage is.cause)) (answers new next Step put)
 
 -- ---- The newest change is taken back: its rows, then its undo record, and then the history tells it. What callers see of that, and of the steps before
 -- it: the session's own task alone has changed.
@@ -680,12 +680,12 @@ module _ (s : ℕ) {store : Store} (held : IsHeld store) (busy : doing_at s stor
             (is_given s (λ d. record d { doing = Nothing }) (with_room s next store.desks)
             (is_given s (λ d. record d { room = next }) store.desks (goes_back s held busy).at refl).here refl)
 
-        does : IsInMemory source → length new.past < 2 ^ 63 → Does s held.chains after store taken
-        does memory few = record {
+        does : IsAtHand source → length new.past < 2 ^ 63 → Does s held.chains after store taken
+        does hand few = record {
           agreed = held.agrees;
           agrees = agrees_now few;
           adds = inr (Undone s keep, eq-eqb s s refl, past_now);
-          told = memory.told;
+          told = hand.told;
           tables = λ n schema there. ap (λ (x : WorldState). slice_get x.schemas n) is_then ∙ there;
           sessions = others_now;
           desks = gives.others;
@@ -698,11 +698,11 @@ module _ (s : ℕ) {store : Store} (held : IsHeld store) (busy : doing_at s stor
           kept = inr refl;
         }
 
-        pub held_then : IsInMemory source → IsTold new → length new.past < 2 ^ 63 → IsHeld taken
-        held_then memory told few =
+        pub held_then : IsAtHand source → IsTold new → length new.past < 2 ^ 63 → IsHeld taken
+        held_then hand told few =
             let long = ap length past_now in
             let names : new.names ≡ source.names = ap (λ (x : WorldState). x.names) is_then in
-            held_after held (does memory few) (record {
+            held_after held (does hand few) (record {
               replies = λ session is busy. subst (λ (x : Session). x.can_reply ≡ true) (one_session s session_now session new session_there is)
                   (held.has_room.replies s back.session had.session_is (sym (ap is_some (ap (under_way s) past_now)) ∙ busy));
               acks = λ session is waits. absurd (waits_not s (Undone s keep ∷ of_item s source.past) source.past
@@ -775,22 +775,22 @@ module _ (s keep : ℕ) {store : Store} (held : IsHeld store) where
 
   -- the record is read
   pub shows_begun : (new : WorldState) (read : UndoRoom) (there : Bool) {desk : Desk} → desk_at s store.desks ≡ Some desk → IsReady desk.doing
-      → MayCome store.world.past (Undone s keep) → IsInMemory new → ReadsLast s s (read_into read) there store.world new Done
+      → MayCome store.world.past (Undone s keep) → IsAtHand new → ReadsLast s s (read_into read) there store.world new Done
       → TakesBackIn s keep (lists_of store) (lists_of (record store { world = new; desks = with_read s read store.desks })) stepped.Went
-  shows_begun new read there {desk} at ready may memory reads =
+  shows_begun new read there {desk} at ready may hand reads =
       let gives = is_given s (λ d. record d { undo = read; doing = Undoing }) store.desks at refl in
       let left = left_in store.world (Some desk) in
       let all : undo_to_go (task_of s (lists_of store).state) ≡ 2 ^ 70 =
       ap undo_to_go (task_is s store ∙ ap (task_at store.world) at) ∙ ready_to_go store.world.schemas left desk.doing ready in
       seen_went new (with_read s read store.desks) (undo_left_in read.table desk.room.stage new) (may_write s held keep may) gives.others
       reads.1.rest (ap (task_at new) gives.here)
-      (subst (λ (n : ℕ). undo_left_in read.table desk.room.stage new < n) (sym all) (few_begun s held keep may new read there reads at ready memory))
+      (subst (λ (n : ℕ). undo_left_in read.table desk.room.stage new < n) (sym all) (few_begun s held keep may new read there reads at ready hand))
 
   -- a step is made
-  pub shows_went : (busy : doing_at s store.desks ≡ Undoing) (new : WorldState) (next : WorkRoom) → IsInMemory store.world → IsInMemory new
+  pub shows_went : (busy : doing_at s store.desks ≡ Undoing) (new : WorldState) (next : WorkRoom) → IsAtHand store.world → IsAtHand new
       → HasPutBack s (read_into (undo s held busy)) (room s held busy) next store.world new Step
       → TakesBackIn s keep (lists_of store) (lists_of (record store { world = new; desks = with_room s next store.desks })) stepped.Went
-  shows_went busy new next memory later put =
+  shows_went busy new next hand later put =
       let at = (goes_back s held busy).at in
       let was = desk s held busy in
       let is_busy : was.doing ≡ Undoing = sym (ap doing_in at) ∙ busy in
@@ -799,4 +799,4 @@ module _ (s keep : ℕ) {store : Store} (held : IsHeld store) where
       seen_went new (with_room s next store.desks) left (mine s held busy) gives.others (rest_beside s held busy new next Step put)
       (ap (task_at new) gives.here ∙ ap (shown new.schemas left) is_busy)
       (subst (λ (n : ℕ). left < n) (sym (ap undo_to_go (task_is s store ∙ ap (task_at store.world) at
-      ∙ ap (shown store.world.schemas (left_in store.world (Some was))) is_busy))) (nearer s held busy new next put memory later))
+      ∙ ap (shown store.world.schemas (left_in store.world (Some was))) is_busy))) (nearer s held busy new next put hand later))

@@ -14,7 +14,7 @@ use Rattle.inno_types.specs.declared.value.Schema.{Schema}
 use Rattle.row_versions.specs.Versions.{Versions}
 use Rattle.sql_history.specs.Settings.{Setting, at_first}
 use Rattle.shared_lists.specs.{Tasks.Task, Tasks.is_changing, Tasks.asked, Tasks.steps_left, Tasks.left_by, State.task_of, State.IsNow, State.Turns}
-use Rattle.shared_lists.specs.{State.Lists, declared.answers.Reading.Reading, Steps.Changes, Steps.rows_of_change, Steps.rows_entered}
+use Rattle.shared_lists.specs.{State.Lists, declared.answers.Reading.Reading, Steps.Changes, Steps.rows_of_change, Steps.rows_entered, Steps.IsLacking, declared.answers.Hindrance.Hindrance}
 use Rattle.desks.specs.Shown.{shown, task_at, lists_of, reading_of, change_in}
 use Rattle.desks.specs.declared.desk.Doing.TheVariants.{Nothing, Searching, Changing, Lagging, Undoing}
 use Rattle.desks.specs.Desks.{desk_at, doing_in, doing_at, with_doing, is_quiet_doing, is_undoing, Store}
@@ -255,9 +255,10 @@ module _ {s : ℕ} {store : Store} {new : WorldState} (held : IsHeld store) (min
     given_undoes_not (Record c key after) = refl
     given_undoes_not (Keys c) = refl
 
-    pub given_up_shown : AddsNothing old new
-        → Changes s (lists_of store).state (lists_of (then_does (given_up change))).state (stepped.Hindered (record {}))
-    given_up_shown adds = now_shown (given_up change) (given_undoes_not change) adds.past (left_of change ∙ ap left_by (sym was_asked))
+    pub given_up_shown : (why : Hindrance) → IsLacking why → AddsNothing old new
+        → Changes s (lists_of store).state (lists_of (then_does (given_up change))).state (stepped.Hindered why)
+    given_up_shown why lacks adds =
+        (lacks, now_shown (given_up change) (given_undoes_not change) adds.past (left_of change ∙ ap left_by (sym was_asked)))
 
     -- the rows that the history holds more are those of the change that was asked for
     pub rows_shown : {next : RowChange} → IsEntered s old new change next

@@ -1,3 +1,4 @@
 pub mod Making
 pub mod Leaving
 pub mod Begun
+pub mod Hindering

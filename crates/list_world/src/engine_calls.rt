@@ -3,7 +3,7 @@
 
 ghost use Rattle.std.specs.Prelude.{◌≡◌, ◌+◌, ◌<◌, ◌≤◌, ◌^◌, ◌++◌, ◌∷◌, [], length, reverse, IfOk, OnOk, OnErr, vec_len, vec_capacity};
 ghost use Rattle.sql_history.specs.Counts.{rows_of_reply};
-ghost use Rattle.list_world.specs.Memory.{in_memory};
+ghost use Rattle.list_world.specs.Memory.{at_hand};
 ghost use Rattle.list_world.specs.Parts.{world_of, AreAdded};
 
 use crate::list_world::ListWorld;
@@ -18,7 +18,7 @@ use world::EngineWorld;
 use world_parts::{SessionRoom, take_room};
 
 impl EngineWorld for ListWorld {
-    ghost tells = { in_memory };
+    ghost never_delays = { at_hand };
 
     fn history(&self) -> &History {
         // It does nothing, and tells that there are fewer than 2 ^ 63.

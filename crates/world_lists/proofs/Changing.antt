@@ -20,8 +20,12 @@ use Rattle.desks.proofs.Showing.{task_is, desk_read, given_at}
 use Rattle.law_held_steps.proofs.Showing.{begun_turns, begun_task, went_shown, entered_shown, done_shown, given_up_shown, rows_shown, left_shown}
 use Rattle.row_changes.proofs.Pushed.{at_row, changes_row}
 use Rattle.law_held_steps.proofs.{Made.can_be_keyed, Made.begins, Made.change_made, Hindering.last_lacks, Hindering.room_lacks, Hindering.keys_lack}
+use Rattle.law_held_steps.proofs.Hindering.{lacking}
+use Rattle.law_held_steps.specs.Hindering.{IsForWant, hindrance_of}
+use Rattle.shared_lists.specs.declared.answers.Hindrance.TheVariants as hindrances
 use Rattle.law_held_steps.proofs.{Putting.changing_rows, Putting.alone_if, AnyStep.doing_here, AnyStep.changes_at_a_desk, Places.held_left}
-use Rattle.world_lists.specs.Parts.{StepsChange, StepsAtDesk, HasChange, IsThereToRemove, RemovesRow, MayGoOn, LeavesIfOver, doing_now, is_told, answer_for}
+use Rattle.world_lists.specs.Parts.{StepsChange, StepsAtDesk, HasChange, IsThereToRemove, RemovesRow, MayGoOn, LeavesIfOver, IsForWantIfHindered}
+use Rattle.world_lists.specs.Parts.{doing_now, is_told, answer_for}
 use Rattle.world_lists.specs.Between.{IsKept, AwaitsWriter}
 use Rattle.inno_model.specs.{Past.IsOpen, Past.own, Past.commits, Past.committed, declared.event.Event.Event}
 use Rattle.row_changes.specs.{Reached.Went, Reached.Done, Reached.Hindered, Reached.Reached, Rows.IsChangingRow, Rows.IsAtRow, Rows.MakesRow, Rows.ChangesRow}
@@ -42,7 +46,7 @@ use Rattle.law_logged_changes.proofs.Leaving.{left_told}
 use Rattle.inno_types.specs.{declared.value.Column.Column, declared.value.Schema.Schema, declared.value.Value.Value}
 use Rattle.store_api.specs.declared.moves.Move.TheVariants.{NoMemory, End}
 use Rattle.store_api.specs.{declared.moves.Move.Move, declared.answers.Version.Version as Coded}
-use Rattle.world.specs.{State.WorldState, Told.IsTold, Told.pairs_of, Memory.IsInMemory}
+use Rattle.world.specs.{State.WorldState, Told.IsTold, Told.pairs_of, AtHand.IsAtHand}
 use Rattle.row_codec.specs.Rows.{IsRecordOf}
 use Rattle.entries.specs.Pairs.{value_of}
 use Rattle.law_past_agreement.proofs.Rows.{row_at-append}
@@ -51,7 +55,8 @@ use Rattle.law_world_agreement.specs.Agreement.{Agrees}
 use Rattle.law_world_agreement.proofs.Readers.{seen_newest}
 use Rattle.law_logged_changes.specs.Logs.{IsAloneAt}
 
--- ---- Nothing but want of memory hinders a step in memory where nobody else is awaited: the record is coded, and there where it is to be removed.
+-- ---- Nothing but want of memory, of pages or of levels hinders a step over a store at hand where nobody else is awaited: the record is coded, and
+-- there where it is to be removed.
 
 no_row : (row : Option (List Value)) → row ≡ None → is_some row ≡ true → ⊥
 no_row None none is = absurd (false≢true is)
@@ -110,29 +115,29 @@ module _ (chains : Chains) (beside : Said) (state : WorldState) (told : IsTold s
 
 -- ---- a step
 
-module _ (s : ℕ) (chains : Chains) (beside : Said) (old new : WorldState) (memory : IsInMemory old) (tells : IsTold new) (alone : IsAwaitedAlone s old) where
+module _ (s : ℕ) (chains : Chains) (beside : Said) (old new : WorldState) (was : IsAtHand old) (now : IsAtHand new) (alone : IsAwaitedAlone s old) where
   record_lacks : (change : RecordChange) (schema : Schema) (why : Move) → IsTable change.table schema old → FitsEdit schema change.edit change.key
       → HasRowsAt chains beside change.table change.key old → IsThereToRemove chains change.table change.edit → HindersRecord s change schema old new why
-      → why ≡ NoMemory
+      → IsForWant why
   record_lacks change schema why is fits rows has (inl call) =
-      last_lacks s old new memory alone tells (clustered_index change.table) why call
-  record_lacks change schema why is fits rows has (inr (inl room)) = room_lacks s old new memory _ why room.0 room.1
+      last_lacks s old new was now alone (clustered_index change.table) why call
+  record_lacks change schema why is fits rows has (inr (inl room)) = room_lacks s old new was now _ why room.0 room.1
   record_lacks change schema why is fits rows has (inr (inr (inl spoiled))) =
-      absurd (never_spoiled chains beside old memory.told change.table schema change.edit change.key is.there fits rows spoiled)
+      absurd (never_spoiled chains beside old was.told change.table schema change.edit change.key is.there fits rows spoiled)
   record_lacks change schema why is fits rows has (inr (inr (inr lacks))) =
-      absurd (never_lacks chains beside old memory.told change.table schema change.edit change.key is.there fits rows change.edit why refl has lacks)
+      absurd (never_lacks chains beside old was.told change.table schema change.edit change.key is.there fits rows change.edit why refl has lacks)
 
--- a step of a change that may go on is hindered for want of memory alone
-pub hindered_for_memory : (s : ℕ) (old new : WorldState) (change same : RowChange) (why : Move) → IsInMemory old → IsTold new → (may : MayGoOn s old change)
-    → ChangesRow s may.chains may.beside old new change (Hindered same why) → why ≡ NoMemory
-hindered_for_memory s old new (Record change key after) same why memory tells may made =
+-- a step of a change that may go on is hindered for such a want alone
+hindered_for_want : (s : ℕ) (old new : WorldState) (change same : RowChange) (why : Move) → IsAtHand old → IsAtHand new → (may : MayGoOn s old change)
+    → ChangesRow s may.chains may.beside old new change (Hindered same why) → IsForWant why
+hindered_for_want s old new (Record change key after) same why was now may made =
     let is = may.changing.0 in
     let off = made.2 in
     let one = one_found is.schema off.1 is.table.there off.2.there in
-    record_lacks s may.chains may.beside old new memory tells may.alone change off.1 why off.2
+    record_lacks s may.chains may.beside old new was now may.alone change off.1 why off.2
     (subst (λ (schema : Schema). FitsEdit schema change.edit change.key) one is.fits) may.changing.1 may.removes off.3
-hindered_for_memory s old new (Keys change) same why memory tells may made =
-    keys_lack s old new memory may.alone change why made.2.1
+hindered_for_want s old new (Keys change) same why was now may made =
+    keys_lack s old new was now may.alone change why made.2.1
 
 -- ---- the newest row of a place is the one that the session sees, where no other has changes of it
 
@@ -201,6 +206,13 @@ pub changed_as : (s : ℕ) (old new : WorldState) (change : RowChange) (reached 
 changed_as s old new change reached made chains beside p =
     changes_row s chains beside old new change reached p (made chains beside (at_row s chains beside old change p))
 
+pub wants_of : (s : ℕ) (old new : WorldState) (change same : RowChange) (why : Move) {came : Reached RowChange} → IsAtHand old → IsAtHand new
+    → MayGoOn s old change → ((chains : Chains) (beside : Said) → IsAtRow s chains beside old change → MakesRow s chains beside old new change came)
+    → came ≡ Hindered same why → IsForWant why
+wants_of s old new change same why was now may made is =
+    hindered_for_want s old new change same why was now may (subst (ChangesRow s may.chains may.beside old new change) is
+    (changed_as s old new change _ made may.chains may.beside may.changing))
+
 -- it is there where a change has come so far, and where one is given up
 module _ (s : ℕ) {table : ℕ} (change : RowChange) (table_is : table ≡ table_of change) (old : WorldState)
     (may : (chains : Chains) × (beside : Said) × IsChangingRow s chains beside old change) where
@@ -228,7 +240,7 @@ pub answer_over : (change : RowChange) → stepped.Done part.Keys ≡ answer_for
 answer_over (Record change key after) = refl
 answer_over (Keys change) = refl
 
-pub answer_hindered : (change same : RowChange) (why : Move) → stepped.Hindered (record {}) ≡ answer_for change (Hindered same why)
+pub answer_hindered : (change same : RowChange) (why : Move) → stepped.Hindered (hindrance_of why) ≡ answer_for change (Hindered same why)
 answer_hindered (Record change key after) same why = refl
 answer_hindered (Keys change) same why = refl
 
@@ -243,15 +255,16 @@ lies_there (Keys change) (Keys next) is = ap (doing_now (Keys change) (Keys next
 pub step_of : {s : ℕ} (change : RowChange) {old mid new : WorldState} {doing : Doing} {answer : Changed} {came : Reached RowChange}
     (reached : Reached RowChange) → AwaitsIn s (table_of change) old mid → MovesPlaces s mid new → came ≡ reached
     → ((chains : Chains) (beside : Said) → IsChangingRow s chains beside old change → ChangesRow s chains beside old mid change came)
-    → LeavesIfOver s (table_of change) mid new reached → doing ≡ doing_after change reached → answer ≡ answer_for change reached
-    → StepsChange s change old new doing answer
-step_of {s} change {old} {mid} reached awaits left is made gone doing_is answer_is = record {
+    → LeavesIfOver s (table_of change) mid new reached → IsForWantIfHindered reached → doing ≡ doing_after change reached
+    → answer ≡ answer_for change reached → StepsChange s change old new doing answer
+step_of {s} change {old} {mid} reached awaits left is made gone wants doing_is answer_is = record {
   mid = mid;
   reached = reached;
   made = λ chains beside changing. subst (ChangesRow s chains beside old mid change) is (made chains beside changing);
   awaits = awaits;
   left = left;
   gone = gone;
+  wants = wants;
   doing_is = doing_is;
   answer_is = answer_is;
 }
@@ -391,22 +404,22 @@ module _ {s : ℕ} {store : Store} {new : WorldState} (held : IsHeld store) (min
   abbrev Shows : RowChange → Reached RowChange → Type 0
   Shows change came = ChangesIn s (lists_of store) (lists_of (made_to s store new change came)) (answer_for change came)
 
-  came_shown : (change : RowChange) (came : Reached RowChange) → doing_at s store.desks ≡ Changing change → Comes s was_world new change came
-      → Shows change came
-  came_shown (Record change key after) (Went (Record next key' after')) at comes =
+  came_shown : (change : RowChange) (came : Reached RowChange) → doing_at s store.desks ≡ Changing change → IsForWantIfHindered came
+      → Comes s was_world new change came → Shows change came
+  came_shown (Record change key after) (Went (Record next key' after')) at wants comes =
       all_of (went_shown held mine leaves within at comes) leaves.settings (no_more new.rows was_world.rows comes.adds.rows)
-  came_shown (Record change key after) (Went (Keys next)) at comes =
+  came_shown (Record change key after) (Went (Keys next)) at wants comes =
       all_of (entered_shown held mine leaves within at comes) leaves.settings (rows_shown held mine leaves within at comes)
-  came_shown (Keys change) (Went (Record next key' after')) at comes = absurd comes
-  came_shown (Keys change) (Went (Keys next)) at comes =
+  came_shown (Keys change) (Went (Record next key' after')) at wants comes = absurd comes
+  came_shown (Keys change) (Went (Keys next)) at wants comes =
       all_of (went_shown held mine leaves within at comes) leaves.settings (no_more new.rows was_world.rows comes.adds.rows)
-  came_shown (Record change key after) Done at comes = absurd (let none = comes.1 in cc)
-  came_shown (Keys change) Done at comes =
+  came_shown (Record change key after) Done at wants comes = absurd (let none = comes.1 in cc)
+  came_shown (Keys change) Done at wants comes =
       all_of (done_shown held mine leaves within at comes.0 comes.1) leaves.settings (no_more new.rows was_world.rows comes.0.rows)
-  came_shown (Record change key after) (Hindered same why) at comes =
-      all_of (given_up_shown held mine leaves within at comes.0) leaves.settings (no_more new.rows was_world.rows comes.0.rows)
-  came_shown (Keys change) (Hindered same why) at comes =
-      all_of (given_up_shown held mine leaves within at comes.0) leaves.settings (no_more new.rows was_world.rows comes.0.rows)
+  came_shown (Record change key after) (Hindered same why) at wants comes =
+      all_of (given_up_shown held mine leaves within at (hindrance_of why) (lacking why wants) comes.0) leaves.settings (no_more new.rows was_world.rows comes.0.rows)
+  came_shown (Keys change) (Hindered same why) at wants comes =
+      all_of (given_up_shown held mine leaves within at (hindrance_of why) (lacking why wants) comes.0) leaves.settings (no_more new.rows was_world.rows comes.0.rows)
 
 -- A step is made of the change at the desk of the session, which may write.
 module _ (s : ℕ) {store : Store} {new : WorldState} {change : RowChange} {doing : Doing} {answer : Changed}
@@ -456,7 +469,7 @@ module _ (s : ℕ) {store : Store} {new : WorldState} {change : RowChange} {doin
       as_made (λ now. ChangesIn s (lists_of store) (lists_of now) answer) (subst (λ (a : Changed). ChangesIn s (lists_of store)
       (lists_of (record made_mid { world = new })) a) (sym step.answer_is) (subst (λ (now : Lists). ChangesIn s (lists_of store) now
       (answer_for change step.reached)) (sym (left_shown made_mid step.left none told))
-      (came_shown kept.held mine is_made.leaves within change step.reached at is_made.comes)))
+      (came_shown kept.held mine is_made.leaves within change step.reached at step.wants is_made.comes)))
 
 untold_if : (schemas : List Schema) (left : ℕ) (change : RowChange) {asks : Change} → asked (shown schemas left (Changing change)) ≡ Some asks
     → is_told change ≡ false
@@ -494,11 +507,11 @@ module _ (s : ℕ) {store : Store} {lists : Lists} (kept : IsKept store) (view :
         (lists_of (record store { world = new; desks = ds })) answer) (sym gives) (mine_shown s step kept its at was told few))
 
     -- a change that was asked for and is given up is nothing
-    pub step_stops : (asks : Change) → asked (task_of s lists.state) ≡ Some asks → answer ≡ stepped.Hindered (record {})
+    pub step_stops : (asks : Change) → asked (task_of s lists.state) ≡ Some asks → answer ≡ stepped.Hindered hindrances.NoMemory
         → Turns s Idle lists.state (lists_of now).state
     step_stops asks asked_is is =
         subst (λ (o : Option Change). Turns s (left_by o) lists.state (lists_of now).state) asked_is
-        (subst (Changes s lists.state (lists_of now).state) is step_shown.changes)
+        (subst (Changes s lists.state (lists_of now).state) is step_shown.changes).1
 
   -- what it has under way, where that is known
   pub its_change : {change : RowChange} → doing_at s store.desks ≡ Changing change
@@ -558,6 +571,3 @@ module _ (s : ℕ) {store : Store} {lists : Lists} (kept : IsKept store) (view :
 
 pub none_entered : (new old : ℕ) → new ≡ old + 0 → new ≡ old
 none_entered new old same = omega (arith, same)
-
--- ---- Nothing but want of memory hinders a step of a change in memory where nobody else is awaited: its record is coded, and there where it is to
--- be removed.

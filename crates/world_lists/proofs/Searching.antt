@@ -4,11 +4,15 @@ use Rattle.row_search.specs.declared.sight.Sight.TheVariants as sights
 use Rattle.shared_lists.specs.declared.answers.Reading.TheVariants as readings
 use Rattle.store_api.specs.declared.stepped.Stepped.TheVariants as stepped
 use Rattle.shared_lists.specs.Tasks as tasks
+use Rattle.shared_lists.specs.declared.answers.Hindrance.{Hindrance as Wants}
+use Rattle.shared_lists.specs.declared.answers.Hindrance.TheVariants as hindrances
 use Rattle.std.proofs.Common.{◌≡◌, ◌≢◌, inl, inr, ℕ, ◌<◌, ◌==◌, true, false, not, List, map, length, get_or, Option, Some, None, slice_get, [], Result, Ok, Err}
 use Rattle.std.proofs.Common.{refl, sym, ap, subst, ◌∙◌, arith, Bool, ⊎_elim}
 use Rattle.std.proofs.{lemmas.Bool.Decides.eqb_tells, lemmas.Option.slice_get_within, lemmas.Option.get_or_from_slice_get}
 use Rattle.std.specs.Prelude.{◌≤◌, is_some, IfSome, IfOk, if◌then◌else◌}
 use Rattle.store_api.specs.declared.moves.Move.{Move}
+use Rattle.store_api.specs.declared.moves.Move.TheVariants.{NoMemory}
+use Rattle.law_held_steps.proofs.Hindering.{search_lacks}
 use Rattle.entries.specs.Calls.{Leaves}
 use Rattle.row_versions.specs.Chains.{Chains}
 use Rattle.sql_plan.specs.declared.choice.Plan.{Plan}
@@ -27,7 +31,7 @@ use Rattle.read_view.specs.Sight.{Sight as ReadSight}
 use Rattle.inno_types.specs.{Order.IsBelow, declared.value.Value.Value, declared.value.Schema.Schema}
 use Rattle.inno_model.specs.{declared.event.Event.Event, Past.own, Past.view_of, Past.IsOpen}
 use Rattle.law_past_agreement.specs.Order.{created}
-use Rattle.world.specs.{State.WorldState, Told.IsTold, Indexes.Calls}
+use Rattle.world.specs.{State.WorldState, Told.IsTold, AtHand.IsAtHand, Indexes.Calls}
 use Rattle.row_search.specs.Steps.{GoesOn, Waits, Ends, Searches as Steps}
 use Rattle.row_search.specs.declared.search.{Hindrance.Hindrance, Hindrance.TheVariants.Call}
 use Rattle.row_search.specs.{declared.found.FoundRow.FoundRow, declared.search.RowSearch.RowSearch, declared.sight.Sight.Sight}
@@ -67,6 +71,12 @@ pub waits_by : {s : ℕ} {schema : Schema} {old new : WorldState} {search next :
 waits_by {s} {schema} {old} {new} {search} {next} is made =
     subst (λ (h : Hindrance). Steps s schema old new search next (stepped.Hindered h)) is made
 
+-- over a store at hand it waits for memory alone
+pub waits_for_memory : {s : ℕ} {schema : Schema} {old new : WorldState} {search same : RowSearch} {why : Move} → IsAtHand old → IsAtHand new
+    → Waits s schema old new search same why → why ≡ NoMemory
+waits_for_memory {s} {schema} {old} {new} {search} {same} {why} was now waits =
+    search_lacks s old new was now search.scan search.phase why waits.cause
+
 no_search : (on : TableSearch) → Nothing ≡ Searching on → ⊥
 no_search on same = cc
 
@@ -87,11 +97,11 @@ answered found (Err why) IsRight is right = record {}
 -- what a search that is over answers, and what callers see of it
 over_by : (table : ℕ) (plan : Plan) (reading : Reading) (s : ℕ) (old new : State) (rows : List (List Value)) (answer : Searched)
     → ((given : List (List Value)) → answer ≡ stepped.Done given → given ≡ rows) → answer ≢ stepped.Went
-    → Turns s tasks.Idle old new → AreFoundBy reading table plan old.past s rows → Searches table plan reading s old new answer
-over_by table plan reading s old new rows stepped.Went is over turns found = absurd (over refl)
-over_by table plan reading s old new rows (stepped.Done given) is over turns found =
+    → ((why : Wants) → answer ≡ stepped.Hindered why → why ≡ hindrances.NoMemory) → Turns s tasks.Idle old new → AreFoundBy reading table plan old.past s rows → Searches table plan reading s old new answer
+over_by table plan reading s old new rows stepped.Went is over wants turns found = absurd (over refl)
+over_by table plan reading s old new rows (stepped.Done given) is over wants turns found =
     (turns, subst (AreFoundBy reading table plan old.past s) (sym (is given refl)) found)
-over_by table plan reading s old new rows (stepped.Hindered why) is over turns found = turns
+over_by table plan reading s old new rows (stepped.Hindered why) is over wants turns found = (wants why refl, turns)
 
 found_as : (table : ℕ) (plan : Plan) (reading : Reading) (s : ℕ) (past : List Event) (rows : List (List Value)) (on : TableSearch) → IsSearchOf (Searching on)
     table plan reading → AreFoundBy (reading_of on.search.scan.sight) on.search.scan.table (plan_of on) past s rows → AreFoundBy reading table plan past s rows
@@ -289,11 +299,11 @@ module _ (s : ℕ) {store : Store} {lists : Lists} (kept : IsKept store) (view :
             ended_kept = kept_now Nothing at (leaving_moves s _ old new ends.leaves) (ended s kept.held is search taken_up told ends).0
 
             pub ended_seen : {answer : Searched} → ((rows : List (List Value)) → answer ≡ stepped.Done rows → rows ≡ map (λ (f : FoundRow). f.row) found)
-                → answer ≢ stepped.Went → (table : ℕ) (plan : Plan) (reading : Reading) → task_of s lists.state ≡ tasks.Searching table plan reading → Searches
+                → answer ≢ stepped.Went → ((why : Wants) → answer ≡ stepped.Hindered why → why ≡ hindrances.NoMemory) → (table : ℕ) (plan : Plan) (reading : Reading) → task_of s lists.state ≡ tasks.Searching table plan reading → Searches
                 table plan reading s lists.state (now_in new after) answer
-            ended_seen {answer} rows over table plan reading task =
+            ended_seen {answer} rows over wants table plan reading task =
                 let on_end = ended s kept.held is search taken_up told ends in
-                over_by table plan reading s lists.state (now_in new after) (map (λ (f : FoundRow). f.row) found) answer rows over (turns_idle at on_end.1 told)
+                over_by table plan reading s lists.state (now_in new after) (map (λ (f : FoundRow). f.row) found) answer rows over wants (turns_idle at on_end.1 told)
                 (found_as table plan reading s lists.state.past (map (λ (f : FoundRow). f.row) found) on (search_of table plan reading task)
                 (subst (λ (l : Lists). AreFoundBy (reading_of on.search.scan.sight) on.search.scan.table (plan_of on) l.state.past s
                 (map (λ (f : FoundRow). f.row) found)) view on_end.2))

@@ -11,7 +11,7 @@ use Rattle.entries.specs.Index.{Index}
 use Rattle.law_stored_rows.specs.Tables.{Said}
 use Rattle.law_past_agreement.specs.Order.{MayCome}
 use Rattle.world.specs.{State.WorldState, State.Session, State.Work, State.IsSession, State.HasWork, State.standing_of, Told.TellsTogether}
-use Rattle.world.specs.{declared.undo_room.UndoRoom.UndoRoom, Undoing.read_into, Undoing.ReadsLast, Undoing.IsCutBack, Undoing.HoldsRecord, Memory.IsInMemory}
+use Rattle.world.specs.{declared.undo_room.UndoRoom.UndoRoom, Undoing.read_into, Undoing.ReadsLast, Undoing.IsCutBack, Undoing.HoldsRecord, AtHand.IsAtHand}
 use Rattle.row_changes.specs.Awaited.{AwaitsIn, IsOfTable}
 use Rattle.desks.specs.declared.desk.Doing.TheVariants.{Nothing, Searching, Changing, Lagging, Undoing}
 use Rattle.desks.specs.Desks.{Store, desk_at, doing_in, doing_at, with_doing, with_read, with_room}
@@ -65,7 +65,7 @@ module _ (s : ℕ) {store : Store} {lists : Lists} (kept : IsKept store) (view :
     may_read = (kept.held.rooms s desk its_desk).record_room
 
     module _ (may : MayCome lists.state.past (Undone s (length (own s lists.state.past) - 1))) (task : MayTakeBack (task_of s lists.state))
-        (waits : (n : ℕ) → task_of s lists.state ≡ tasks.Undoing n → ⊥) (new : WorldState) (read : UndoRoom) (there : Bool) (memory : IsInMemory new)
+        (waits : (n : ℕ) → task_of s lists.state ≡ tasks.Undoing n → ⊥) (new : WorldState) (read : UndoRoom) (there : Bool) (hand : IsAtHand new)
         (reads : ReadsLast s s (read_into read) there world new Done) {later : List Desk}
         (gives : later ≡ with_doing s Undoing (slice_set store.desks s (record desk { undo = read }))) where
       may_here : MayCome world.past (Undone s (length (own s world.past) - 1))
@@ -89,7 +89,7 @@ module _ (s : ℕ) {store : Store} {lists : Lists} (kept : IsKept store) (view :
       pub read_kept : HoldsRecord read → IsKept (record store { world = new; desks = later })
       read_kept holds = record {
         held = subst (λ (ds : List Desk). IsHeld (record store { world = new; desks = ds })) (sym reads_given)
-            (held_begun s kept.held (length (own s world.past) - 1) may_here new read there reads its_desk desk_ready memory holds);
+            (held_begun s kept.held (length (own s world.past) - 1) may_here new read there reads its_desk desk_ready hand holds);
         awaits = awaits_of_nobody (record store { world = new; desks = later }) (λ index by is. awaits_none s kept.awaits (may_write s kept.held
             (length (own s world.past) - 1) may_here) (rests (desk_at s store.desks) refl (λ undone. ready_rests undone (doing_at s store.desks) is_ready))
             index by (sym (reads.1.indexes index).awaited ∙ is));
@@ -100,7 +100,7 @@ module _ (s : ℕ) {store : Store} {lists : Lists} (kept : IsKept store) (view :
           subst (λ (l : Lists). TakesBackIn s (length (own s l.state.past) - 1) l (lists_of (record store { world = new; desks = later })) stepped.Went) view
           (subst (λ (ds : List Desk). TakesBackIn s (length (own s world.past) - 1) (lists_of store) (lists_of (record store { world = new; desks = ds }))
           stepped.Went) (sym reads_given)
-          (shows_begun s (length (own s world.past) - 1) kept.held new read there its_desk desk_ready may_here memory reads))
+          (shows_begun s (length (own s world.past) - 1) kept.held new read there its_desk desk_ready may_here hand reads))
 
 -- ---- a step
 
@@ -108,7 +108,7 @@ step_is_not_done : Step ≢ Done
 step_is_not_done same = cc
 
 module _ (s : ℕ) {store : Store} (kept : IsKept store) (joined : s < length store.desks) (busy : doing_at s store.desks ≡ Undoing)
-    (memory : IsInMemory store.world) {desk : Desk} (is : desk ≡ get_or store.desks s desk) where
+    (hand : IsAtHand store.world) {desk : Desk} (is : desk ≡ get_or store.desks s desk) where
   abbrev old : WorldState
   old = store.world
 
@@ -135,7 +135,7 @@ module _ (s : ℕ) {store : Store} (kept : IsKept store) (joined : s < length st
       × TellsTogether old
   asks =
       subst (λ (d : Desk). ((chains : Chains) × (beside : Said) × (place : Place) × IsPuttingBack chains beside place (read_into d.undo) d.room old)
-      × TellsTogether old) same (asks_for s kept.held busy memory)
+      × TellsTogether old) same (asks_for s kept.held busy hand)
 
   module _ (mid : WorldState) (next : WorkRoom) where
     abbrev PutsTo : Move → Type 0
@@ -152,20 +152,20 @@ module _ (s : ℕ) {store : Store} (kept : IsKept store) (joined : s < length st
     put_room = set_at s (λ d. record d { room = next }) store.desks at
 
     -- nothing hinders it
-    pub is_made : (answer : Move) → PutsTo answer → answer ≢ Done → answer ≢ Step → ⊥
-    is_made answer put not_done not_step =
+    pub is_made : IsAtHand mid → (answer : Move) → PutsTo answer → answer ≢ Done → answer ≢ Step → ⊥
+    is_made later answer put not_done not_step =
         ⊎_elim (λ done. not_done done) (λ step. not_step step)
-        (goes_or_is_done s kept.held busy mid next answer (its_put answer put) memory (λ index by is. (only.each index by is).0))
+        (goes_or_is_done s kept.held busy mid next answer (its_put answer put) hand later (λ index by is. (only.each index by is).0))
 
     -- it goes on
-    module _ (put : PutsTo Step) (later : IsInMemory mid) where
+    module _ (put : PutsTo Step) (later : IsAtHand mid) where
       abbrev gone_on : List Desk → Store
       gone_on desks = record store { world = mid; desks = desks }
 
       pub step_kept : AwaitsIn s table old mid → IsKept (gone_on (slice_set store.desks s (record desk { room = next })))
       step_kept awaits =
           subst (λ (ds : List Desk). IsKept (gone_on ds)) (sym put_room) (record {
-            held = held_on s kept.held busy mid next Step (its_put Step put) step_is_not_done memory later;
+            held = held_on s kept.held busy mid next Step (its_put Step put) step_is_not_done hand later;
             awaits = writer_of_only s table (gone_on (with_room s next store.desks)) (only_then s table old mid only awaits (same_schemas Step put)) by_me
                 (ap table_at (desk_here s (λ d. record d { room = next }) store.desks ∙ ap (option_map (λ (d : Desk). record d { room = next })) at)
                 ∙ its_table next);
@@ -175,7 +175,7 @@ module _ (s : ℕ) {store : Store} (kept : IsKept store) (joined : s < length st
           (lists_of (gone_on (slice_set store.desks s (record desk { room = next })))) stepped.Went
       step_shown =
           subst (λ (ds : List Desk). TakesBackIn s (length (own s old.past) - 1) (lists_of store) (lists_of (gone_on ds)) stepped.Went) (sym put_room)
-          (shows_went s (length (own s old.past) - 1) kept.held busy mid next memory later (its_put Step put))
+          (shows_went s (length (own s old.past) - 1) kept.held busy mid next hand later (its_put Step put))
 
     -- It is the last one, and the undo record may go.
     module _ (put : PutsTo Done) where
@@ -223,7 +223,7 @@ module _ (s : ℕ) {store : Store} (kept : IsKept store) (joined : s < length st
             (schema, ap (λ (schemas : List Schema). slice_get schemas table) (drops_same.1 ∙ same_schemas Done put) ∙ there, fewer)
 
         -- the indexes of the table are left
-        module _ {fin : WorldState} (leaves : MovesPlaces s new fin) (later : IsInMemory fin) {now : List Desk}
+        module _ {fin : WorldState} (leaves : MovesPlaces s new fin) (later : IsAtHand fin) {now : List Desk}
             (gives : now ≡ with_doing s Nothing (slice_set store.desks s (record desk { room = next }))) where
           abbrev taken : Store
           taken = record store { world = new; desks = with_doing s Nothing (with_room s next store.desks); cuts = store.cuts + 1 }
@@ -240,7 +240,7 @@ module _ (s : ℕ) {store : Store} (kept : IsKept store) (joined : s < length st
           pub done_kept : length new.past < 2 ^ 63 → AwaitsIn s table old mid → LeavesTable s table new fin → IsKept (made now)
           done_kept few awaits gone = record {
             held = subst (λ (ds : List Desk). IsHeld (made ds)) (sym left_given) (held_left {store = taken} leaves (held_then s kept.held busy mid next its
-                drops.cut drops.cuts keep new drops.added keep_is memory (moves_told leaves later.told) few) not_searching later.told);
+                drops.cut drops.cuts keep new drops.added keep_is hand (moves_told leaves later.told) few) not_searching later.told);
             awaits = awaits_of_nobody (made now) (only_left s table new fin (record {
               each = λ index by is. (let was = (only_then s table old mid only awaits (same_schemas Done put)).each index by
                   (ap (λ (at : ℕ → Index). (at index).awaited) (sym drops_same.0) ∙ is) in

@@ -13,7 +13,8 @@ use Rattle.shared_lists.specs.Answers.{Changed}
 use Rattle.shared_lists.specs.declared.answers.ChangePart.TheVariants as part
 use Rattle.desks.specs.{declared.desk.Doing.Doing, declared.desk.Doing.TheVariants.Nothing, declared.desk.Doing.TheVariants.Changing, Desks.doing_at}
 use Rattle.desks.specs.{Desks.with_doing, declared.desk.Desk.Desk}
-use Rattle.law_held_steps.specs.{Making.given_up, Making.doing_after, Leaving.MovesPlaces, Leaving.LeavesTable}
+use Rattle.law_held_steps.specs.{Making.given_up, Making.doing_after, Leaving.MovesPlaces, Leaving.LeavesTable, Hindering.IsForWant}
+use Rattle.law_held_steps.specs.Hindering.{hindrance_of}
 use Rattle.row_changes.specs.Reached as reached
 
 -- whether the history tells the change
@@ -26,11 +27,16 @@ abbrev pub answer_for : RowChange → Reached RowChange → Changed
 answer_for (Record change key after) (reached.Went (Keys next)) = Done part.Record
 answer_for change (reached.Went next) = Went
 answer_for change reached.Done = Done part.Keys
-answer_for change (reached.Hindered same why) = Hindered (record {})
+answer_for change (reached.Hindered same why) = Hindered (hindrance_of why)
 
 abbrev pub LeavesIfOver : ℕ → ℕ → WorldState → WorldState → Reached RowChange → Type 0
 LeavesIfOver s table old new (reached.Went next) = Unit {0}
 LeavesIfOver s table old new other = LeavesTable s table old new
+
+-- one that was hindered was so for want of memory, of pages or of levels
+abbrev pub IsForWantIfHindered : Reached RowChange → Type 0
+IsForWantIfHindered (reached.Hindered same why) = IsForWant why
+IsForWantIfHindered other = Unit {0}
 
 -- The change has made a step; one that is over, or was hindered, awaits no keys any more.
 pub record StepsChange (s : ℕ) (change : RowChange) (old new : WorldState) (doing : Doing) (answer : Changed) : Type 0 where
@@ -40,6 +46,7 @@ pub record StepsChange (s : ℕ) (change : RowChange) (old new : WorldState) (do
   pub awaits : AwaitsIn s (table_of change) old mid
   pub left : MovesPlaces s mid new
   pub gone : LeavesIfOver s (table_of change) mid new reached
+  pub wants : IsForWantIfHindered reached
   pub doing_is : doing ≡ doing_after change reached
   pub answer_is : answer ≡ answer_for change reached
 
@@ -60,8 +67,8 @@ abbrev pub RemovesRow : Chains → RowChange → Type 0
 RemovesRow chains (Record change key after) = IsThereToRemove chains change.table change.edit
 RemovesRow chains (Keys change) = Unit {0}
 
--- The change may make its next step, which in memory nothing but want of it hinders: nobody else is awaited, and a row that it removes is
--- there.
+-- The change may make its next step, which over a store at hand nothing but want of memory, of pages or of levels hinders: nobody else is
+-- awaited, and a row that it removes is there.
 pub record MayGoOn (s : ℕ) (state : WorldState) (change : RowChange) : Type 0 where
   pub chains : Chains
   pub beside : Said

@@ -2,7 +2,8 @@
 //! `steps` alone calls these, for the search of one session.
 
 ghost use Rattle.std.specs.Prelude.{◌≡◌, ◌≢◌, ℕ, ◌<◌, ◌≤◌, true, false, length, map, IfOk, IfSome, OnOk, Some};
-ghost use Rattle.store_api.specs.declared.stepped.Stepped.TheVariants.{Went, Done};
+ghost use Rattle.store_api.specs.declared.stepped.Stepped.TheVariants.{Went, Done, Hindered};
+ghost use Rattle.shared_lists.specs.declared.answers.Hindrance.TheVariants as lists;
 ghost use Rattle.row_versions.specs.Chains.{Chains};
 ghost use Rattle.world.specs.State.{Session, IsSession};
 ghost use Rattle.desks.specs.Desks.{is_quiet};
@@ -95,10 +96,11 @@ pub fn rows_of(alloc: Global, found: Vec<FoundRow>) -> Result<Rows, NoMemory>
 pub fn found_rows(alloc: Global, found: Vec<FoundRow>) -> Searched
     ensures rows { (rows : _) → result ≡ Done rows → rows ≡ map (λ f. f.row) found.items }
     ensures over { result ≢ Went }
+    ensures hindered { (why : _) → result ≡ Hindered why → why ≡ lists.NoMemory }
 {
     match rows_of(alloc, found) {
         Ok(rows) => Stepped::Done(rows),
-        Err(_) => Stepped::Hindered(NoMemory),
+        Err(_) => Stepped::Hindered(shared_lists::Hindrance::NoMemory),
     }
 }
 

@@ -229,7 +229,7 @@ impl<W: EngineWorld> SharedLists for WorldLists<W> {
                         let TableSearch { search, schema, .. } = on;
                         search.give_up(&mut self.world, session, &schema);
                         drop(schema);
-                        Stepped::Hindered(NoMemory)
+                        Stepped::Hindered(shared_lists::Hindrance::NoMemory)
                     }
                     _ => unreachable!(),
                 },

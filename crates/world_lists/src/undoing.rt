@@ -16,6 +16,7 @@ ghost use Rattle.desks.specs.Desks.{doing_at};
 ghost use Rattle.desks.specs.Shown.{lists_of};
 ghost use Rattle.law_held_steps.specs.Leaving.{MovesPlaces, LeavesTable};
 ghost use Rattle.law_held_steps.specs.Making.{given_up};
+ghost use Rattle.law_held_steps.specs.Hindering.{IsForWant, hindrance_of};
 ghost use Rattle.law_held_steps.specs.Making.{TakesBackIn};
 ghost use Rattle.row_changes.specs.Reached as reached;
 ghost use Rattle.world_lists.specs.Parts.{StepsChange, HasChange, MayGoOn, StepsAtDesk, doing_now, DropsNewest, is_told, answer_for};
@@ -25,9 +26,9 @@ use crate::lists::is_short;
 use desks::{Desk, Doing, give_doing};
 use inno_db::{Change, index_number};
 use row_changes::{RowChange, RowEdit};
-use shared_lists::{ChangePart, Changed, Undone};
+use shared_lists::{ChangePart, Changed, Hindrance, Undone};
 use std::alloc::Global;
-use store_api::{Move, NoMemory, Stepped};
+use store_api::{Move, Stepped};
 use undo_apply::RecordRoom;
 use world::EngineWorld;
 
@@ -74,12 +75,12 @@ fn left_after(changed: &Changed, was_told: bool) -> Option<Doing>
             ChangePart::Record => None,
             ChangePart::Keys => Some(Doing::Nothing),
         },
-        Stepped::Hindered(NoMemory) => Some(given_up(was_told)),
+        Stepped::Hindered(_) => Some(given_up(was_told)),
     }
 }
 
-/// One step of a change. One that is over, or finds no memory, leaves the indexes of its table, and awaits no keys there. Nothing
-/// else hinders it.
+/// One step of a change. One that is over, or is given up for want of memory, of pages or of levels, leaves the indexes of its
+/// table, and awaits no keys there. Nothing else hinders it.
 fn step_change<W: EngineWorld>(
     alloc: Global,
     world: &mut W,
@@ -97,13 +98,24 @@ fn step_change<W: EngineWorld>(
             leave_table(world, session, table);
             Stepped::Done(ChangePart::Keys)
         }
-        Stepped::Hindered(why) => match why {
-            Move::NoMemory => {
-                leave_table(world, session, table);
-                Stepped::Hindered(NoMemory)
-            }
-            _ => unreachable!(),
-        },
+        Stepped::Hindered(why) => {
+            let hindrance = hindrance_of(why);
+            leave_table(world, session, table);
+            Stepped::Hindered(hindrance)
+        }
+    }
+}
+
+/// What a change is given up for whose call was hindered so.
+fn hindrance_of(why: Move) -> Hindrance
+    requires { IsForWant why }
+    ensures { result ≡ hindrance_of why }
+{
+    match why {
+        Move::NoMemory => Hindrance::NoMemory,
+        Move::Full { need, free } => Hindrance::Full { need, free },
+        Move::TooDeep => Hindrance::TooDeep,
+        _ => unreachable!(),
     }
 }
 
@@ -111,7 +123,7 @@ fn step_change<W: EngineWorld>(
 pub fn drop_change<W: EngineWorld>(world: &mut W, session: u32, change: RowChange) -> Doing
     requires changing { (chains : Chains) × (beside : Said) × IsChangingRow session chains beside (W.state world.old) change }
     requires untold { is_told change ≡ false }
-    ensures { StepsChange session change (W.state world.old) (W.state world.new) result (Hindered (record {})) }
+    ensures { StepsChange session change (W.state world.old) (W.state world.new) result (Hindered Hindrance.NoMemory) }
 {
     let table = table_of(&change);
     drop(change);

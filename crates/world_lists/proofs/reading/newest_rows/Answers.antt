@@ -11,11 +11,11 @@ reading-init g c =
 
 pub advance-requires-clause-searching : goal.advance-requires-clause-searching
 advance-requires-clause-searching g c =
-    (reading_steps _ _ _ _ _ _ (c.reading.invariant c.requires.0 c.requires.1) (g.met.W.EngineWorld.tells c.reading.world).told).searching
+    (reading_steps _ _ _ _ _ _ (c.reading.invariant c.requires.0 c.requires.1) (g.met.W.EngineWorld.never_delays c.reading.world).told).searching
 
 pub advance-requires-clause-table : goal.advance-requires-clause-table
 advance-requires-clause-table g c =
-    (reading_steps _ _ _ _ _ _ (c.reading.invariant c.requires.0 c.requires.1) (g.met.W.EngineWorld.tells c.reading.world).told).table
+    (reading_steps _ _ _ _ _ _ (c.reading.invariant c.requires.0 c.requires.1) (g.met.W.EngineWorld.never_delays c.reading.world).told).table
 
 pub returns-in-Done-clause-moves : goal.returns-in-Done-clause-moves
 returns-in-Done-clause-moves g c = (reading_ends _ _ _ _ _ _ (c.reading.invariant c.requires.0 c.requires.1) c.in-Done.ensures).1
@@ -26,19 +26,19 @@ returns-in-Done-clause-found g c = λ chains tells. (reading_ends _ _ _ _ _ _ (c
 pub give_up-requires : goal.give_up-requires
 give_up-requires g c =
     reading_steps _ _ _ _ _ _ (reading_waits _ _ _ _ _ _ (c.reading.invariant c.requires.0 c.requires.1) (waits_by c.in-Call.is c.in-Hindered.ensures)
-    (g.met.W.EngineWorld.tells
-    c.advance.new.world).told) (g.met.W.EngineWorld.tells c.advance.new.world).told
+    (g.met.W.EngineWorld.never_delays
+    c.advance.new.world).told) (g.met.W.EngineWorld.never_delays c.advance.new.world).told
 
 pub returns-in-NoMemory-clause-moves : goal.returns-in-NoMemory-clause-moves
 returns-in-NoMemory-clause-moves g c =
     moves_then (reading_waits _ _ _ _ _ _ (c.reading.invariant c.requires.0 c.requires.1) (waits_by c.in-Call.is c.in-Hindered.ensures)
-    (g.met.W.EngineWorld.tells
+    (g.met.W.EngineWorld.never_delays
     c.advance.new.world).told).moves c.give_up.ensures
 
 pub reading-preserved : goal.reading-preserved
 reading-preserved g c =
-    λ chains tells. reading_goes_on _ _ _ _ _ _ (c.reading.invariant chains tells) c.in-Went.ensures (g.met.W.EngineWorld.tells c.advance.new.world).told
+    λ chains tells. reading_goes_on _ _ _ _ _ _ (c.reading.invariant chains tells) c.in-Went.ensures (g.met.W.EngineWorld.never_delays c.advance.new.world).told
 
 pub reading-smaller : goal.reading-smaller
 reading-smaller g c =
-    reading_nears _ _ _ _ _ _ (c.reading.invariant c.requires.0 c.requires.1) c.in-Went.ensures (g.met.W.EngineWorld.tells c.advance.new.world).told
+    reading_nears _ _ _ _ _ _ (c.reading.invariant c.requires.0 c.requires.1) c.in-Went.ensures (g.met.W.EngineWorld.never_delays c.advance.new.world).told

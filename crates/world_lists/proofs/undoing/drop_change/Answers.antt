@@ -13,5 +13,5 @@ returns g c =
     let old = g.W.World.state c.args.world.now in
     step_of c.args.change (Hindered c.args.change NoMemory) (awaits_none_in c.args.session _ old) c.leave_table.ensures.leaves refl
     (λ chains beside is. dropped c.args.session chains beside old c.args.change c.requires.untold is)
-    (gone_by c.table_of-table.ensures c.leave_table.ensures.gone) (nothing_after c.args.change c.requires.untold)
+    (gone_by c.table_of-table.ensures c.leave_table.ensures.gone) (record {}) (nothing_after c.args.change c.requires.untold)
     (answer_hindered c.args.change c.args.change NoMemory)

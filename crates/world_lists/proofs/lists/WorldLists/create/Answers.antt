@@ -17,8 +17,8 @@ give_first_id-requires-clause-few g c = few_ids c.args.session c.self.invariant 
 pub invariant_of-self-2 : goal.invariant_of-self-2
 invariant_of-self-2 g c =
     table_kept c.args.session c.self.invariant c.self.view_is c.in_ok-add_table.ensures.ok c.txn_of-txn.ensures c.session-id.ensures
-    c.give_first_id.ensures.first c.give_first_id.ensures.later c.requires.locked c.requires.idle (g.met.W.EngineWorld.tells c.self.inside.world).told
-    (g.met.W.EngineWorld.tells c.give_first_id.new.world).told c.requires.storable c.is_short.ensures.few c.requires.first
+    c.give_first_id.ensures.first c.give_first_id.ensures.later c.requires.locked c.requires.idle (g.met.W.EngineWorld.never_delays c.self.inside.world).told
+    (g.met.W.EngineWorld.never_delays c.give_first_id.new.world).told c.requires.storable c.is_short.ensures.few c.requires.first
 
 pub returns-clause-ok : goal.returns-clause-ok
 returns-clause-ok g c =

@@ -10,7 +10,7 @@ pub invariant_of-result : goal.invariant_of-result
 invariant_of-result g c =
     record {
       held = subst (λ (desks : List Desk). IsHeld (store_of (g.W.World.state c.args.world) None desks 0)) (sym c.new.ensures.items)
-          (first_held (g.W.World.state c.args.world) (g.met.W.EngineWorld.tells c.args.world).told c.requires.fresh);
+          (first_held (g.W.World.state c.args.world) (g.met.W.EngineWorld.never_delays c.args.world).told c.requires.fresh);
       awaits = awaits_of_nobody _ c.requires.nobody;
     }
 

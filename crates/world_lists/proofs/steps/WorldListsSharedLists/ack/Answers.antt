@@ -7,7 +7,7 @@ ack-requires g c = may_ack c.args.session c.self.invariant c.self.view_is c.requ
 pub invariant_of-self : goal.invariant_of-self
 invariant_of-self g c =
     acked_kept c.args.session c.self.invariant c.self.view_is c.requires.joined c.args.moment c.ack.ensures c.requires.idle
-    (g.met.W.EngineWorld.tells c.self.inside.world).told c.requires.may c.is_short.ensures.few
+    (g.met.W.EngineWorld.never_delays c.self.inside.world).told c.requires.may c.is_short.ensures.few
 
 pub returns : goal.returns
 returns g c =

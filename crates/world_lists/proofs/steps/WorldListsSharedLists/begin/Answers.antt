@@ -13,7 +13,7 @@ begin-requires-clause-few g c = few_begun c.args.session c.self.invariant c.self
 pub invariant_of-self-in_err-txn : goal.invariant_of-self-in_err-txn
 invariant_of-self-in_err-txn g c =
     roomed_kept c.args.session c.self.invariant c.self.view_is c.requires.joined c.in_ok-event_room.ensures.ok c.in_err-txn.ensures.err c.requires.idle
-    (g.met.W.EngineWorld.tells c.self.inside.world).told
+    (g.met.W.EngineWorld.never_delays c.self.inside.world).told
 
 pub returns-in_err-txn-clause-err : goal.returns-in_err-txn-clause-err
 returns-in_err-txn-clause-err g c =
@@ -41,7 +41,7 @@ pub invariant_of-self-2 : goal.invariant_of-self-2
 invariant_of-self-2 g c =
     opened_kept c.args.session c.self.invariant c.self.view_is c.requires.joined c.in_ok-event_room.ensures.ok c.args.level c.in_ok-txn.ensures.number
     c.in_ok-txn.ensures.ok (of_ok c.add_begin.result c.unwrap.result c.unwrap.ensures c.add_begin.ensures.ok) c.requires.idle
-    (g.met.W.EngineWorld.tells c.self.inside.world).told (g.met.W.EngineWorld.tells c.event_room.new.self).told c.requires.may.1 c.is_short.ensures.few
+    (g.met.W.EngineWorld.never_delays c.self.inside.world).told (g.met.W.EngineWorld.never_delays c.event_room.new.self).told c.requires.may.1 c.is_short.ensures.few
 
 pub returns : goal.returns
 returns g c =

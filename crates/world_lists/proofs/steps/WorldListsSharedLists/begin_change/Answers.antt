@@ -15,7 +15,7 @@ pub invariant_of-self : goal.invariant_of-self
 invariant_of-self g c =
     change_kept c.args.session c.self.invariant c.self.view_is c.requires.locked c.requires.fits c.in-Some.table c.in-Some.edit c.in-Some.ensures.some
     c.as_slice.ensures c.tables.ensures c.index-as_slice-table.is c.requires.idle c.in_ok-key.key c.in_ok-key.ensures c.in_ok-change.ensures
-    c.give_doing.ensures (g.met.W.EngineWorld.tells c.self.inside.world).told c.requires.is_open
+    c.give_doing.ensures (g.met.W.EngineWorld.never_delays c.self.inside.world).told c.requires.is_open
 
 pub returns : goal.returns
 returns g c =

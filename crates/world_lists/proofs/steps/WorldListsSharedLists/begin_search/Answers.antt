@@ -14,7 +14,7 @@ invariant_of-self g c =
     begun_kept c.args.session c.self.invariant c.self.view_is c.args.table c.args.plan c.requires.there c.as_slice.ensures c.tables.ensures
     c.in_ok-schema.ensures c.index-as_slice-table.is c.args.reading c.in_ok-sight.ensures.view c.in_ok-sight.ensures.newest
     c.requires.newest (new_search c.args.table c.args.plan c.in_ok-sight.sight c.new.result c.new.ensures.search c.new.ensures.finds c.new.ensures.begins)
-    c.give_doing.ensures c.requires.idle (g.met.W.EngineWorld.tells c.self.inside.world).told
+    c.give_doing.ensures c.requires.idle (g.met.W.EngineWorld.never_delays c.self.inside.world).told
 
 pub returns-clause-ok : goal.returns-clause-ok
 returns-clause-ok g c =

@@ -7,7 +7,7 @@ commit-requires g c = may_end c.args.session c.self.invariant c.self.view_is c.r
 pub invariant_of-self : goal.invariant_of-self
 invariant_of-self g c =
     committed_kept c.args.session c.self.invariant c.self.view_is c.without-self-inside.ensures c.requires.idle
-    (g.met.W.EngineWorld.tells c.self.inside.world).told c.is_short.ensures.few c.in-Done.ensures
+    (g.met.W.EngineWorld.never_delays c.self.inside.world).told c.is_short.ensures.few c.in-Done.ensures
 
 pub returns : goal.returns
 returns g c =

@@ -9,7 +9,7 @@ invariant_of-self-2 g c =
     = omega (arith, c.if-len-ge-MOST_SESSIONS.false, c.len.ensures, c.self.invariant.held.count) in
     joined_kept 0 c.self.invariant c.self.view_is c.in_ok-desk.ensures {now = c.push.new.self.items}
     (pushed c.push.result _ {items = c.push.new.self.items} c.unwrap.ensures c.push.ensures.items c.reserve.ensures.items) c.args.name c.in-Ok.ensures.ok
-    (g.met.W.EngineWorld.tells c.self.inside.world).told few
+    (g.met.W.EngineWorld.never_delays c.self.inside.world).told few
 
 pub returns-clause-tasks : goal.returns-clause-tasks
 returns-clause-tasks g c =

@@ -13,7 +13,7 @@ savepoint-requires g c =
 pub invariant_of-self : goal.invariant_of-self
 invariant_of-self g c =
     saved_kept c.args.session c.self.invariant c.self.view_is c.requires.joined c.requires.is_open c.args.name.now c.txn_of-txn.ensures c.session-made.ensures
-    _ c.savepoint.result c.savepoint.ensures.ok c.savepoint.ensures.err c.requires.idle (g.met.W.EngineWorld.tells c.self.inside.world).told
+    _ c.savepoint.result c.savepoint.ensures.ok c.savepoint.ensures.err c.requires.idle (g.met.W.EngineWorld.never_delays c.self.inside.world).told
 
 pub returns-clause-same : goal.returns-clause-same
 returns-clause-same g c =

@@ -4,7 +4,7 @@ use Rattle.world_lists.proofs.steps.WorldListsSharedLists.set.Goals as goal
 pub invariant_of-self : goal.invariant_of-self
 invariant_of-self g c =
     set_kept c.args.session c.self.invariant c.self.view_is c.requires.joined c.args.stmt.now c.set.ensures c.requires.idle
-    (g.met.W.EngineWorld.tells c.self.inside.world).told
+    (g.met.W.EngineWorld.never_delays c.self.inside.world).told
 
 pub returns : goal.returns
 returns g c =

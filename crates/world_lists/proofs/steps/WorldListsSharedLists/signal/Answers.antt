@@ -9,7 +9,7 @@ returns-in_err-add_signal-clause-err g c = on_err _ (stays_same c.args._session 
 pub invariant_of-self-2 : goal.invariant_of-self-2
 invariant_of-self-2 g c =
     signal_kept c.args._session c.self.invariant c.self.view_is c.requires.joined c.args.name c.in_ok-add_signal.ensures.ok c.requires.idle
-    (g.met.W.EngineWorld.tells c.self.inside.world).told c.is_short.ensures.few
+    (g.met.W.EngineWorld.never_delays c.self.inside.world).told c.is_short.ensures.few
 
 pub returns : goal.returns
 returns g c =

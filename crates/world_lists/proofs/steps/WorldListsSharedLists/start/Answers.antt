@@ -11,7 +11,7 @@ invariant_of-self-2 g c =
     (ap (λ n. n + 1) (desk_started c.args.session c.self.invariant c.self.view_is c.requires.joined c.index.ensures)) c.args.item c.in_ok-start.ensures.ok
     (desks_started c.args.session c.self.invariant c.self.view_is c.requires.joined c.index_mut.ensures.value (desk_started c.args.session c.self.invariant
     c.self.view_is c.requires.joined c.index.ensures))
-    c.requires.at_rest (g.met.W.EngineWorld.tells c.self.inside.world).told c.requires.idle c.is_short.ensures.few
+    c.requires.at_rest (g.met.W.EngineWorld.never_delays c.self.inside.world).told c.requires.idle c.is_short.ensures.few
 
 pub returns : goal.returns
 returns g c =

@@ -10,7 +10,7 @@ returns-in_err-added-clause-err g c = on_err _ (stays_same c.args.session c.self
 pub invariant_of-self-2 : goal.invariant_of-self-2
 invariant_of-self-2 g c =
     viewed_kept c.args.session c.self.invariant c.self.view_is c.requires.joined c.requires.is_open c.in_ok-active.ensures c.next_id-next.ensures
-    c.in_ok-added.ensures.ok c.requires.idle (g.met.W.EngineWorld.tells c.self.inside.world).told c.is_short.ensures.few
+    c.in_ok-added.ensures.ok c.requires.idle (g.met.W.EngineWorld.never_delays c.self.inside.world).told c.is_short.ensures.few
 
 pub returns : goal.returns
 returns g c =
