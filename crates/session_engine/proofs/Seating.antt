@@ -5,7 +5,7 @@ use Rattle.std.proofs.lemmas.Bool.Decides.{nat_tests, eqb_tells}
 use Rattle.std.proofs.lemmas.Bool.{false≢true}
 use Rattle.std.proofs.lemmas.List.{get_or-set_same, get_or-set_other, length-set, length-append}
 use Rattle.std.specs.List.{AllByRecursion}
-use Rattle.std.specs.Prelude.{Result, Ok, Err, OnOk, OnErr}
+use Rattle.std.specs.Prelude.{Result, Ok, Err, OnOk, OnErr, unwrap_or, ◌-◌}
 use Rattle.inno_types.specs.declared.reply.Item.{Item}
 use Rattle.inno_types.specs.declared.reply.Item.TheVariants as items
 use Rattle.inno_types.specs.declared.reply.Item.TheVariants.{Sql}
@@ -36,9 +36,10 @@ use Rattle.session_engine.specs.declared.seats.SignalItem.TheVariants.{Gives, Aw
 use Rattle.statement.specs.Running.{IsRunning, owes_ack, acked}
 use Rattle.statement.proofs.Acked.{moves_on_acked}
 use Rattle.session_engine.specs.Seats.{State, seat_at, is_working, IsSpelled, IsUnread, MayGoOut, IsGoingOut, HasAsked, IsSeatOf, SeatAgrees, AreSeats, owes}
-use Rattle.session_engine.specs.Seats.{phase_of, wants_room, is_busy, IsAtWork}
+use Rattle.session_engine.specs.Seats.{phase_of, wants_room, is_busy, IsAtWork, item_since, seat_since}
 use Rattle.session_engine.specs.Calls.{AreFirst, SameLists, Joins, SameState, OthersStay, KeepsItems, TellsOne, GoesOn, StepsOn, Settled, Refuses}
 use Rattle.session_engine.specs.Calls.{GoesOut, HasGiven, EndsSignal, Signals, StepsBy, Acknowledges, WaitsInVain, GivesUpInVain, WaitsOn, StepsTo, TellsNone}
+use Rattle.session_engine.specs.Calls.{IsPatient, since_after}
 use Rattle.statement.specs.Going.{statement_to_go}
 use Rattle.inno_model.specs.declared.board.Phase.TheVariants as phases
 use Rattle.session_engine.specs.Going.{Nears, NearsLacking}
@@ -47,6 +48,27 @@ use Rattle.session_engine.specs.Signals.{AreSpent, HasOnlyAsked}
 use Rattle.session_engine.proofs.Places.{entries_exact, item_before, spelled_still, spelled_exact, refused_exact, signals_exact}
 use Rattle.session_engine.proofs.Signals.{spent_on, spent_all, spent_signal, seen_first}
 use Rattle.session_engine.proofs.Others.{seat_stays, has_item, asked_runs, unread_waits}
+
+-- ---- since when an item waits
+
+-- fewer than fifty seconds
+patient_since : (now : ℕ) (later : SignalItem) (since : ℕ) → item_since later ≡ Some since → IsPatient now later → now - since < 50
+patient_since now (Gives name) since is patient = absurd patient
+patient_since now (Awaits wait) since is patient =
+    let same : patient.0 ≡ since = let both = sym patient.1 ∙ is in cc in
+    subst (λ (n : ℕ). now - n < 50) same patient.2
+
+-- an item that is to make its first step waits since no moment
+seated_since : (item : Item) (seat : Seat) → IsSeatOf item seat → seat_since seat ≡ None
+seated_since (items.Sql text) (Busy statement) is = refl
+seated_since (items.Sql text) (Refused at) is = refl
+seated_since (items.Sql text) other is = absurd is
+seated_since (items.Signal name) seat is = ap seat_since is
+seated_since (items.Await name) seat is = ap seat_since is
+
+pub started_since : (seats : List Seat) (s : ℕ) (item : Item) (seat : Seat) → s < length seats → IsSeatOf item seat
+    → seat_since (seat_at (set seats s seat) s) ≡ None
+started_since seats s item seat below is = ap seat_since (get_or-set_same seats s seat Idle below) ∙ seated_since item seat is
 
 -- ---- seats
 
@@ -491,6 +513,13 @@ module _ (old new : Lists) (seats : List Seat) (s : ℕ) (are : AreSeats old sea
   never_not_yet statement advance.NoMemory seat answer settled is = let both = sym settled.1 ∙ is in cc
   never_not_yet statement (advance.Done reply) seat answer settled is = let both = sym settled.1 ∙ is in cc
 
+  settled_since : (now : ℕ) (since : Option ℕ) (statement : Statement) (adv : Advance) (seat : Seat) (answer : Progress)
+      → Settled statement adv seat answer → seat_since seat ≡ since_after answer now since
+  settled_since now since statement advance.Went seat answer settled = rw (settled.0, settled.1) refl
+  settled_since now since statement (advance.Waiting by blockers) seat answer settled = rw (settled.0, settled.1) refl
+  settled_since now since statement advance.NoMemory seat answer settled = rw (settled.0, settled.1) refl
+  settled_since now since statement (advance.Done reply) seat answer settled = rw (settled.0, settled.1) refl
+
   module _ (seat : Seat) (answer : Progress) (steps : StepsTo s old new (seat_at seats s) seat answer) where
     once : (P : List Seat → Type 0) → P (set (set seats s Idle) s seat) → P (set seats s seat)
     once P holds = subst P (twice seat) holds
@@ -517,6 +546,11 @@ module _ (old new : Lists) (seats : List Seat) (s : ℕ) (are : AreSeats old sea
     pub stepped_quiet : wants_room (seat_at seats s) ≡ false → TellsNone old.past new.past
     stepped_quiet wants_none = steps.quiet (sym (ap wants_room steps.was) ∙ wants_none)
 
+    pub stepped_since : (now : ℕ) (since : Option ℕ) → seat_since (seat_at (set seats s seat) s) ≡ since_after answer now since
+    stepped_since now since =
+        once (λ xs. seat_since (seat_at xs s) ≡ since_after answer now since)
+        (ap seat_since (is_at seat) ∙ settled_since now since steps.next steps.told seat answer steps.settled)
+
     pub stepped_answers : answer ≡ progress.NotYet → ⊥
     stepped_answers is = never_not_yet steps.next steps.told seat answer steps.settled is
 
@@ -536,6 +570,9 @@ module _ (old new : Lists) (seats : List Seat) (s : ℕ) (are : AreSeats old sea
     pub gave_up_lacks : seat_at seats s ≡ Busy before → StatementNears statement_to_go s old before new after adv
         → NearsLacking s progress.NoMemory (record { lists = old; seats = seats }) (record { lists = new; seats = set (set seats s Idle) s (Busy after) })
     gave_up_lacks was nears = step_lacks before after adv (Busy after) progress.NoMemory was nears settles
+
+    pub gave_up_since : seat_since (seat_at (set (set seats s Idle) s (Busy after)) s) ≡ None
+    gave_up_since = ap seat_since (is_at (Busy after))
 
     pub gave_up_busy : phase_of (seat_at (set (set seats s Idle) s (Busy after)) s) ≡ phases.Busy
     gave_up_busy = ap phase_of (is_at (Busy after))
@@ -562,6 +599,9 @@ module _ (old new : Lists) (seats : List Seat) (s : ℕ) (are : AreSeats old sea
           phase_was = ap phase_of was;
           phase_is = ap phase_of (is_at (Busy (acked statement)));
         }
+
+    pub acked_since : seat_since (seat_at (set (set seats s Idle) s (Busy (acked statement))) s) ≡ None
+    acked_since = ap seat_since (is_at (Busy (acked statement)))
 
     pub acked_nears_it : Nears s progress.Went (record { lists = old; seats = seats })
         (record { lists = new; seats = set (set seats s Idle) s (Busy (acked statement)) })
@@ -603,6 +643,11 @@ module _ (old new : Lists) (seats : List Seat) (s : ℕ) (are : AreSeats old sea
       pub refused_nears : Nears s answer (record { lists = old; seats = seats }) (record { lists = new; seats = set (set seats s Idle) s seat })
       refused_nears = rw does.answer_is tt
 
+      pub refused_since : (now : ℕ) (since : Option ℕ) → seat_since (seat_at (set (set seats s Idle) s seat) s) ≡ since_after answer now since
+      refused_since now since =
+          subst (λ (a : Progress). seat_since (seat_at (set (set seats s Idle) s seat) s) ≡ since_after a now since) (sym does.answer_is)
+          (ap seat_since (is_at seat ∙ does.seat_is))
+
       pub refused_lacks : NearsLacking s answer (record { lists = old; seats = seats }) (record { lists = new; seats = set (set seats s Idle) s seat })
       refused_lacks = rw does.answer_is tt
 
@@ -625,7 +670,7 @@ module _ (old new : Lists) (seats : List Seat) (s : ℕ) (are : AreSeats old sea
         (ended_exact s (started s old.past) reply ends.0 new.past ends.2 exact.0 exact.1)
     signals_keep seat progress.NotYet does =
         kept seat (of_nothing s old new (lists_same old new does.0))
-        (subst (SeatAgrees new s) (sym does.2.3) (subst (λ l. HasAsked s does.2.0 l.past × (task_of s l ≡ tasks.Idle)) (sym does.0) (does.2.1, asked.1)))
+        (subst (SeatAgrees new s) (sym does.2.4) (subst (λ l. HasAsked s does.2.0 l.past × (task_of s l ≡ tasks.Idle)) (sym does.0) (does.2.1, asked.1)))
         (exact_still (ap (λ l. l.past) does.0))
     signals_keep seat other does = elim does [ ]
 
@@ -634,7 +679,7 @@ module _ (old new : Lists) (seats : List Seat) (s : ℕ) (are : AreSeats old sea
     signals_do seat (progress.Done reply) does = (steps_on seat (of_signal s reply old new does.0), inl (does.0.ends, is_at seat ∙ does.1))
     signals_do seat progress.NotYet does =
         let same = lists_same old new does.0 in
-        (steps_on seat (of_nothing s old new same), same, ap is_working (is_at seat ∙ does.2.3), does.1)
+        (steps_on seat (of_nothing s old new same), same, ap is_working (is_at seat ∙ does.2.4), does.1)
     signals_do seat other does = elim does [ ]
 
     pub signals_near : (seat : Seat) (answer : Progress) → Signals s now item old new seat answer
@@ -644,9 +689,17 @@ module _ (old new : Lists) (seats : List Seat) (s : ℕ) (are : AreSeats old sea
     signals_near seat other does = elim does [ ]
 
     pub signals_patient : (seat : Seat) (answer : Progress) → Signals s now item old new seat answer → answer ≡ progress.NotYet
-        → WaitsOn s now (record { lists = new; seats = set (set seats s Idle) s seat })
+        → WaitsOn now (seat_since (seat_at seats s))
     signals_patient seat answer does is =
-        let waits = subst (Signals s now item old new seat) is does in (waits.2.0, is_at seat ∙ waits.2.3, waits.2.2)
+        let waits = subst (Signals s now item old new seat) is does in
+        subst (λ (at : Seat). WaitsOn now (seat_since at)) (sym was) (patient_since now waits.2.0 _ waits.2.3 waits.2.2)
+
+    pub signals_since : (seat : Seat) (answer : Progress) → Signals s now item old new seat answer
+        → seat_since (seat_at (set (set seats s Idle) s seat) s) ≡ since_after answer now (seat_since (seat_at seats s))
+    signals_since seat (progress.Done reply) does = ap seat_since (is_at seat ∙ does.1)
+    signals_since seat progress.NotYet does =
+        ap seat_since (is_at seat ∙ does.2.4) ∙ (does.2.3 ∙ ap (λ (at : Seat). Some (unwrap_or (seat_since at) now)) (sym was))
+    signals_since seat other does = elim does [ ]
 
     pub signals_wait : (seat : Seat) (answer : Progress) → Signals s now item old new seat answer
         → GivesUpInVain s now answer (record { lists = old; seats = seats })
@@ -669,6 +722,12 @@ module _ (old new : Lists) (seats : List Seat) (s : ℕ) (are : AreSeats old sea
         (subst (SeatAgrees new s) (sym goes.4) (subst (λ l. (under_way s l.past ≡ None) × IsClosed s l.past × (task_of s l ≡ tasks.Idle)) (sym goes.1)
         (may_go.may.rests, goes.2, goes.3))) (exact_still (ap (λ l. l.past) goes.1))
     out_keeps seat other goes = elim goes [ ]
+
+    pub out_since : (now : ℕ) (since : Option ℕ) (seat : Seat) (answer : Progress) → GoesOut s old new seat answer
+        → seat_since (seat_at (set (set seats s Idle) s seat) s) ≡ since_after answer now since
+    out_since now since seat progress.Went goes = ap seat_since (is_at seat ∙ goes.3)
+    out_since now since seat (progress.Done reply) goes = ap seat_since (is_at seat ∙ goes.4)
+    out_since now since seat other goes = elim goes [ ]
 
 -- an item that gives a signal or awaits one doesn't go on where it finds no memory
 pub signalling_lacks : (s now : ℕ) (item : SignalItem) (lists after : Lists) (seat : Seat) (answer : Progress) → Signals s now item lists after seat answer

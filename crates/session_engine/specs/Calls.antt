@@ -1,5 +1,5 @@
 -- What each call of the engine does, between two states.
-use Rattle.std.specs.Prelude.{◌≡◌, ◌≢◌, ◌⊎◌, ℕ, ◌+◌, ◌-◌, ◌≤◌, ◌<◌, true, false, None, Some, List, [], ◌∷◌, ◌++◌, count_by}
+use Rattle.std.specs.Prelude.{◌≡◌, ◌≢◌, ◌⊎◌, ℕ, ◌+◌, ◌-◌, ◌≤◌, ◌<◌, true, false, Option, None, Some, unwrap_or, List, [], ◌∷◌, ◌++◌, count_by}
 use Rattle.std.specs.List.{AllByRecursion}
 use Rattle.inno_types.specs.declared.reply.Item.{Item}
 use Rattle.inno_types.specs.declared.reply.Item.TheVariants as items
@@ -27,7 +27,7 @@ use Rattle.session_engine.specs.declared.seats.Seat.{Seat}
 use Rattle.session_engine.specs.declared.seats.Seat.TheVariants as seats
 use Rattle.session_engine.specs.declared.seats.SignalItem.{SignalItem}
 use Rattle.session_engine.specs.declared.seats.SignalItem.TheVariants.{Gives, Awaits}
-use Rattle.session_engine.specs.Seats.{State, seat_at, is_working, phase_of, HasAsked, IsGoingOut}
+use Rattle.session_engine.specs.Seats.{State, seat_at, item_since, is_working, phase_of, HasAsked, IsGoingOut}
 
 -- the lists of this database, where nobody has joined
 pub record AreFirst (db : Database) (lists : Lists) : Type 0 where
@@ -165,7 +165,8 @@ IsPatient now (Awaits wait) = (since : ℕ) × (wait.since ≡ Some since) × (n
 abbrev pub Signals : ℕ → ℕ → SignalItem → Lists → Lists → Seat → Progress → Type 0
 Signals s now item old new seat (progress.Done reply) = EndsSignal s reply old new × (seat ≡ seats.Idle) × HasCause now item reply old.past
 Signals s now item old new seat progress.NotYet = (new ≡ old) × IsAwaited s old.past
-    × ((later : SignalItem) × HasAsked s later old.past × IsPatient now later × (seat ≡ seats.Signalling later))
+    × ((later : SignalItem) × HasAsked s later old.past × IsPatient now later × (item_since later ≡ Some (unwrap_or (item_since item) now))
+    × (seat ≡ seats.Signalling later))
 Signals s now item old new seat other = ⊥
 
 -- where such an item gives up waiting, it has waited in vain
@@ -174,9 +175,14 @@ GivesUpInVain s now answer old =
     (item : SignalItem) (waited : ℕ) → seat_at old.seats s ≡ seats.Signalling item → answer ≡ progress.Done (NotSignalled waited)
     → WaitsInVain now waited item old.lists.past
 
--- the session's item waits on
-abbrev pub WaitsOn : ℕ → ℕ → State → Type 0
-WaitsOn s now new = (item : SignalItem) × (seat_at new.seats s ≡ seats.Signalling item) × IsPatient now item
+-- The session's item waits on: fewer than fifty seconds have passed since its first step, which this is where there was none.
+abbrev pub WaitsOn : ℕ → Option ℕ → Type 0
+WaitsOn now since = now - unwrap_or since now < 50
+
+-- Since when the session's item waits after a step: since its first one, as long as what it awaits isn't there.
+abbrev pub since_after : Progress → ℕ → Option ℕ → Option ℕ
+since_after progress.NotYet now since = Some (unwrap_or since now)
+since_after other now since = None
 
 -- what a step of a session's ending does: it never finds no memory
 abbrev pub GoesOut : ℕ → Lists → Lists → Seat → Progress → Type 0

@@ -1,5 +1,5 @@
 -- What the engine is to its callers, and what holds of each session's seat.
-use Rattle.std.specs.Prelude.{◌≡◌, ℕ, ◌<◌, ◌≤◌, Bool, true, false, None, List, length, slice_index_or, refl}
+use Rattle.std.specs.Prelude.{◌≡◌, ℕ, ◌<◌, ◌≤◌, Bool, true, false, Option, None, List, length, slice_index_or, refl}
 use Rattle.std.specs.Coded.{Coded, code_by, coded×, coded_list}
 use Rattle.inno_types.specs.declared.reply.Item.{Item}
 use Rattle.inno_types.specs.declared.reply.Item.TheVariants as items
@@ -77,6 +77,18 @@ owes other = false
 abbrev pub wants_room : Seat → Bool
 wants_room (Busy statement) = statement_wants_room statement
 wants_room other = false
+
+-- Since when an item waits: the moment of its first step, where it has made one and awaits a signal.
+abbrev pub item_since : SignalItem → Option ℕ
+item_since (Gives name) = None
+item_since (Awaits wait) = wait.since
+
+abbrev pub seat_since : Seat → Option ℕ
+seat_since (Signalling item) = item_since item
+seat_since other = None
+
+abbrev pub since_at : ℕ → State → Option ℕ
+since_at s state = seat_since (seat_at state.seats s)
 
 abbrev pub IsJoined : ℕ → State → Type 0
 IsJoined s state = s < length state.lists.names

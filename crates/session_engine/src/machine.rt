@@ -6,7 +6,7 @@ ghost use Rattle.std.specs.List.{list_any};
 ghost use Rattle.inno_db.specs.Database.{Database};
 ghost use Rattle.shared_lists.specs.Tasks.{Idle as TaskIdle};
 ghost use Rattle.shared_lists.specs.State.{task_of};
-ghost use Rattle.law_histories.specs.Space.{ends_for_pages};
+ghost use Rattle.law_histories.specs.Space.{ends_without_want};
 ghost use Rattle.law_past_agreement.specs.Order.{IsOrdered};
 ghost use Rattle.shared_lists.specs.Fitting.{FitsThen};
 ghost use Rattle.sql_lists.specs.Kept.{AreStanding};
@@ -45,10 +45,10 @@ impl<L: SharedLists> Model for SessionEngine<L> {
 
 impl<L: SharedLists> SessionEngine<L> {
     ghost use Rattle.session_engine.specs.Seats.{IsJoined, IsIdle, IsWorking, HasEnded, IsSeatOf};
-    ghost use Rattle.session_engine.specs.Calls.{Joins, Starts, StepsBy, TellsNone, Acknowledges, GivesUpInVain, WaitsOn, Leaves, SameState};
+    ghost use Rattle.session_engine.specs.Calls.{Joins, Starts, StepsBy, TellsNone, Acknowledges, GivesUpInVain, WaitsOn, since_after, Leaves, SameState};
     ghost use Rattle.session_engine.specs.Going.{Nears, NearsLacking};
     ghost use Rattle.session_engine.specs.Places.{HasExactPlaces};
-    ghost use Rattle.session_engine.specs.Seats.{has_left, is_working, owes, phase_of, wants_room, seat_at, AreSeats};
+    ghost use Rattle.session_engine.specs.Seats.{has_left, is_working, owes, phase_of, wants_room, seat_at, since_at, AreSeats};
     ghost use Rattle.sql_grammar.specs.Grammar.{Spells};
     ghost use Rattle.sql_history.specs.Legal.{IsLegal, owes_commit};
     ghost use Rattle.sql_history.specs.Counts.{has_stopped, last_moment};
@@ -74,7 +74,7 @@ impl<L: SharedLists> SessionEngine<L> {
         ensures legal { IsLegal Spells self.now.lists.past }
         ensures exact { HasExactPlaces self.now.lists.past }
         ensures runs { has_stopped self.now.lists.past ≡ false }
-        ensures for_pages { list_any ends_for_pages self.now.lists.past ≡ false }
+        ensures for_pages { list_any ends_without_want self.now.lists.past ≡ false }
         ensures sound { IsOrdered self.now.lists.past }
         ensures fits { FitsThen self.now.lists.past }
         ensures tables { AreStanding self.now.lists.past }
@@ -120,11 +120,12 @@ impl<L: SharedLists> SessionEngine<L> {
         self.seats.has_left(s)
     }
 
-    /// Starts an item of the session.
+    /// Starts an item of the session. It waits since no moment: it has made no step.
     pub fn start(&mut self, s: u32, item: &Item) -> Result<(), NoMemory>
         requires joined { IsJoined s self.old }
         requires idle { IsIdle s self.old }
         ensures ok { OnOk result (Starts s item.now self.old self.new) }
+        ensures unstepped { OnOk result (since_at s self.new ≡ None) }
         ensures err { OnErr result (SameState self.old self.new) }
     {
         let seat = read_item(self.alloc, item)?;
@@ -137,6 +138,7 @@ impl<L: SharedLists> SessionEngine<L> {
         requires idle { IsIdle s self.old }
         requires reads { IsSeatOf item seat }
         ensures ok { OnOk result (Starts s item self.old self.new) }
+        ensures unstepped { OnOk result (since_at s self.new ≡ None) }
         ensures err { OnErr result (SameState self.old self.new) }
     {
         self.lists.start(s, item)?;
@@ -158,6 +160,7 @@ impl<L: SharedLists> SessionEngine<L> {
         requires owed { owes (seat_at self.old.seats s) ≡ true }
         requires later { last_moment self.old.lists.past ≤ moment }
         ensures acknowledges { Acknowledges s moment self.old self.new }
+        ensures since { since_at s self.new ≡ None }
         ensures nears { Nears s Progress.Went self.old self.new }
     {
         match self.seats.replace(s, Seat::Idle) {
@@ -185,6 +188,7 @@ impl<L: SharedLists> SessionEngine<L> {
         ensures steps { StepsBy s Progress.NoMemory self.old self.new }
         ensures lacks { NearsLacking s Progress.NoMemory self.old self.new }
         ensures busy { phase_of (seat_at self.new.seats s) ≡ Phase.Busy }
+        ensures since { since_at s self.new ≡ None }
     {
         match self.seats.replace(s, Seat::Idle) {
             Seat::Busy(statement) => {
@@ -205,7 +209,8 @@ impl<L: SharedLists> SessionEngine<L> {
         ensures quiet { wants_room (seat_at self.old.seats s) ≡ false → TellsNone self.old.lists.past self.new.lists.past }
         ensures nears { Nears s result self.old self.new }
         ensures lacks { NearsLacking s result self.old self.new }
-        ensures waits { result ≡ Progress.NotYet → WaitsOn s now self.new }
+        ensures since { since_at s self.new ≡ since_after result now (since_at s self.old) }
+        ensures waits { result ≡ Progress.NotYet → WaitsOn now (since_at s self.old) }
         ensures waited { GivesUpInVain s now result self.old }
     {
         if self.seats.is_busy(s) {

@@ -71,6 +71,7 @@ returns g c =
         Awaits (record { name = c.args.wait.name; seen = length es; since = Some c.unwrap_or-since.result }),
         (c.requires.asked.0, seen_now c.args.wait.name c.args.wait.seen es past c.requires.asked.1 turned none),
         (c.unwrap_or-since.result, refl, short),
+        ap Some c.unwrap_or-since.ensures,
         refl,
       ),
     )

@@ -1,5 +1,5 @@
 use Rattle.std.proofs.Common.{length, ◌<◌, ◌∙◌, subst, sym}
-use Rattle.session_engine.proofs.Seating.{spelled_at, gave_up_keeps, gave_up_steps, gave_up_lacks, gave_up_busy}
+use Rattle.session_engine.proofs.Seating.{spelled_at, gave_up_keeps, gave_up_steps, gave_up_lacks, gave_up_since, gave_up_busy}
 use Rattle.session_engine.proofs.machine.SessionEngine.give_up.Goals as goal
 
 pub invariant_of-self : goal.invariant_of-self
@@ -38,4 +38,13 @@ returns-clause-busy g c =
     let step = c.without_room-statement in
     rw (c.replace-in-Busy.ensures.is, c.replace.ensures.is)
     (gave_up_busy engine.lists step.new.lists engine.seats c.args.s c.self.invariant joined c.in-Busy.statement step.result.0 step.result.1
+    step.ensures.lacks)
+
+pub returns-clause-since : goal.returns-clause-since
+returns-clause-since g c =
+    let engine = c.self.inside in
+    let joined : c.args.s < length engine.lists.names = subst (λ st. c.args.s < length st.lists.names) (sym c.self.view_is) c.requires.joined in
+    let step = c.without_room-statement in
+    rw (c.replace-in-Busy.ensures.is, c.replace.ensures.is)
+    (gave_up_since engine.lists step.new.lists engine.seats c.args.s c.self.invariant joined c.in-Busy.statement step.result.0 step.result.1
     step.ensures.lacks)

@@ -1,7 +1,7 @@
-use Rattle.std.proofs.Common.{length, ◌<◌, ◌≡◌, subst, sym}
+use Rattle.std.proofs.Common.{length, ◌<◌, ◌≡◌, subst, sym, arith}
 use Rattle.session_engine.specs.declared.seats.Seat.TheVariants.{Idle}
 use Rattle.session_engine.specs.Seats.{seat_at}
-use Rattle.session_engine.proofs.Seating.{seats_started, seats_same}
+use Rattle.session_engine.proofs.Seating.{seats_started, seats_same, started_since}
 use Rattle.session_engine.proofs.machine.SessionEngine.seat.Goals as goal
 
 pub invariant_of-self-2 : goal.invariant_of-self-2
@@ -16,3 +16,10 @@ invariant_of-self-2 g c =
 pub invariant_of-self : goal.invariant_of-self
 invariant_of-self g c =
     seats_same c.self.inside.lists c.start.new.self c.self.inside.seats c.args.s c.in_err-start.ensures.err c.self.invariant
+
+pub returns-clause-unstepped : goal.returns-clause-unstepped
+returns-clause-unstepped g c =
+    let engine = c.self.inside in
+    let joined : c.args.s < length engine.lists.names = subst (λ st. c.args.s < length st.lists.names) (sym c.self.view_is) c.requires.joined in
+    rw c.replace.ensures.is
+    (started_since engine.seats c.args.s c.args.item c.args.seat (omega (arith, joined, c.self.invariant.enough)) c.requires.reads)

@@ -1,10 +1,10 @@
 use Rattle.std.proofs.Common.{length, ◌≡◌, ◌<◌, ◌∙◌, subst, sym, ap, true, false}
 use Rattle.std.proofs.lemmas.Bool.{false≢true}
-use Rattle.session_engine.specs.Seats.{seat_at, is_working, is_busy, owes}
+use Rattle.session_engine.specs.Seats.{seat_at, seat_since, is_working, is_busy, owes}
 use Rattle.session_engine.proofs.Seating.{leaving_is, at_work, unread, refused_keeps, refused_does, refused_nears}
-use Rattle.session_engine.proofs.Seating.{stepped_keeps, stepped_does, stepped_nears, stepped_lacks, stepped_quiet, stepped_answers}
+use Rattle.session_engine.proofs.Seating.{stepped_keeps, stepped_does, stepped_nears, stepped_lacks, stepped_quiet, stepped_since, stepped_answers}
 use Rattle.session_engine.proofs.Seating.{signals_keep, signals_do, signals_near, signals_patient, signals_wait, out_keeps}
-use Rattle.session_engine.proofs.Seating.{refused_lacks, signalling_lacks}
+use Rattle.session_engine.proofs.Seating.{refused_lacks, refused_since, signalling_lacks, signals_since, out_since}
 use Rattle.session_engine.proofs.machine.SessionEngine.step.Goals as goal
 
 pub step-requires-clause-at_work : goal.step-requires-clause-at_work
@@ -108,7 +108,7 @@ returns-in-Signalling-clause-waits g c =
     let engine = c.self.inside in
     let joined : c.args.s < length engine.lists.names = subst (λ st. c.args.s < length st.lists.names) (sym c.self.view_is) c.requires.joined in
     let does = c.signal-seat in
-    rw (c.replace-in-Signalling.ensures.is, c.replace.ensures.is)
+    rw (← c.self.view_is)
     (signals_patient engine.lists does.new.lists engine.seats c.args.s c.self.invariant joined c.args.now c.in-Signalling.item
     (sym c.replace.ensures.was ∙ c.in-Signalling.is) does.result.0 does.result.1 does.ensures)
 
@@ -172,3 +172,30 @@ returns-in-Refused-clause-lacks g c =
     rw (← c.self.view_is, c.replace-in-Refused.ensures.is, c.replace.ensures.is)
     (refused_lacks engine.lists does.new.lists engine.seats c.args.s c.self.invariant joined c.in-Refused.at
     (sym c.replace.ensures.was ∙ c.in-Refused.is) does.result.0 does.result.1 does.ensures)
+
+pub returns-then-is_busy-clause-since : goal.returns-then-is_busy-clause-since
+returns-then-is_busy-clause-since g c =
+    let engine = c.self.inside in
+    let joined : c.args.s < length engine.lists.names = subst (λ st. c.args.s < length st.lists.names) (sym c.self.view_is) c.requires.joined in
+    let seat = c.step.ensures.0 in
+    rw (← c.self.view_is, c.step.ensures.1)
+    (stepped_since engine.lists c.step.new.lists engine.seats c.args.s c.self.invariant joined seat c.step.result c.step.ensures.2 c.args.now
+    (seat_since (seat_at engine.seats c.args.s)))
+
+pub returns-in-Signalling-clause-since : goal.returns-in-Signalling-clause-since
+returns-in-Signalling-clause-since g c =
+    let engine = c.self.inside in
+    let joined : c.args.s < length engine.lists.names = subst (λ st. c.args.s < length st.lists.names) (sym c.self.view_is) c.requires.joined in
+    let does = c.signal-seat in
+    rw (← c.self.view_is, c.replace-in-Signalling.ensures.is, c.replace.ensures.is)
+    (signals_since engine.lists does.new.lists engine.seats c.args.s c.self.invariant joined c.args.now c.in-Signalling.item
+    (sym c.replace.ensures.was ∙ c.in-Signalling.is) does.result.0 does.result.1 does.ensures)
+
+pub returns-in-Refused-clause-since : goal.returns-in-Refused-clause-since
+returns-in-Refused-clause-since g c =
+    let engine = c.self.inside in
+    let joined : c.args.s < length engine.lists.names = subst (λ st. c.args.s < length st.lists.names) (sym c.self.view_is) c.requires.joined in
+    let does = c.refuse-seat in
+    rw (← c.self.view_is, c.replace-in-Refused.ensures.is, c.replace.ensures.is)
+    (refused_since engine.lists does.new.lists engine.seats c.args.s c.self.invariant joined c.in-Refused.at
+    (sym c.replace.ensures.was ∙ c.in-Refused.is) does.result.0 does.result.1 does.ensures c.args.now (seat_since (seat_at engine.seats c.args.s)))
