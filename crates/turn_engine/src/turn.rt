@@ -1,5 +1,5 @@
-//! One turn of a seat: it takes the engine, makes one call of it, and hands it back with the entries that the call
-//! added. No other file of this crate touches the gate's steps.
+//! One turn of a seat: it takes the engine, makes one call of it or some steps of its item, and hands it back with the entries
+//! that were added. No other file of this crate touches the gate's steps.
 
 ghost use Rattle.std.specs.Prelude.{◌≡◌, ℕ, ◌+◌, ◌<◌, [], ◌∷◌, length, IfOk, OnOk, OnErr};
 ghost use Rattle.inno_model.specs.declared.event.Event.TheVariants.{Started};
@@ -17,7 +17,11 @@ use std::time::Clock as Timer;
 use store_api::{NoMemory, Progress};
 use turn_rule::{Gate, Pass};
 
-/// How long a session stays away from the turn after a step.
+/// How many steps a session makes in one turn at most. Others that wait for the turn sleep and are woken, which takes longer
+/// than some dozens of steps.
+const MOST_STEPS: u32 = 64;
+
+/// How long a session stays away from the turn after its steps.
 #[derive(Clone, Copy)]
 pub enum Pause {
     /// It takes the turn again at once.
@@ -81,7 +85,7 @@ pub fn start_turn<E: Turns, R: Wait>(
     started
 }
 
-/// Makes a step of the session's item, or of its ending.
+/// Makes steps of the session's item, or of its ending, all at one moment.
 pub fn step_turn<E: Turns, R: Wait + Timer>(
     rt: &R,
     gate: &Gate<E>,
@@ -99,11 +103,27 @@ pub fn step_turn<E: Turns, R: Wait + Timer>(
     ensures went { StepWent s pass.old.me.0.mine.seen (phase_of pass.old.me.0.mine.seen s) (reply_in result) pass.new.me.0.mine.seen }
 {
     let mut engine = take_turn(rt, gate, pass, s);
-    let progress = timed_step(rt, &mut engine, s, now);
+    let progress = timed_steps(rt, &mut engine, s, now);
     let lingers = engine.lingers(s);
     *len = engine.len();
     gate.hand_back(pass, engine, *len);
     after(progress, lingers)
+}
+
+/// Steps of the session, until one ends what is under way or doesn't go on, until others should come to their turns first, or
+/// until it has made as many as a turn has at most.
+fn timed_steps<E: Turns, R: Timer>(rt: &R, engine: &mut E, s: u32, now: u64) -> Progress
+    requires joined { s < length (E.board engine.old).names }
+    requires under_way { IsUnderWay (phase_of (E.board engine.old) s) }
+    ensures { StepsBy s (E.board engine.old) (phase_of (E.board engine.old) s) (reply_of result) (E.board engine.new) }
+{
+    for _ in 1..MOST_STEPS {
+        match timed_step(rt, engine, s, now) {
+            Progress::Went if !engine.lingers(s) => (),
+            progress => return progress,
+        }
+    }
+    timed_step(rt, engine, s, now)
 }
 
 /// A step of the engine, which hears how long it took.
