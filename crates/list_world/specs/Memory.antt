@@ -1,21 +1,10 @@
 -- A world in memory tells everything, and has no pages.
-use Rattle.std.specs.Prelude.{◌≡◌, IsSome, slice_get, Option, None, Some, refl}
-use Rattle.entries.specs.declared.list_index.ListIndex.{ListIndex}
 use Rattle.world.specs.Memory.{IsInMemory}
-use Rattle.list_world.specs.Parts.{Parts, world_of, index_of_list}
+use Rattle.list_store.specs.Parts.{ListParts, store_of}
+use Rattle.list_store.specs.Memory as lists
+use Rattle.parts_world.specs.Parts.{Parts}
+use Rattle.parts_world.specs.Memory as over
+use Rattle.list_world.specs.Parts.{world_of}
 
-pairs_of_list : (list : Option ListIndex) → IsSome (index_of_list list).pairs
-pairs_of_list None = refl
-pairs_of_list (Some list) = refl
-
-no_page_of_list : (list : Option ListIndex) → (index_of_list list).paged ≡ None
-no_page_of_list None = refl
-no_page_of_list (Some list) = refl
-
-pub in_memory : (parts : Parts) → IsInMemory (world_of parts)
-in_memory parts = record {
-  told = record { pairs = λ index. pairs_of_list (slice_get parts.indexes index); versions = refl };
-  no_pages = refl;
-  no_page_of_index = λ index. no_page_of_list (slice_get parts.indexes index);
-  no_page_of_versions = refl;
-}
+pub in_memory : (parts : Parts ListParts) → IsInMemory (world_of parts)
+in_memory parts = over.in_memory (store_of parts.store) parts (lists.in_memory parts.store)
