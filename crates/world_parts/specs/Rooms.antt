@@ -1,5 +1,5 @@
 -- What contracts see of the room that is kept for a session.
-use Rattle.std.specs.Prelude.{ℕ, ◌==◌, ◌<◌, ◌≤◌, Bool, false, List, [], length, reverse, Option, None, Some, option_map, vec_len, vec_capacity}
+use Rattle.std.specs.Prelude.{ℕ, ◌==◌, ◌<◌, ◌≤◌, Bool, false, List, [], ◌∷◌, length, reverse, Option, None, Some, option_map, vec_len, vec_capacity}
 use Rattle.world_parts.specs.declared.open_work.OpenWork.{OpenWork}
 use Rattle.std.specs.List.{AllByRecursion}
 use Rattle.store_api.specs.declared.answers.Undo.{Undo}
@@ -43,3 +43,8 @@ log_of (Some work) = work.log
 abbrev pub view_of : Option Work → Option Seen
 view_of None = None
 view_of (Some work) = work.view
+
+-- the roll pointer and the kind of the newest record
+abbrev pub newest_pointer : List Logged → Option (ℕ × ℕ)
+newest_pointer [] = None
+newest_pointer (logged ∷ log) = Some (logged.pointer, logged.undo.kind)

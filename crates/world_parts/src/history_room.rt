@@ -1,5 +1,5 @@
 //! The history's room: what it owes to sessions, and room for more.
-//! `list_world` takes room by these before it adds entries; rooms of sessions are only read.
+//! `parts_world` takes room by these before it adds entries; rooms of sessions are only read.
 
 ghost use Rattle.std.specs.Prelude.{◌≡◌, ◌+◌, ◌<◌, ◌≤◌, ◌^◌, true, SomeIff, OnOk, OnErr, IsOk, take};
 ghost use Rattle.inno_model.specs.Recorded.{SameEntries};

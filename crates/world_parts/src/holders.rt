@@ -1,5 +1,5 @@
 //! Which session has a transaction.
-//! `list_world` alone asks; the rooms of sessions are only read.
+//! `parts_world` alone asks; the rooms of sessions are only read.
 
 ghost use Rattle.std.specs.Prelude.{◌≡◌, MatchOption};
 ghost use Rattle.world_parts.specs.Holding.{Holds, NoneHolds};

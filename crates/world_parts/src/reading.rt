@@ -1,12 +1,12 @@
 //! What is copied out of a world.
-//! `list_world` alone calls these, for answers that outlast the call.
+//! `parts_world` alone calls these, for answers that outlast the call.
 
 ghost use Rattle.std.specs.Prelude.{◌≡◌, ◌≤◌, IfOk, OnErr, true, false, length, option_copied, vec_capacity};
 ghost use Rattle.world.specs.Undoing.{HoldsRecord, IsRead, read_into};
 ghost use Rattle.world_parts.specs.Rooms.{IsShortRecord};
 ghost use Rattle.std.specs.Prelude.{IfSome};
 
-use crate::versions::copy_into;
+use index_store::copy_into;
 use inno_types::Ids;
 use std::alloc::{AllocError, Global};
 use store_api::Undo;
@@ -36,4 +36,16 @@ pub fn read_undo(undo: Option<&Undo>, into: &mut UndoRoom) -> bool
         }
         None => false,
     }
+}
+
+/// The same record.
+pub fn copy_undo(undo: &Undo) -> Result<Undo, AllocError>
+    ensures { IfOk result (λ copy. copy ≡ undo.now) }
+{
+    Ok(Undo {
+        kind: undo.kind,
+        table: undo.table,
+        key: undo.key.copied()?,
+        value: undo.value.copied()?,
+    })
 }

@@ -7,10 +7,11 @@ ghost use Rattle.world.specs.State.{Work, standing_of, txn_of};
 ghost use Rattle.world.specs.Sessions.{fresh_work, work_with_id};
 ghost use Rattle.world.specs.Undoing.{newest, older};
 ghost use Rattle.world.specs.EngineCalls.{fresh_session};
-ghost use Rattle.world_parts.specs.Rooms.{working, work_of, is_of, log_of, view_of, HasLogRoom, IsLogShort, IsShortRecord};
+ghost use Rattle.world_parts.specs.Rooms.{working, work_of, is_of, log_of, view_of, newest_pointer, HasLogRoom, IsLogShort, IsShortRecord};
 ghost use Rattle.world_parts.specs.Owed.{bit, owed_of};
 
 use crate::open_work::{LoggedUndo, OpenWork, SeenIds};
+use index_store::Room;
 use inno_types::{Bytes, Level, Stmt};
 use sql_history::SessionSettings;
 use std::alloc::Global;
@@ -302,15 +303,28 @@ impl SessionRoom {
 
     // ---- the log
 
-    /// Gives the log room for a record of so many bytes, which will have this pointer.
-    pub fn make_room(&mut self, bytes: u16, pointer: u64) -> Result<(), NoMemory>
-        ensures ok { OnOk result (self.new ≡ record self.old { undo_room = bytes; next_pointer = pointer }) }
+    /// Takes memory for one more record of the log, and gives the room that the next one has. `promise` has to follow.
+    pub fn make_room(&mut self) -> Result<Room, NoMemory>
+        ensures ok { OnOk result (self.new ≡ record self.old { undo_room = 1 }) }
+        ensures before { IfOk result (λ room. (room.bytes ≡ self.old.undo_room) × (room.pointer ≡ self.old.next_pointer)) }
         ensures err { OnErr result (self.new ≡ self.old) }
     {
+        let before = Room {
+            bytes: self.undo_room,
+            pointer: self.next_pointer,
+        };
         reserve_one(&mut self.work)?;
-        self.undo_room = bytes;
-        self.next_pointer = pointer;
-        Ok(())
+        self.undo_room = 1;
+        Ok(before)
+    }
+
+    /// The next record of the log has this room. There is memory for it.
+    pub fn promise(&mut self, room: Room)
+        requires { 0 < self.old.undo_room }
+        ensures { self.new ≡ record self.old { undo_room = room.bytes; next_pointer = room.pointer } }
+    {
+        self.undo_room = room.bytes;
+        self.next_pointer = room.pointer;
     }
 
     /// Adds a record to the log, for which there is room.
@@ -338,6 +352,15 @@ impl SessionRoom {
             },
             None => None,
         }
+    }
+
+    /// The roll pointer and the kind of the newest record of the log, if there is one.
+    pub fn newest_pointer(&self) -> Option<(u64, u8)>
+        ensures { result ≡ newest_pointer (log_of self.now.work) }
+    {
+        let work = self.work.as_ref()?;
+        let logged = work.log.last()?;
+        Some((logged.pointer, logged.undo.kind))
     }
 
     /// Takes the newest record of the log away.

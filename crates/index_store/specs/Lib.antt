@@ -1,0 +1,4 @@
+pub mod State
+pub mod Indexes
+pub mod Undoing
+pub mod AtHand

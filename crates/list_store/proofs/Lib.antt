@@ -1,0 +1,4 @@
+pub mod Filled
+pub mod Rooms
+pub mod Indexed
+pub mod Tables

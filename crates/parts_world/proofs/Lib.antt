@@ -1,0 +1,5 @@
+pub mod Results
+pub mod Requests
+pub mod Sound
+pub mod Lifting
+pub mod Logs
