@@ -1,6 +1,7 @@
 -- What each step leaves of the files' promise, and what a commit's acknowledgement is to the callers of the engine.
-use Rattle.std.proofs.Common.{◌≡◌, ◌≢◌, inl, inr, ℕ, Bool, true, false, Option, Some, List, [], ◌∷◌, refl, sym, ap, subst, ◌∙◌, cond, arith}
+use Rattle.std.proofs.Common.{◌≡◌, ◌≢◌, inl, inr, ℕ, Bool, true, false, Option, None, Some, List, [], ◌∷◌, refl, sym, ap, subst, ◌∙◌, cond, arith}
 use Rattle.std.proofs.lemmas.Bool.Decides.{nat_tests}
+use Rattle.std.proofs.lemmas.Bool.{false≢true}
 use Rattle.std.specs.Prelude.{Result, Ok, Err, OnOk, OnErr}
 use Rattle.inno_types.specs.declared.reply.Cause.{Cause}
 use Rattle.inno_types.specs.declared.reply.Cause.TheVariants.{Disk}
@@ -20,14 +21,16 @@ use Rattle.inno_model.specs.declared.board.Phase.{Phase}
 use Rattle.inno_model.specs.declared.board.Phase.TheVariants.{Idle, Busy, Leaving, Left}
 use Rattle.session_engine.specs.declared.seats.Seat.{Seat}
 use Rattle.session_engine.specs.declared.seats.Seat.TheVariants as seats
-use Rattle.session_engine.specs.Seats.{seat_at, is_working, phase_of}
-use Rattle.session_engine.specs.Calls.{Acknowledges, StepsBy as SessionStepsBy}
+use Rattle.session_engine.specs.Seats.{State as Sessions, seat_at, seat_since, since_at as session_since, is_working, owes, phase_of}
+use Rattle.session_engine.specs.Calls.{Acknowledges, StepsBy as SessionStepsBy, WaitsOn, since_after}
 use Rattle.session_engine.specs.Places.{IsExact, HasExactPlaces}
 use Rattle.durable_engine.specs.Seats.{State as StoppedState, phase_at, halted, ended}
 use Rattle.durable_engine.specs.StoppedCalls.{is_at_work, Starts as StoppedStarts, SameState as StoppedSameState, StepsBy as StoppedStepsBy}
 use Rattle.durable_engine.specs.SessionsState.{State as LoggedState}
-use Rattle.durable_engine.specs.State.{running_state}
-use Rattle.durable_engine.specs.Calls.{StepsBy, StepsOn, GoesOn, StopsBy}
+use Rattle.durable_engine.specs.declared.parts.Core.{Core}
+use Rattle.durable_engine.specs.declared.parts.Core.TheVariants as cores
+use Rattle.durable_engine.specs.State.{State, state_of, running_state, stopped_state, since_at}
+use Rattle.durable_engine.specs.Calls.{StepsBy, StepsOn, GoesOn, WaitsLong, KeepsTime, StopsBy}
 
 -- what the entries of an engine that stops, or has stopped, leave as it was
 module _ (P : List Event → Type 0) (stops : (cause : Cause) (past : List Event) → P past → P (events.Stopped cause ∷ past))
@@ -162,4 +165,64 @@ stops_of s answer old before new taken steps =
       before = before;
       taken = taken;
       steps = steps;
+    }
+
+-- the disk of an engine, whichever it is
+pub same_disk : {D L : Type 0} (disk : D) (core : Core L) → (state_of disk core).disk ≡ disk
+same_disk disk (cores.Running sessions) = refl
+same_disk disk (cores.Stopped sessions) = refl
+same_disk disk cores.Changing = refl
+
+-- ---- the moments that a step goes by
+
+seats_on : (s : ℕ) (answer : Progress) (old new : Sessions) → SessionStepsBy s answer old new → (u : ℕ) → u ≢ s
+    → seat_at new.seats u ≡ seat_at old.seats u
+seats_on s progress.Went old new steps = steps.0.others_stay
+seats_on s (progress.Waiting blockers) old new steps = steps.0.others_stay
+seats_on s progress.NoMemory old new steps = steps.0.others_stay
+seats_on s progress.NotYet old new steps = steps.0.others_stay
+seats_on s (progress.Done reply) old new steps = steps.0.others_stay
+seats_on s other old new steps = elim steps [ ]
+
+pub ran_in_time : {D : Type 0} (disk : D) (s now moment : ℕ) (old new : LoggedState) (answer : Progress)
+    → SessionStepsBy s answer old.sessions new.sessions → session_since s new.sessions ≡ since_after answer now (session_since s old.sessions)
+    → (answer ≡ progress.NotYet → WaitsOn now (session_since s old.sessions))
+    → WaitsLong s now answer old.sessions.lists.past (session_since s old.sessions) → owes (seat_at old.sessions.seats s) ≡ false
+    → KeepsTime s now moment answer (running_state disk old) (running_state disk new)
+ran_in_time disk s now moment old new answer steps since waits long unowed =
+    record {
+      since = since;
+      waits = waits;
+      long = long;
+      others = λ u differ at is. ap seat_since (sym (seats_on s answer old.sessions new.sessions steps u differ)) ∙ is;
+      acks = λ owed went. absurd (false≢true (sym unowed ∙ owed));
+    }
+
+pub acked_in_time : {D : Type 0} (s now moment : ℕ) (before after : D) (old new : LoggedState) → Acknowledges s moment old.sessions new.sessions
+    → session_since s new.sessions ≡ None → KeepsTime s now moment progress.Went (running_state before old) (running_state after new)
+acked_in_time s now moment before after old new acks none =
+    record {
+      since = none;
+      waits = λ is. absurd (cc);
+      long = λ name waited item is. absurd (cc);
+      others = λ u differ at is. ap seat_since (sym (acks.steps.others_stay u differ)) ∙ is;
+      acks = λ owed went. acks.past_is;
+    }
+
+-- nobody waits in an engine that has stopped
+stopped_since : (s now : ℕ) (since : Option ℕ) (answer : Progress) (old new : StoppedState) → StoppedStepsBy s answer old new
+    → None ≡ since_after answer now since
+stopped_since s now since (progress.Stopped cause) old new steps = refl
+stopped_since s now since progress.NoMemory old new steps = refl
+stopped_since s now since other old new steps = elim steps [ ]
+
+pub stopped_in_time : {D : Type 0} (s now moment : ℕ) (disk : D) (old : State D) (before new : StoppedState) (answer : Progress)
+    → StoppedStepsBy s answer before new → KeepsTime s now moment answer old (stopped_state disk new)
+stopped_in_time s now moment disk old before new answer steps =
+    record {
+      since = stopped_since s now (since_at s old) answer before new steps;
+      waits = λ is. absurd (subst (λ (a : Progress). StoppedStepsBy s a before new) is steps);
+      long = λ name waited item is. absurd (subst (λ (a : Progress). StoppedStepsBy s a before new) is steps);
+      others = λ u differ at is. absurd (let never : None ≡ Some at = is in cc);
+      acks = λ owed went. absurd (subst (λ (a : Progress). StoppedStepsBy s a before new) went steps);
     }

@@ -5,3 +5,4 @@ mod Adding
 mod Seating
 pub mod Others
 pub mod StoppedKeeping
+mod Waiting

@@ -10,7 +10,7 @@ use Rattle.inno_model.specs.declared.board.Phase.TheVariants.{Idle}
 use Rattle.law_crashes.specs.Since.{KeepsSince}
 use Rattle.commit_log.specs.View.{IsLogging}
 use Rattle.session_engine.specs.Places.{HasExactPlaces}
-use Rattle.session_engine.specs.Seats.{State as Sessions, state_code as sessions_code, seat_at, owes}
+use Rattle.session_engine.specs.Seats.{State as Sessions, state_code as sessions_code, seat_at, since_at as session_since, owes}
 use Rattle.durable_engine.specs.declared.stopped_seats.Seat.{Seat}
 use Rattle.durable_engine.specs.contracts.stopped_seats.Seat as of_seat
 use Rattle.durable_engine.specs.SessionsState.{State as LoggedState}
@@ -67,6 +67,14 @@ IsIdle s state = phase_at state.seats s ≡ Idle
 -- an item of it is under way, or its ending
 abbrev pub IsWorking : {D : Type 0} → ℕ → State D → Type 0
 IsWorking s state = is_at_work (phase_at state.seats s) ≡ true
+
+abbrev pub since_of : ℕ → Option Sessions → Option ℕ
+since_of s None = None
+since_of s (Some sessions) = session_since s sessions
+
+-- Since when the session's item waits for a signal: the moment of its first step. In an engine that has stopped, none waits.
+abbrev pub since_at : {D : Type 0} → ℕ → State D → Option ℕ
+since_at s state = since_of s state.running
 
 abbrev pub owes_of : ℕ → Option Sessions → Bool
 owes_of s None = false

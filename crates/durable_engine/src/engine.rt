@@ -52,8 +52,8 @@ impl<D: Disk, R: Root, L: SharedLists> Model for DurableEngine<D, R, L> {
 
 impl<D: Disk, R: Root, L: SharedLists> DurableEngine<D, R, L> {
     ghost use Rattle.law_crashes.specs.Since.{KeepsSince};
-    ghost use Rattle.durable_engine.specs.State.{IsJoined, IsIdle, IsWorking, owes_ack};
-    ghost use Rattle.durable_engine.specs.Calls.{Joins, Starts, StepsBy, Leaves, SameState};
+    ghost use Rattle.durable_engine.specs.State.{IsJoined, IsIdle, IsWorking, since_at, owes_ack};
+    ghost use Rattle.durable_engine.specs.Calls.{Joins, Starts, StepsBy, KeepsTime, Leaves, SameState};
     ghost use Rattle.session_engine.specs.Calls.{GivesUpInVain};
     ghost use Rattle.session_engine.specs.Places.{HasExactPlaces};
     ghost use Rattle.durable_engine.specs.Going.{Nears, NearsLacking};
@@ -147,11 +147,12 @@ impl<D: Disk, R: Root, L: SharedLists> DurableEngine<D, R, L> {
         }
     }
 
-    /// Starts an item of the session.
+    /// Starts an item of the session. It waits since no moment: it has made no step.
     pub fn start(&mut self, s: u32, item: &Item) -> Result<(), NoMemory>
         requires joined { IsJoined s self.old }
         requires idle { IsIdle s self.old }
         ensures ok { OnOk result (Starts s item.now self.old self.new) }
+        ensures unstepped { OnOk result (since_at s self.new ≡ None) }
         ensures err { OnErr result (SameState self.old self.new) }
     {
         match &mut self.core {
@@ -161,14 +162,16 @@ impl<D: Disk, R: Root, L: SharedLists> DurableEngine<D, R, L> {
         }
     }
 
-    /// Makes a step of the session's item under way, or of its ending, at a moment in seconds. A commit is acknowledged by a step of its own, which
-    /// flushes the log unless it is flushed so far. Where the disk fails then, the engine has stopped.
+    /// Makes a step of the session's item under way, or of its ending, at a moment in seconds. A commit is acknowledged by a step
+    /// of its own, at the disk's moment, which flushes the log unless it is flushed so far. Where the disk fails then, the engine
+    /// has stopped.
     pub fn step(&mut self, s: u32, now: u64) -> Progress
         requires joined { IsJoined s self.old }
         requires working { IsWorking s self.old }
         ensures steps { StepsBy s result self.old self.new }
         ensures nears { Nears s result self.old self.new }
         ensures lacks { NearsLacking s result self.old self.new }
+        ensures time { KeepsTime s now (D.past self.new.disk).moment result self.old self.new }
         ensures waited { IfSome self.old.running (GivesUpInVain s now result) }
     {
         // Sessions that run are stepped where they lie, since most steps are theirs and a core is large.

@@ -56,11 +56,12 @@ impl<L: SharedLists> Model for LoggedSessions<L> {
 }
 
 impl<L: SharedLists> LoggedSessions<L> {
-    ghost use Rattle.session_engine.specs.Seats.{seat_at, owes};
-    ghost use Rattle.session_engine.specs.Calls.{Joins, Starts, StepsBy, Acknowledges, GivesUpInVain, Leaves, SameState};
+    ghost use Rattle.session_engine.specs.Seats.{seat_at, since_at, owes};
+    ghost use Rattle.session_engine.specs.Calls.{Joins, Starts, StepsBy, Acknowledges, GivesUpInVain, WaitsOn, since_after, Leaves, SameState};
     ghost use Rattle.session_engine.specs.Going.{Nears, NearsLacking};
     ghost use Rattle.session_engine.specs.Places.{HasExactPlaces};
     ghost use Rattle.durable_engine.specs.SessionsState.{IsJoined, IsIdle, IsWorking};
+    ghost use Rattle.durable_engine.specs.Calls.{WaitsLong};
 
     /// Sessions of lists that nobody has joined, with a log of which nobody has a part.
     pub fn new(alloc: Global, lists: SqlLists<L>, log: CommitLog) -> Self
@@ -124,11 +125,12 @@ impl<L: SharedLists> LoggedSessions<L> {
         self.sessions.left(s)
     }
 
-    /// Starts an item of the session.
+    /// Starts an item of the session. It waits since no moment.
     pub fn start(&mut self, s: u32, item: &Item) -> Result<(), NoMemory>
         requires joined { IsJoined s self.old }
         requires idle { IsIdle s self.old }
         ensures ok { OnOk result (Starts s item.now self.old.sessions self.new.sessions) }
+        ensures unstepped { OnOk result (since_at s self.new.sessions ≡ None) }
         ensures err { OnErr result (SameState self.old.sessions self.new.sessions) }
         ensures phase_err { OnErr result (self.new.seats ≡ self.old.seats) }
         ensures phase { OnOk result (phase_at self.new.seats s ≡ phase_of (seat_at self.new.sessions.seats s)) }
@@ -165,6 +167,7 @@ impl<L: SharedLists> LoggedSessions<L> {
         requires owed { owes (seat_at self.old.sessions.seats s) ≡ true }
         requires logging { (root : Past) × IsLogging root (D.past disk.old) self.old.sessions.lists.past self.old.log }
         ensures ok { OnOk result (Acknowledges s (D.past disk.new).moment self.old.sessions self.new.sessions) }
+        ensures since { OnOk result (since_at s self.new.sessions ≡ None) }
         ensures nears { OnOk result (Nears s Progress.Went self.old.sessions self.new.sessions) }
         ensures err { OnErr result (self.new.sessions ≡ self.old.sessions) }
         ensures phases { self.new.seats ≡ self.old.seats }
@@ -187,7 +190,10 @@ impl<L: SharedLists> LoggedSessions<L> {
         ensures steps { StepsBy s result self.old.sessions self.new.sessions }
         ensures nears { Nears s result self.old.sessions self.new.sessions }
         ensures lacks { NearsLacking s result self.old.sessions self.new.sessions }
+        ensures since { since_at s self.new.sessions ≡ since_after result now (since_at s self.old.sessions) }
+        ensures waits { result ≡ Progress.NotYet → WaitsOn now (since_at s self.old.sessions) }
         ensures waited { GivesUpInVain s now result self.old.sessions }
+        ensures long { WaitsLong s now result self.old.sessions.lists.past (since_at s self.old.sessions) }
         ensures was { phase_at self.old.seats s ≡ phase_of (seat_at self.old.sessions.seats s) }
         ensures phase { phase_at self.new.seats s ≡ phase_of (seat_at self.new.sessions.seats s) }
         ensures others { (u : ℕ) → u ≢ s → phase_at self.new.seats u ≡ phase_at self.old.seats u }

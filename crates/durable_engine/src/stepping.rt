@@ -10,7 +10,7 @@ ghost use Rattle.durable_engine.specs.Seats.{phase_at};
 ghost use Rattle.law_crashes.specs.Since.{KeepsSince};
 ghost use Rattle.durable_engine.specs.StoppedCalls.{is_at_work, Starts as StoppedStarts, SameState as StoppedSameState, StepsBy as StoppedStepsBy};
 ghost use Rattle.durable_engine.specs.State.{state_of, running_state, IsJoined, IsWorking, IsKeptRunning, IsKept};
-ghost use Rattle.durable_engine.specs.Calls.{StepsBy, StopsBy};
+ghost use Rattle.durable_engine.specs.Calls.{StepsBy, KeepsTime, StopsBy};
 ghost use Rattle.durable_engine.specs.Going.{Nears, NearsLacking};
 
 use crate::parts::Core;
@@ -33,6 +33,7 @@ pub(crate) fn step_of<D: Disk, L: SharedLists>(
     ensures steps { StepsBy s result.1 (state_of disk.old core) (state_of disk.new result.0) }
     ensures nears { Nears s result.1 (state_of disk.old core) (state_of disk.new result.0) }
     ensures lacks { NearsLacking s result.1 (state_of disk.old core) (state_of disk.new result.0) }
+    ensures time { KeepsTime s now (D.past disk.new).moment result.1 (state_of disk.old core) (state_of disk.new result.0) }
     ensures waited { IfSome (state_of disk.old core).running (GivesUpInVain s now result.1) }
     ensures kept { (root : Past) → IsKept root (D.past disk.old) core → IsKept root (D.past disk.new) result.0 }
 {
@@ -59,6 +60,7 @@ fn run_on<D: Disk, L: SharedLists>(
     ensures steps { StepsBy s result.1 (running_state disk.old sessions) (state_of disk.new result.0) }
     ensures nears { Nears s result.1 (running_state disk.old sessions) (state_of disk.new result.0) }
     ensures lacks { NearsLacking s result.1 (running_state disk.old sessions) (state_of disk.new result.0) }
+    ensures time { KeepsTime s now (D.past disk.new).moment result.1 (running_state disk.old sessions) (state_of disk.new result.0) }
     ensures waited { GivesUpInVain s now result.1 sessions.sessions }
     ensures kept { (root : Past) → IsKeptRunning root (D.past disk.old) sessions → IsKept root (D.past disk.new) result.0 }
 {

@@ -7,9 +7,11 @@ use Rattle.commit_log.specs.View.{IsLogging}
 use Rattle.commit_log.specs.DraftsView.{draft_of}
 use Rattle.law_logged_histories.proofs.Records.{tables_loggable, have_records}
 use Rattle.store_api.specs.declared.answers.Progress.TheVariants.{NoMemory}
-use Rattle.session_engine.specs.Seats.{seat_at, phase_of}
+use Rattle.session_engine.specs.Seats.{seat_at, since_at, phase_of}
 use Rattle.session_engine.specs.Calls.{TellsNone}
 use Rattle.durable_engine.specs.Seats.{phase_at}
+use Rattle.durable_engine.specs.Calls.{WaitsLong}
+use Rattle.durable_engine.proofs.Waiting.{waited_long}
 use Rattle.durable_engine.proofs.Adding.{steps_added, opening_stays, enters_added}
 use Rattle.durable_engine.proofs.Seating.{stepped_seats, steps_on}
 use Rattle.durable_engine.proofs.logged.LoggedSessions.step.Goals as goal
@@ -88,3 +90,11 @@ returns-then-not-has_room-clause-was g c =
 pub returns-clause-was : goal.returns-clause-was
 returns-clause-was g c =
     subst (λ st. phase_at st.seats c.args.s ≡ phase_of (seat_at st.sessions.seats c.args.s)) c.self.view_is (c.self.invariant.phases c.args.s)
+
+pub returns-clause-long : goal.returns-clause-long
+returns-clause-long g c =
+    subst (λ st. WaitsLong c.args.s c.args.now c.step-progress.result st.sessions.lists.past (since_at c.args.s st.sessions)) c.self.view_is
+    (waited_long c.args.s c.args.now c.step-progress.result c.self.inside.sessions c.history.ensures.agree c.step-progress.ensures.waited)
+
+pub returns-then-not-has_room-clause-long : goal.returns-then-not-has_room-clause-long
+returns-then-not-has_room-clause-long g c = λ name waited item is. absurd (cc)
