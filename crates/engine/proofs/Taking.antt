@@ -1,5 +1,5 @@
 -- The keys of a table take a row over, step by step.
-use Rattle.std.proofs.Common.{false, ◌≡◌, ◌∙◌, ⊎_elim, inr, sym, ap, subst, ℕ, ◌≤◌, List, length, None, Some, slice_get, arith}
+use Rattle.std.proofs.Common.{false, ◌≡◌, ◌≢◌, ◌∙◌, ⊎_elim, inr, sym, ap, subst, refl, ℕ, ◌≤◌, List, length, Option, None, Some, slice_get, arith}
 use Rattle.std.specs.Prelude.{All}
 use Rattle.inno_types.specs.declared.value.Value.{Value}
 use Rattle.inno_types.specs.declared.value.Column.{Column}
@@ -13,10 +13,11 @@ use Rattle.law_stored_rows.proofs.Coding.{short_key, short_value}
 use Rattle.row_codec.specs.Rows.{version_code}
 use Rattle.store_api.specs.declared.moves.Move.TheVariants as moves
 use Rattle.store_api.specs.declared.moves.Move.{Move}
-use Rattle.entries.specs.Calls.{Inserts}
-use Rattle.law_stored_rows.specs.Edits.{clustered_index}
+use Rattle.entries.specs.{Calls.Inserts, Index.Index, Index.Paged, Index.InPages}
+use Rattle.law_stored_rows.specs.Edits.{clustered_index, key_index}
 use Rattle.law_held_steps.proofs.Hindering.{keys_lack}
-use Rattle.world.specs.{State.WorldState, Memory.IsInMemory}
+use Rattle.law_held_steps.specs.Hindering.{IsForWant}
+use Rattle.world.specs.{State.WorldState, AtHand.IsAtHand}
 use Rattle.world.specs.Stores.{StoreGoes}
 use Rattle.world.proofs.Stores.{store_goes_on}
 use Rattle.world.specs.Indexes.{Changes}
@@ -26,7 +27,7 @@ use Rattle.row_changes.specs.Edits.{IsRowFor}
 use Rattle.row_changes.specs.Told.{HasRows}
 use Rattle.row_changes.proofs.Alone.{alone_over}
 use Rattle.law_stored_rows.specs.Tables.{what_is_there}
-use Rattle.row_changes.specs.{Keys.IsChangingKeys, Keys.ChangesKeys, Reached.Reached}
+use Rattle.row_changes.specs.{Keys.IsChangingKeys, Keys.ChangesKeys, Keys.HindersKeys, Reached.Reached}
 use Rattle.engine.specs.Laid.{PutsNewRecord, AwaitsNobody}
 use Rattle.row_changes.specs.Awaited.{AwaitsIn, IsOfTable}
 
@@ -61,6 +62,32 @@ new_record table schema row old new key value index row_is value_is index_is ins
           (version_code schema (record { row = row; writer = 0; pointer = 0; marked = false })) before after answer) old new moves.Done) index_is
           (subst (λ v. Changes index 0 None (λ before after answer. Inserts 0 key v before after answer) old new moves.Done) value_is inserts);
     }
+
+no_pages : (why : Paged → Paged → Type 0) (old new : Option Paged) → old ≡ None → InPages why old new → ⊥
+no_pages why None None none cause = cause
+no_pages why None (Some new) none cause = cause
+no_pages why (Some old) new none cause = absurd (cc)
+
+-- Where an index has no pages and nobody is awaited, a pair is put, or is there, or memory is lacking.
+pub put_at_once : (key value : List ℕ) (old new : Index) → old.paged ≡ None → ((by : ℕ) → old.awaited ≡ Some by → ⊥) → (answer : Move)
+    → Inserts 0 key value old new answer → answer ≢ moves.Done → ((there kept : List ℕ) → answer ≢ moves.At there kept) → answer ≢ moves.NoMemory → ⊥
+put_at_once key value old new none nobody moves.Done is not_done not_there not_lacking = not_done refl
+put_at_once key value old new none nobody (moves.At there kept) is not_done not_there not_lacking = not_there there kept refl
+put_at_once key value old new none nobody moves.NoMemory is not_done not_there not_lacking = not_lacking refl
+put_at_once key value old new none nobody (moves.Latch by) is not_done not_there not_lacking =
+    ⊎_elim (λ kept. nobody by kept.held.awaited) (λ off. no_pages _ old.paged new.paged none off.cause) is
+put_at_once key value old new none nobody moves.End is not_done not_there not_lacking = is
+put_at_once key value old new none nobody other is not_done not_there not_lacking = no_pages _ old.paged new.paged none is.cause
+
+-- where indexes have no pages, what a step of keys wants is memory
+memory_lacks : (mid new : WorldState) (change : KeysChange) → ((index : ℕ) → (mid.indexes index).paged ≡ None) → (why : Move) → IsForWant why
+    → HindersKeys 0 mid new change why → why ≡ moves.NoMemory
+memory_lacks mid new change none moves.NoMemory want off = refl
+memory_lacks mid new change none (moves.Full need free) want off =
+    ⊎_elim (λ lacks. absurd (no_pages _ _ _ (none (key_index change.table off.which)) lacks.cause)) (λ gone. absurd (let same = gone.0 in cc)) off.cause
+memory_lacks mid new change none moves.TooDeep want off =
+    ⊎_elim (λ lacks. absurd (no_pages _ _ _ (none (key_index change.table off.which)) lacks.cause)) (λ gone. absurd (let same = gone.0 in cc)) off.cause
+memory_lacks mid new change none other want off = absurd want
 
 -- since this change began the keys have come so far
 pub record IsTaking (start : KeysChange) (old now : WorldState) (change : KeysChange) : Type 0 where
@@ -127,8 +154,10 @@ module _ (start : KeysChange) (old mid new : WorldState) (change : KeysChange) (
   pub taken_later : Steps Done → StoreGoes old.paged new.paged
   taken_later step = store_goes_on old.paged mid.paged new.paged taking.later (step taking.chains taking.holds).0.later
 
-  -- nobody was awaited when the change began, so nothing but want of memory hinders its step
-  pub taking_lacks : IsInMemory mid → AwaitsNobody old → (same : KeysChange) (why : Move) → Steps (Hindered same why) → why ≡ moves.NoMemory
-  taking_lacks memory nobody same why step =
-      keys_lack 0 mid new memory (λ i by is. ⊎_elim (λ was. absurd (nobody i by was)) (λ mine. mine.0) (taking.awaits.each i by is)) change why
-      (step taking.chains taking.holds).3
+  -- Nobody was awaited when the change began, and the indexes have no pages, so nothing but want of memory hinders its step.
+  pub taking_lacks : IsAtHand mid → IsAtHand new → ((index : ℕ) → (mid.indexes index).paged ≡ None) → AwaitsNobody old → (same : KeysChange) (why : Move)
+      → Steps (Hindered same why) → why ≡ moves.NoMemory
+  taking_lacks was now none nobody same why step =
+      let off = (step taking.chains taking.holds).3 in
+      memory_lacks mid new change none why (keys_lack 0 mid new was now
+      (λ i by is. ⊎_elim (λ awaits. absurd (nobody i by awaits)) (λ mine. mine.0) (taking.awaits.each i by is)) change why off) off

@@ -81,7 +81,8 @@ fn record_of(alloc: Global, schema: &Schema, row: &Row) -> Result<(Bytes, Bytes)
     Ok((key, value))
 }
 
-/// Puts the row's record, and gives its key.
+/// Puts the row's record, and gives its key. Only want of memory keeps it from it where the row isn't there: the index is in
+/// memory, and nobody else uses it.
 pub fn put_record(
     alloc: Global,
     world: &mut ListWorld,
@@ -93,6 +94,7 @@ pub fn put_record(
     requires storable { IsStorable schema.now }
     requires fits { FitsTable schema.now row.now }
     requires numbers { All Has64Bits row.now }
+    requires nobody { AwaitsNobody (world_of world.old) }
     ensures ok { IfOk result (PutsNewRecord table schema.now row.now (world_of world.old) (world_of world.new)) }
     ensures there { result ≡ Err PutBad.RowThere → HasRecordThere table schema.now row.now (world_of world.old) }
 {
@@ -102,15 +104,8 @@ pub fn put_record(
     match world.insert(index_number(table, 0), ACTOR, &key, &value, None) {
         Move::Done => Ok(key),
         Move::At(..) => Err(PutBad::RowThere),
-        Move::NoMemory
-        | Move::End
-        | Move::Step
-        | Move::Latch { .. }
-        | Move::Again
-        | Move::Full { .. }
-        | Move::TooDeep
-        | Move::Failed
-        | Move::Bad { .. } => Err(PutBad::NoMemory),
+        Move::NoMemory => Err(PutBad::NoMemory),
+        _ => unreachable!(),
     }
 }
 

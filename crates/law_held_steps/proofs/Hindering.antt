@@ -6,7 +6,7 @@ use Rattle.store_api.specs.declared.moves.Move.TheVariants.{At, End, Done, Latch
 use Rattle.store_api.specs.declared.moves.Move.{Move}
 use Rattle.entries.specs.{Pairs.Pair, Index.Index, Index.AreKept}
 use Rattle.law_stored_rows.specs.Edits.{key_index}
-use Rattle.world.specs.{State.WorldState, Told.IsTold, AtHand.IsAtHand, AtHand.IsIndexAtHand, Undoing.MakesRoom}
+use Rattle.world.specs.{State.WorldState, AtHand.IsAtHand, AtHand.IsIndexAtHand, Undoing.MakesRoom}
 use Rattle.world.proofs.AtHand.{not_delayed, index_not_delayed, never_unseen, free_are_few}
 use Rattle.row_changes.specs.{Awaited.IsAwaitedAlone, Pairs.Hinders, Pairs.HindersBehind, Keys.HindersKeys, declared.keys_change.KeysChange.KeysChange}
 use Rattle.row_search.specs.{declared.scan.Scan.Scan, declared.phase.Phase.Phase, Steps.MayWait, Steps.MayBeUnseen, Steps.PhaseWaits}

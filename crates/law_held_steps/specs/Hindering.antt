@@ -1,5 +1,5 @@
 -- For what a change is given up over a store at hand.
-use Rattle.std.specs.Prelude.{ℕ, ◌<◌}
+use Rattle.std.specs.Prelude.{◌<◌}
 use Rattle.store_api.specs.declared.moves.Move.{Move}
 use Rattle.store_api.specs.declared.moves.Move.TheVariants as moves
 use Rattle.shared_lists.specs.declared.answers.Hindrance.{Hindrance}

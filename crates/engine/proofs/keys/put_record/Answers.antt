@@ -1,6 +1,7 @@
 use Rattle.std.proofs.Common.{arith}
 use Rattle.list_world.specs.Parts.{world_of}
-use Rattle.engine.proofs.Taking.{key_short, value_short, new_record}
+use Rattle.list_world.specs.Memory.{no_page_of_index}
+use Rattle.engine.proofs.Taking.{key_short, value_short, new_record, put_at_once}
 use Rattle.engine.proofs.keys.put_record.Goals as goal
 
 pub insert-requires-clause-key : goal.insert-requires-clause-key
@@ -15,3 +16,8 @@ returns-in-Done-clause-ok c =
     let index = c.index_number.ensures in
     new_record c.args.table c.args.schema.now c.args.row.now (world_of c.args.world.now) (world_of c.insert.new.self) c.in-Ok.key c.in-Ok.value
     c.index_number.result c.in-Ok.ensures.key c.in-Ok.ensures.value (omega (arith, index)) c.in-Done.ensures
+
+pub unreachable-requires : goal.unreachable-requires
+unreachable-requires c =
+    put_at_once _ _ _ _ (no_page_of_index c.args.world.now c.index_number.result) (c.requires.nobody c.index_number.result) c.insert.result
+    c.insert.ensures.index_is.here c.in_default-insert.not-Done c.in_default-insert.not-At c.in_default-insert.not-NoMemory

@@ -1,7 +1,7 @@
 use Rattle.std.proofs.Common.{ℕ, ap, subst, sym}
 use Rattle.law_stored_rows.specs.Tables.{what_is_there}
 use Rattle.list_world.specs.Parts.{world_of}
-use Rattle.list_world.specs.Memory.{in_memory}
+use Rattle.list_world.specs.Memory.{at_hand, no_page_of_index}
 use Rattle.row_changes.specs.{Keys.IsChangingKeys, Keys.ChangesKeys, Awaited.AwaitsIn, declared.keys_change.KeysChange.KeysChange, InPlace.reached_at}
 use Rattle.row_changes.specs.{Reached.Done}
 use Rattle.engine.proofs.Taking.{Steps, taking_next, taking_lacks, taken_rows, same_table, taken_rest, taken_later}
@@ -14,8 +14,8 @@ pub is_over-requires : goal.is_over-requires
 is_over-requires c =
     let mid = world_of c.loop.world in
     let new = world_of c.advance.new.world in
-    λ why is. taking_lacks _ (world_of c.args.world.now) mid new c.loop.change c.loop.invariant (in_memory c.loop.world) c.requires.nobody
-    c.advance.new.self why
+    λ why is. taking_lacks _ (world_of c.args.world.now) mid new c.loop.change c.loop.invariant (at_hand c.loop.world) (at_hand c.advance.new.world)
+    (no_page_of_index c.loop.world) c.requires.nobody c.advance.new.self why
     (λ chains holds. subst (ChangesKeys 0 chains (what_is_there chains) mid new c.loop.change) (ap (reached_at c.advance.new.self) is)
     (c.advance.ensures.changes chains (what_is_there chains) holds))
 
