@@ -85,7 +85,3 @@ module _ (s : ℕ) (old new : Lists) (out : IsGoingOut s old) where
         },
         refl,
       )
-
--- so many changes stand, as the lists tell
-pub none_stand : (s count : ℕ) (seen old : Lists) → seen ≡ old → count ≡ length (own s seen.past) → count ≡ 0 → length (own s old.past) ≡ 0
-none_stand s count seen old is told none = ap (λ (l : Lists). length (own s l.past)) (sym is) ∙ (sym told ∙ none)

@@ -1,7 +1,7 @@
 -- What an item that gives a signal, or awaits one, may do, and what its step does.
-use Rattle.std.proofs.Common.{◌≡◌, ◌≢◌, ℕ, ◌+◌, ◌-◌, ◌<◌, ◌≤◌, true, false, cond, Option, Some, None, List, [], ◌∷◌, length, refl, sym, ap, subst, ◌∙◌, inl}
+use Rattle.std.proofs.Common.{◌≡◌, ℕ, ◌+◌, ◌-◌, ◌<◌, ◌≤◌, true, false, Option, Some, None, List, ◌∷◌, length, refl, sym, ap, subst, ◌∙◌, inl}
 use Rattle.std.proofs.Common.{inr, arith}
-use Rattle.std.specs.Prelude.{take, drop, reverse, bytes_eq, unwrap_or, Result, Ok, Err, OnOk, OnErr, is_ok}
+use Rattle.std.specs.Prelude.{take, drop, reverse, unwrap_or, Result, Ok, Err, OnOk, OnErr, is_ok}
 use Rattle.std.specs.List.{list_any}
 use Rattle.std.proofs.lemmas.Bool.Decides.{eqb_tells}
 use Rattle.std.proofs.lemmas.List.{length-reverse, length-drop, reverse-reverse, take_all}
@@ -10,9 +10,9 @@ use Rattle.inno_types.specs.declared.reply.Reply.{Reply}
 use Rattle.inno_types.specs.declared.reply.Reply.TheVariants as replies
 use Rattle.inno_model.specs.declared.event.Event.{Event}
 use Rattle.inno_model.specs.declared.event.Event.TheVariants as events
-use Rattle.inno_model.specs.Past.{started, under_way, of_item, awaits_ack}
+use Rattle.inno_model.specs.Past.{started, under_way, awaits_ack}
 use Rattle.sql_grammar.specs.Grammar.{Spells}
-use Rattle.sql_history.specs.Counts.{signals, signals_done}
+use Rattle.sql_history.specs.Counts.{signals}
 use Rattle.sql_history.specs.Legal.{IsLegal, MaySignal}
 use Rattle.law_past_agreement.specs.Order.{IsOrdered}
 use Rattle.shared_lists.specs.State.{State as Lists, Adds, Stays, task_of}

@@ -5,7 +5,6 @@ use Rattle.store_api.specs.declared.answers.Progress.TheVariants as progress
 use Rattle.shared_lists.specs.State.{State as Lists}
 use Rattle.sql_lists.specs.Going.{left, to_roll_back}
 use Rattle.inno_types.specs.Order.{IsBelow}
-use Rattle.statement.specs.declared.under_way.Statement.{Statement}
 use Rattle.statement.specs.Going.{statement_to_go}
 use Rattle.session_engine.specs.declared.seats.Seat.{Seat}
 use Rattle.session_engine.specs.declared.seats.Seat.TheVariants as seats

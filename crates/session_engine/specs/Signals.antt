@@ -1,5 +1,5 @@
 -- Signals: those that were given are of items that have ended, and what an item that awaits one has seen.
-use Rattle.std.specs.Prelude.{◌≡◌, ℕ, ◌+◌, ◌≤◌, Bool, true, false, if◌then◌else◌, Some, List, [], ◌∷◌, length, take, reverse, bytes_eq}
+use Rattle.std.specs.Prelude.{◌≡◌, ℕ, ◌+◌, ◌≤◌, Bool, false, if◌then◌else◌, Some, List, [], ◌∷◌, length, take, reverse, bytes_eq}
 use Rattle.std.specs.List.{list_any}
 use Rattle.inno_types.specs.declared.reply.Item.{Item}
 use Rattle.inno_model.specs.declared.event.Event.{Event}

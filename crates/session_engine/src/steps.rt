@@ -63,10 +63,10 @@ pub fn go_out<L: SharedLists>(s: u32, lists: &mut SqlLists<L>) -> (Seat, Progres
     ensures quiet { TellsNone lists.old.past lists.new.past }
     ensures nears { NearsEnding s lists.old lists.new result.1 }
 {
-    if lists.lists().level(s).is_none() {
+    if lists.level(s).is_none() {
         return (Seat::Left, Progress::Done(Reply::Done));
     }
-    if lists.lists().change_count(s) > 0 {
+    if lists.change_count(s) > 0 {
         return take_back(s, lists);
     }
     lists.roll_back(s);

@@ -1,7 +1,6 @@
 use Rattle.std.proofs.Common.{◌≡◌, ℕ, ◌-◌, ◌<◌, true, false, Some, List, length, refl, sym, ap, ◌∙◌, arith}
 use Rattle.std.specs.Prelude.{take, drop, reverse}
 use Rattle.std.specs.List.{list_any}
-use Rattle.inno_model.specs.declared.event.Event.{Event}
 use Rattle.session_engine.specs.declared.seats.SignalItem.TheVariants.{Awaits}
 use Rattle.session_engine.specs.Signals.{gives}
 use Rattle.session_engine.proofs.Signalled.{found, none_given, seen_now, may_end_found, may_give_up, ended_waiting, rest_is, waited_since}

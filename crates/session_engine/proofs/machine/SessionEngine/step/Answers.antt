@@ -4,7 +4,7 @@ use Rattle.session_engine.specs.Seats.{seat_at, seat_since, is_working, is_busy,
 use Rattle.session_engine.proofs.Seating.{leaving_is, at_work, unread, refused_keeps, refused_does, refused_nears}
 use Rattle.session_engine.proofs.Seating.{stepped_keeps, stepped_does, stepped_nears, stepped_lacks, stepped_quiet, stepped_since, stepped_answers}
 use Rattle.session_engine.proofs.Seating.{signals_keep, signals_do, signals_near, signals_patient, signals_wait, out_keeps}
-use Rattle.session_engine.proofs.Seating.{refused_lacks, refused_since, signalling_lacks, signals_since, out_since}
+use Rattle.session_engine.proofs.Seating.{refused_lacks, refused_since, signalling_lacks, signals_since}
 use Rattle.session_engine.proofs.machine.SessionEngine.step.Goals as goal
 
 pub step-requires-clause-at_work : goal.step-requires-clause-at_work
