@@ -14,7 +14,8 @@ use Rattle.inno_types.specs.declared.value.Schema.{Schema}
 use Rattle.row_versions.specs.Versions.{Versions}
 use Rattle.sql_history.specs.Settings.{Setting, at_first}
 use Rattle.shared_lists.specs.{Tasks.Task, Tasks.is_changing, Tasks.asked, Tasks.steps_left, Tasks.left_by, State.task_of, State.IsNow, State.Turns}
-use Rattle.shared_lists.specs.{State.Lists, declared.answers.Reading.Reading, Steps.Changes, Steps.rows_of_change, Steps.rows_entered, Steps.IsLacking, declared.answers.Hindrance.Hindrance}
+use Rattle.shared_lists.specs.{State.Lists, declared.answers.Reading.Reading, Steps.Changes, Steps.rows_of_change, Steps.rows_entered}
+use Rattle.shared_lists.specs.{Steps.IsLacking, declared.answers.Hindrance.Hindrance}
 use Rattle.desks.specs.Shown.{shown, task_at, lists_of, reading_of, change_in}
 use Rattle.desks.specs.declared.desk.Doing.TheVariants.{Nothing, Searching, Changing, Lagging, Undoing}
 use Rattle.desks.specs.Desks.{desk_at, doing_in, doing_at, with_doing, is_quiet_doing, is_undoing, Store}

@@ -98,7 +98,8 @@ goes_itself None = record {}
 goes_itself (Some paged) = record { faults = omega arith; key_len = refl; value_len = refl }
 
 pub reaches_itself : (actor : ℕ) (index : Index) → IsReached actor index index
-reaches_itself actor index = record { pairs = same_pairs index.pairs; place = refl; awaited = λ by is. inl is; later = goes_itself index.paged; at_hand = λ are. are }
+reaches_itself actor index =
+    record { pairs = same_pairs index.pairs; place = refl; awaited = λ by is. inl is; later = goes_itself index.paged; at_hand = λ are. are }
 
 pub at_once : {actor : ℕ} {old new : Index} {why : Move} → AreKept old.pairs new.pairs → Hinders actor old new why → HindersBehind actor old new why
 at_once {actor} {old} kept cause = record { mid = old; reached = reaches_itself actor old; kept = kept; cause = cause }

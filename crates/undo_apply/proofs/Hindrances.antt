@@ -1,7 +1,7 @@
 -- Who is awaited after a step of a taking back, and that nothing hinders it over a store at hand where nobody else is awaited.
 use Rattle.std.proofs.Common.{◌≡◌, ◌⊎◌, inl, inr, ⊎_elim, ℕ, ◌<◌, refl, arith, length}
 use Rattle.store_api.specs.{declared.answers.Undo.Undo, declared.moves.Move.Move}
-use Rattle.store_api.specs.declared.moves.Move.TheVariants.{At, End, Done, Step, Latch, Again, Full, TooDeep, Failed, Bad, NoMemory}
+use Rattle.store_api.specs.declared.moves.Move.TheVariants.{Done, Step, Latch, Again, Failed, Bad}
 use Rattle.store_api.specs.declared.visits.Visit.TheVariants as visit
 use Rattle.entries.specs.{Calls.Delays, Calls.IsKeptOff}
 use Rattle.row_versions.specs.{declared.place.Place.Place, Chains.Chains}
@@ -41,25 +41,13 @@ module _ (actor : ℕ) (old new : WorldState) (was : IsAtHand old) (is : IsAtHan
   never_stops index Again h = never_delays index Again h
   never_stops index Failed h = never_delays index Failed h
   never_stops index (Bad page rule) h = never_delays index (Bad page rule) h
-  never_stops index (At key value) h = h was.told
-  never_stops index End h = h was.told
-  never_stops index Done h = h was.told
-  never_stops index (Full need free) h = h was.told
-  never_stops index TooDeep h = h was.told
-  never_stops index NoMemory h = h was.told
+  never_stops index other h = h was.told
 
   never_stops_walk : (why : Move) → StopsWalk old new why → ⊥
   never_stops_walk Failed h = never_unseen old.versions new.versions was.versions is.versions visit.Failed h
   never_stops_walk Again h = never_unseen old.versions new.versions was.versions is.versions visit.Again h
   never_stops_walk (Bad page rule) h = never_unseen old.versions new.versions was.versions is.versions (visit.Bad page rule) h
-  never_stops_walk (At key value) h = h was.told
-  never_stops_walk End h = h was.told
-  never_stops_walk Done h = h was.told
-  never_stops_walk Step h = h was.told
-  never_stops_walk (Latch by) h = h was.told
-  never_stops_walk (Full need free) h = h was.told
-  never_stops_walk TooDeep h = h was.told
-  never_stops_walk NoMemory h = h was.told
+  never_stops_walk other h = h was.told
 
   never_stops_at : (undo : Undo) (stage : Stage) (why : Move) → StopsAt actor undo stage old new why → ⊥
   never_stops_at undo (Walk which pointer) why h = never_stops_walk why h

@@ -417,9 +417,11 @@ module _ {s : ℕ} {store : Store} {new : WorldState} (held : IsHeld store) (min
   came_shown (Keys change) Done at wants comes =
       all_of (done_shown held mine leaves within at comes.0 comes.1) leaves.settings (no_more new.rows was_world.rows comes.0.rows)
   came_shown (Record change key after) (Hindered same why) at wants comes =
-      all_of (given_up_shown held mine leaves within at (hindrance_of why) (lacking why wants) comes.0) leaves.settings (no_more new.rows was_world.rows comes.0.rows)
+      all_of (given_up_shown held mine leaves within at (hindrance_of why) (lacking why wants) comes.0) leaves.settings
+      (no_more new.rows was_world.rows comes.0.rows)
   came_shown (Keys change) (Hindered same why) at wants comes =
-      all_of (given_up_shown held mine leaves within at (hindrance_of why) (lacking why wants) comes.0) leaves.settings (no_more new.rows was_world.rows comes.0.rows)
+      all_of (given_up_shown held mine leaves within at (hindrance_of why) (lacking why wants) comes.0) leaves.settings
+      (no_more new.rows was_world.rows comes.0.rows)
 
 -- A step is made of the change at the desk of the session, which may write.
 module _ (s : ℕ) {store : Store} {new : WorldState} {change : RowChange} {doing : Doing} {answer : Changed}

@@ -97,7 +97,8 @@ answered found (Err why) IsRight is right = record {}
 -- what a search that is over answers, and what callers see of it
 over_by : (table : ℕ) (plan : Plan) (reading : Reading) (s : ℕ) (old new : State) (rows : List (List Value)) (answer : Searched)
     → ((given : List (List Value)) → answer ≡ stepped.Done given → given ≡ rows) → answer ≢ stepped.Went
-    → ((why : Wants) → answer ≡ stepped.Hindered why → why ≡ hindrances.NoMemory) → Turns s tasks.Idle old new → AreFoundBy reading table plan old.past s rows → Searches table plan reading s old new answer
+    → ((why : Wants) → answer ≡ stepped.Hindered why → why ≡ hindrances.NoMemory) → Turns s tasks.Idle old new
+    → AreFoundBy reading table plan old.past s rows → Searches table plan reading s old new answer
 over_by table plan reading s old new rows stepped.Went is over wants turns found = absurd (over refl)
 over_by table plan reading s old new rows (stepped.Done given) is over wants turns found =
     (turns, subst (AreFoundBy reading table plan old.past s) (sym (is given refl)) found)
@@ -299,11 +300,13 @@ module _ (s : ℕ) {store : Store} {lists : Lists} (kept : IsKept store) (view :
             ended_kept = kept_now Nothing at (leaving_moves s _ old new ends.leaves) (ended s kept.held is search taken_up told ends).0
 
             pub ended_seen : {answer : Searched} → ((rows : List (List Value)) → answer ≡ stepped.Done rows → rows ≡ map (λ (f : FoundRow). f.row) found)
-                → answer ≢ stepped.Went → ((why : Wants) → answer ≡ stepped.Hindered why → why ≡ hindrances.NoMemory) → (table : ℕ) (plan : Plan) (reading : Reading) → task_of s lists.state ≡ tasks.Searching table plan reading → Searches
+                → answer ≢ stepped.Went → ((why : Wants) → answer ≡ stepped.Hindered why → why ≡ hindrances.NoMemory)
+                → (table : ℕ) (plan : Plan) (reading : Reading) → task_of s lists.state ≡ tasks.Searching table plan reading → Searches
                 table plan reading s lists.state (now_in new after) answer
             ended_seen {answer} rows over wants table plan reading task =
                 let on_end = ended s kept.held is search taken_up told ends in
-                over_by table plan reading s lists.state (now_in new after) (map (λ (f : FoundRow). f.row) found) answer rows over wants (turns_idle at on_end.1 told)
+                over_by table plan reading s lists.state (now_in new after) (map (λ (f : FoundRow). f.row) found) answer rows over wants
+                (turns_idle at on_end.1 told)
                 (found_as table plan reading s lists.state.past (map (λ (f : FoundRow). f.row) found) on (search_of table plan reading task)
                 (subst (λ (l : Lists). AreFoundBy (reading_of on.search.scan.sight) on.search.scan.table (plan_of on) l.state.past s
                 (map (λ (f : FoundRow). f.row) found)) view on_end.2))

@@ -34,13 +34,15 @@ returns-in-Went g c =
 pub returns-in-Done : goal.returns-in-Done
 returns-in-Done g c =
     step_of c.args.change.now Done c.advance.ensures.awaits c.leave_table.ensures.leaves (ap (reached_at c.advance.new.self) c.in-Done.is)
-    (changed_as _ _ _ _ _ c.advance.ensures.makes) (gone_by c.table_of-table.ensures c.leave_table.ensures.gone) (record {}) refl (answer_over c.args.change.now)
+    (changed_as _ _ _ _ _ c.advance.ensures.makes) (gone_by c.table_of-table.ensures c.leave_table.ensures.gone) (record {}) refl
+    (answer_over c.args.change.now)
 
 pub returns-in-Hindered : goal.returns-in-Hindered
 returns-in-Hindered g c =
     step_of c.args.change.now (Hindered c.advance.new.self c.in-Hindered.why) c.advance.ensures.awaits c.leave_table-in-Hindered.ensures.leaves
     (ap (reached_at c.advance.new.self) c.in-Hindered.is) (changed_as _ _ _ _ _ c.advance.ensures.makes)
-    (gone_by c.table_of-table.ensures c.leave_table-in-Hindered.ensures.gone) (wants_of c.args.session (g.W.World.state c.args.world.now) (g.W.World.state c.advance.new.world) c.args.change.now c.advance.new.self
+    (gone_by c.table_of-table.ensures c.leave_table-in-Hindered.ensures.gone)
+    (wants_of c.args.session (g.W.World.state c.args.world.now) (g.W.World.state c.advance.new.world) c.args.change.now c.advance.new.self
     c.in-Hindered.why (g.met.W.EngineWorld.never_delays c.args.world.now) (g.met.W.EngineWorld.never_delays c.advance.new.world) c.requires
     c.advance.ensures.makes (ap (reached_at c.advance.new.self) c.in-Hindered.is)) refl
     (ap stepped.Hindered c.hindrance_of-hindrance.ensures ∙ answer_hindered c.args.change.now c.advance.new.self c.in-Hindered.why)

@@ -45,14 +45,16 @@ pub unreachable-requires : goal.unreachable-requires
 unreachable-requires g c =
     is_made c.args.session c.requires.kept.1 c.requires.joined c.requires.busy (g.met.W.EngineWorld.never_delays c.args.world.now)
     c.index_mut-desk.ensures.value
-    (g.W.World.state c.put_back.new.world) c.put_back.new.room (g.met.W.EngineWorld.never_delays c.put_back.new.world) c.put_back.result c.put_back.ensures.puts c.in_default.not-Done c.in_default.not-Step
+    (g.W.World.state c.put_back.new.world) c.put_back.new.room (g.met.W.EngineWorld.never_delays c.put_back.new.world) c.put_back.result
+    c.put_back.ensures.puts c.in_default.not-Done c.in_default.not-Step
 
 pub returns-in-Done-clause-kept : goal.returns-in-Done-clause-kept
 returns-in-Done-clause-kept g c =
     λ writer kept. done_kept c.args.session kept c.requires.joined c.requires.busy (g.met.W.EngineWorld.never_delays c.args.world.now)
     c.index_mut-desk.ensures.value
     (g.W.World.state c.put_back.new.world) c.put_back.new.room c.in-Done.ensures.puts (g.W.World.state c.drop_newest.new.world) c.drop_newest.ensures
-    c.leave_table.ensures.leaves (g.met.W.EngineWorld.never_delays c.leave_table.new.world) c.give_doing.ensures c.is_short.ensures.few c.put_back.ensures.awaits
+    c.leave_table.ensures.leaves (g.met.W.EngineWorld.never_delays c.leave_table.new.world) c.give_doing.ensures c.is_short.ensures.few
+    c.put_back.ensures.awaits
     c.leave_table.ensures.gone
 
 pub returns-in-Done-clause-takes : goal.returns-in-Done-clause-takes
@@ -66,7 +68,8 @@ pub returns-in-Step-clause-kept : goal.returns-in-Step-clause-kept
 returns-in-Step-clause-kept g c =
     λ writer kept. step_kept c.args.session kept c.requires.joined c.requires.busy (g.met.W.EngineWorld.never_delays c.args.world.now)
     c.index_mut-desk.ensures.value
-    (g.W.World.state c.put_back.new.world) c.put_back.new.room c.in-Step.ensures.puts (g.met.W.EngineWorld.never_delays c.put_back.new.world) c.put_back.ensures.awaits
+    (g.W.World.state c.put_back.new.world) c.put_back.new.room c.in-Step.ensures.puts (g.met.W.EngineWorld.never_delays c.put_back.new.world)
+    c.put_back.ensures.awaits
 
 pub returns-in-Step-clause-takes : goal.returns-in-Step-clause-takes
 returns-in-Step-clause-takes g c =

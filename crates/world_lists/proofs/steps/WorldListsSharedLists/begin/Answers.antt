@@ -41,7 +41,8 @@ pub invariant_of-self-2 : goal.invariant_of-self-2
 invariant_of-self-2 g c =
     opened_kept c.args.session c.self.invariant c.self.view_is c.requires.joined c.in_ok-event_room.ensures.ok c.args.level c.in_ok-txn.ensures.number
     c.in_ok-txn.ensures.ok (of_ok c.add_begin.result c.unwrap.result c.unwrap.ensures c.add_begin.ensures.ok) c.requires.idle
-    (g.met.W.EngineWorld.never_delays c.self.inside.world).told (g.met.W.EngineWorld.never_delays c.event_room.new.self).told c.requires.may.1 c.is_short.ensures.few
+    (g.met.W.EngineWorld.never_delays c.self.inside.world).told (g.met.W.EngineWorld.never_delays c.event_room.new.self).told c.requires.may.1
+    c.is_short.ensures.few
 
 pub returns : goal.returns
 returns g c =

@@ -7,7 +7,8 @@ end_item-requires-clause-may g c = may_reply c.args.session c.self.invariant c.s
 pub invariant_of-self : goal.invariant_of-self
 invariant_of-self g c =
     ended_kept c.args.session c.self.invariant c.self.view_is c.requires.joined _ (desk_started c.args.session c.self.invariant c.self.view_is c.requires.joined
-    c.index.ensures) c.args.reply c.end_item.ensures c.requires.idle (g.met.W.EngineWorld.never_delays c.self.inside.world).told c.requires.may c.is_short.ensures.few
+    c.index.ensures) c.args.reply c.end_item.ensures c.requires.idle (g.met.W.EngineWorld.never_delays c.self.inside.world).told c.requires.may
+    c.is_short.ensures.few
 
 pub returns : goal.returns
 returns g c =

@@ -55,7 +55,8 @@ returns-in-NoMemory-clause-searches g c =
     λ table plan reading task. (
       refl,
       hindered_seen c.args.session c.self.invariant c.self.view_is c.in-Searching.ensures.was c.take_up.ensures.as_it_was
-          c.take_up.ensures.anew (g.met.W.EngineWorld.never_delays c.advance.new.world).told c.take_doing.ensures.is (waits_by c.in-Call.is c.in-Hindered.ensures)
+          c.take_up.ensures.anew (g.met.W.EngineWorld.never_delays c.advance.new.world).told c.take_doing.ensures.is
+          (waits_by c.in-Call.is c.in-Hindered.ensures)
           c.give_up.ensures
           (g.met.W.EngineWorld.never_delays c.give_up.new.world).told,
     )
