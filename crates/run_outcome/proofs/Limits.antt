@@ -8,7 +8,7 @@ use Rattle.run_outcome.specs.Generating.{script_fault, IsGenerateFault}
 pub refused_printed : (why : ScriptBad) (known : Option (List ℕ)) (text : List ℕ) → IsPrinted (script_fault why) known known text
 refused_printed (bad.Line line) known text = refl
 refused_printed (bad.Limit what found most) known text = refl
-refused_printed bad.NoMemory known text = inl refl
+refused_printed bad.NoMemory known text = refl
 
 pub refused : (why : ScriptBad) (limit : Option ScriptBad) → (limit ≡ Some why) ⊎ ((why ≡ bad.NoMemory) × (limit ≡ None))
     → IsGenerateFault limit (script_fault why)

@@ -31,7 +31,7 @@ told_printed failed sufficed NoMemory old new text is p = p
 told_printed true sufficed Nothing old new text is p = all_is_front old new text p
 told_printed true sufficed OutputWrite old new text is p = p
 told_printed false true Nothing old new text is p = p
-told_printed false false Nothing old new text is p = inr p
+told_printed false false Nothing old new text is p = p
 told_printed false sufficed OutputWrite old new text is p = p
 told_printed failed sufficed other old new text is p = absurd is
 

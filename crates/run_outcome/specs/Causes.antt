@@ -6,7 +6,7 @@ use Rattle.store_api.specs.declared.disk.Area.TheVariants.{Log, Double, Pages}
 use Rattle.store_api.specs.declared.answers.MountBad.{MountBad}
 use Rattle.store_api.specs.declared.answers.MountBad.TheVariants as mount
 use Rattle.run_outcome.specs.declared.outcome.Fault.{Fault}
-use Rattle.run_outcome.specs.declared.outcome.Fault.TheVariants.{Nothing, Usage, ScriptBad, ScriptRead, OutputWrite, DiskFault, File, Limit, NoMemory}
+use Rattle.run_outcome.specs.declared.outcome.Fault.TheVariants.{Nothing, Usage, ScriptBad, ScriptRead, OutputWrite, DiskFault, File, Limit, NoMemory, LackedMemory}
 
 -- ---- the script, and limits
 
@@ -68,3 +68,4 @@ cause_text file script DiskFault = disk_fault_text file
 cause_text file script (File bad) = file_text file bad
 cause_text file script (Limit what found most) = limit_text (whose what file script) what found most
 cause_text file script NoMemory = codes "not enough memory"
+cause_text file script LackedMemory = codes "not enough memory"

@@ -30,7 +30,7 @@ pub fn cause_line(
         Fault::Limit { what, found, most } => {
             limit_line(alloc, whose(what, file, script), what, found, most)
         }
-        Fault::NoMemory => String::from_str(alloc, "not enough memory"),
+        Fault::NoMemory | Fault::LackedMemory => String::from_str(alloc, "not enough memory"),
     }
 }
 

@@ -32,7 +32,10 @@ pub enum Fault {
     DiskFault,
     File(MountBad),
     Limit { what: u8, found: u64, most: u64 },
+    /// None was found for the script, for the files or for what was to be printed: nothing is printed.
     NoMemory,
+    /// None was found while the script was played. What its sessions were answered is printed.
+    LackedMemory,
 }
 
 impl Fault {
@@ -49,7 +52,7 @@ impl Fault {
             Fault::DiskFault => 5,
             Fault::File(_) => 6,
             Fault::Limit { .. } => 7,
-            Fault::NoMemory => 8,
+            Fault::NoMemory | Fault::LackedMemory => 8,
         }
     }
 }
@@ -222,7 +225,7 @@ fn told_fault(failed: bool, sufficed: bool, printed: Fault) -> Fault
     match printed {
         Fault::NoMemory => Fault::NoMemory,
         _ if failed => Fault::DiskFault,
-        Fault::Nothing if !sufficed => Fault::NoMemory,
+        Fault::Nothing if !sufficed => Fault::LackedMemory,
         other => other,
     }
 }

@@ -1,5 +1,5 @@
 -- What each fault says of the disk, the source and the sink, by where it came.
-use Rattle.std.proofs.Common.{◌≡◌, ℕ, false, Option, None, Some, List, [], ◌++◌, take, refl, sym, ap, subst, ◌∙◌, inl, inr}
+use Rattle.std.proofs.Common.{◌≡◌, ◌⊎◌, ℕ, Bool, true, false, Option, None, Some, List, [], ◌++◌, take, refl, sym, ap, subst, ◌∙◌, inl, inr}
 use Rattle.std.specs.Prelude.{IfSome, IfOk, Result, Ok, Err, is_err}
 use Rattle.store_api.specs.declared.answers.MountBad.{MountBad}
 use Rattle.store_api.specs.declared.answers.MountBad.TheVariants as refusals
@@ -14,11 +14,11 @@ use Rattle.file_zero.specs.Refused.{IsRefused}
 use Rattle.script.specs.Script.{Spells, IsScript}
 use Rattle.script.specs.declared.script.Script.{Script}
 use Rattle.run_outcome.specs.declared.outcome.Fault.{Fault}
-use Rattle.run_outcome.specs.declared.outcome.Fault.TheVariants.{Nothing, Usage, ScriptBad, ScriptRead, OutputWrite, DiskFault, File, Limit, NoMemory}
+use Rattle.run_outcome.specs.declared.outcome.Fault.TheVariants.{Nothing, Usage, ScriptBad, ScriptRead, OutputWrite, DiskFault, File, Limit, NoMemory, LackedMemory}
 use Rattle.run_outcome.specs.declared.reports.Report.TheVariants.{Transcript}
 use Rattle.run_outcome.specs.declared.words.Way.{Way}
-use Rattle.run_outcome.specs.Faults.{allowed, fault_of, IsInputFault, IsPrinted, Refuses}
-use Rattle.script_runner.specs.Run.{IsRecorded, Prints, HasCause, IsMountFault, IsMakeFault, IsMadeUp, IsBeforeDisk, Judges}
+use Rattle.run_outcome.specs.Faults.{allowed, fault_of, IsInputFault, IsPlayedFault, IsPrinted, Refuses}
+use Rattle.script_runner.specs.Run.{IsRecorded, Prints, HasCause, HasClosed, HasShown, IsMountFault, IsPlayFault, IsMakeFault, IsMadeUp, IsBeforeDisk, Judges}
 use Rattle.run_outcome.proofs.Telling.{all_is_front}
 
 -- ---- a history without entries
@@ -32,6 +32,7 @@ nothing_recorded disk disk' fault past none =
       set_up = tt;
       for_pages = refl;
       stopped = λ is. cc;
+      stop_told = λ is. cc;
       served = λ is. refl;
       replied = λ is. refl;
     })
@@ -49,7 +50,7 @@ pub nothing_printed : (fault : Fault) (known : Option (List ℕ)) (bytes : List 
 nothing_printed Nothing known bytes none = appends_none known bytes none
 nothing_printed OutputWrite known bytes none = all_is_front known known bytes (appends_none known bytes none)
 nothing_printed DiskFault known bytes none = all_is_front known known bytes (appends_none known bytes none)
-nothing_printed NoMemory known bytes none = inl refl
+nothing_printed LackedMemory known bytes none = appends_none known bytes none
 nothing_printed other known bytes none = refl
 
 pub nothing_prints : (fault : Fault) (known : Option (List ℕ)) (faults faults' : ℕ) (history : Recorded) → history.names ≡ []
@@ -67,6 +68,50 @@ mount_fault old new refusals.NoMemory p = tt
 mount_fault old new (refusals.TooLarge rows) p = (refl, refl, p)
 mount_fault old new other p = p
 
+-- and where sessions are to play
+pub play_fault : (old new : Past) (f : Fault) → IsMountFault old new f → IsPlayFault old new f
+play_fault old new LackedMemory is = tt
+play_fault old new other is = is
+
+-- what comes of a script that was played
+pub played_fault : (old new : Past) (f : Fault) → IsPlayedFault f → (f ≡ DiskFault → Rose old.faults new.faults) → IsPlayFault old new f
+played_fault old new Nothing is failed = tt
+played_fault old new OutputWrite is failed = tt
+played_fault old new NoMemory is failed = tt
+played_fault old new LackedMemory is failed = tt
+played_fault old new DiskFault is failed = failed refl
+played_fault old new other is failed = absurd is
+
+-- ---- an engine that was closed
+
+-- its disk has not failed
+pub closed_well : (failed : Bool) (f : Fault) → (failed ≡ true → (f ≡ DiskFault) ⊎ (f ≡ NoMemory)) → HasClosed f → failed ≡ false
+closed_well false f tells closed = refl
+closed_well true f tells closed = elim (tells refl) [
+  | inl is ↦ absurd (subst HasClosed is closed)
+  | inr is ↦ absurd (subst HasClosed is closed)
+]
+
+-- where none was mounted, none was closed
+pub refused_unclosed : (bad : MountBad) → HasClosed (fault_of bad) → ⊥
+refused_unclosed refusals.Disk closed = closed
+refused_unclosed refusals.NoMemory closed = closed
+refused_unclosed (refusals.TooLarge rows) closed = closed
+refused_unclosed other closed = closed
+
+pub input_unclosed : (f : Fault) → IsInputFault f → HasClosed f → ⊥
+input_unclosed Nothing is closed = is
+input_unclosed OutputWrite is closed = is
+input_unclosed LackedMemory is closed = is
+input_unclosed other is closed = closed
+
+-- nor was anything shown
+pub refused_unshown : (bad : MountBad) → HasShown (fault_of bad) → ⊥
+refused_unshown refusals.Disk shown = shown
+refused_unshown refusals.NoMemory shown = shown
+refused_unshown (refusals.TooLarge rows) shown = shown
+refused_unshown other shown = shown
+
 -- a refusal is a fault
 pub fault_told : (bad : MountBad) (f : Fault) → f ≡ fault_of bad → f ≡ Nothing → ⊥
 fault_told refusals.Disk f is none = (let e = sym is ∙ none in cc)
@@ -77,7 +122,7 @@ fault_told other f is none = (let e = sym is ∙ none in cc)
 -- nothing was printed of them
 pub refused_printed : (bad : MountBad) (known : Option (List ℕ)) (bytes : List ℕ) → IsPrinted (fault_of bad) known known bytes
 refused_printed refusals.Disk known bytes = record { count = 0; front = appends_none known (take 0 bytes) refl }
-refused_printed refusals.NoMemory known bytes = inl refl
+refused_printed refusals.NoMemory known bytes = refl
 refused_printed (refusals.TooLarge rows) known bytes = refl
 refused_printed other known bytes = refl
 
@@ -88,7 +133,7 @@ where_no_err (Err error) none p = cc
 
 -- ---- where the faults come from
 
-mount_met : (old new : Past) (f : Fault) → IsMountFault old new f → IsBeforeDisk f → ⊥
+mount_met : (old new : Past) (f : Fault) → IsPlayFault old new f → IsBeforeDisk f → ⊥
 mount_met old new Usage is before = is
 mount_met old new (ScriptBad line) is before = is
 mount_met old new ScriptRead is before = is
@@ -100,13 +145,13 @@ make_met old new (ScriptBad line) is before = is
 make_met old new ScriptRead is before = is
 make_met old new other is before = before
 
-pub mount_caused : {D : Type 0} (given left : D) (old new : Past) (source source' sink sink' : ℕ) (f : Fault) → IsMountFault old new f
+pub mount_caused : {D : Type 0} (given left : D) (old new : Past) (source source' sink sink' : ℕ) (f : Fault) → IsPlayFault old new f
     → (f ≡ OutputWrite → Rose sink sink') → HasCause given left old new source source' sink sink' f
 mount_caused given left old new source source' sink sink' f is wrote =
     record {
-      script_read = λ e. absurd (subst (IsMountFault old new) e is);
+      script_read = λ e. absurd (subst (IsPlayFault old new) e is);
       output_write = wrote;
-      disk_fault = λ e. subst (IsMountFault old new) e is;
+      disk_fault = λ e. subst (IsPlayFault old new) e is;
       before_disk = λ before. absurd (mount_met old new f is before);
     }
 
@@ -152,23 +197,26 @@ usage_caused given left old new source source' sink sink' f is same =
 
 -- ---- a script that was read
 
-pub not_usage : (old new : Past) (f : Fault) → IsMountFault old new f → f ≡ Usage → ⊥
-not_usage old new f is u = subst (IsMountFault old new) u is
+pub not_usage : (old new : Past) (f : Fault) → IsPlayFault old new f → f ≡ Usage → ⊥
+not_usage old new f is u = subst (IsPlayFault old new) u is
 
-pub not_read : (old new : Past) (f : Fault) → IsMountFault old new f → f ≡ ScriptRead → ⊥
-not_read old new f is u = subst (IsMountFault old new) u is
+pub not_read : (old new : Past) (f : Fault) → IsPlayFault old new f → f ≡ ScriptRead → ⊥
+not_read old new f is u = subst (IsPlayFault old new) u is
 
-pub mount_file : (old new : Past) (f : Fault) (bad : MountBad) → IsMountFault old new f → f ≡ File bad → IsRefused old new bad
-mount_file old new f bad is u = subst (IsMountFault old new) u is
+pub mount_file : (old new : Past) (f : Fault) (bad : MountBad) → IsPlayFault old new f → f ≡ File bad → IsRefused old new bad
+mount_file old new f bad is u = subst (IsPlayFault old new) u is
 
-judged_as : (way : Way) (old new : Past) (f : Fault) (bytes : List ℕ) → IsMountFault old new f → IsScript (allowed way) bytes → Judges way f bytes
+judged_as : (way : Way) (old new : Past) (f : Fault) (bytes : List ℕ) → IsPlayFault old new f → IsScript (allowed way) bytes → Judges way f bytes
 judged_as way old new Nothing bytes is script = script
 judged_as way old new OutputWrite bytes is script = script
+judged_as way old new DiskFault bytes is script = script
+judged_as way old new (File bad) bytes is script = script
+judged_as way old new LackedMemory bytes is script = script
 judged_as way old new (ScriptBad line) bytes is script = absurd is
 judged_as way old new (Limit what found most) bytes is script = inl is.0
 judged_as way old new other bytes is script = tt
 
-pub judged : (way : Way) (old new : Past) (f : Fault) (left : Option (List ℕ)) (script : Script) → IsMountFault old new f
+pub judged : (way : Way) (old new : Past) (f : Fault) (left : Option (List ℕ)) (script : Script) → IsPlayFault old new f
     → IfSome left (λ bytes. Spells (allowed way) bytes script) → IfSome left (Judges way f)
 judged way old new f None script is spells = tt
 judged way old new f (Some bytes) script is spells = judged_as way old new f bytes is (script, spells)

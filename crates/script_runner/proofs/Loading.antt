@@ -1,5 +1,5 @@
 -- What comes of a generated script: a limit of its own, or what comes of one that was read.
-use Rattle.std.proofs.Common.{◌≡◌, ℕ, ◌≤◌, Bool, true, false, if◌then◌else◌, Option, None, Some, List, [], refl, sym, ap, subst, inl, arith}
+use Rattle.std.proofs.Common.{◌≡◌, ℕ, ◌≤◌, Bool, true, false, if◌then◌else◌, Option, None, Some, List, [], refl, sym, ap, subst, arith}
 use Rattle.store_api.specs.Past.{Past}
 use Rattle.inno_model.specs.Recorded.{Recorded}
 use Rattle.inno_model.specs.Text.{items}
@@ -19,6 +19,7 @@ use Rattle.run_outcome.specs.Generating.{IsGenerateFault}
 use Rattle.run_outcome.specs.Reports.{totals_text}
 use Rattle.script_play.proofs.Places.{follows_nothing, nobody_named}
 use Rattle.script_runner.specs.Run.{Prints, PlaysScript, IsMountFault, IsMadeUp, IsLoadFault}
+use Rattle.script_runner.proofs.Causing.{play_fault}
 
 -- a limit of the script, and not of the rows in the files
 abbrev IsOfScript : Option ScriptBad → Type 0
@@ -58,14 +59,14 @@ mount_output old new NoMemory is = tt
 mount_output old new other is = absurd is
 
 pub load_refused : (limit : Option ScriptBad) (old new : Past) (f : Fault) → IsGenerateFault limit f → IsLoadFault limit old new f
-load_refused None old new f is = mount_output old new f is
+load_refused None old new f is = play_fault old new f (mount_output old new f is)
 load_refused (Some why) old new f is = is
 
 input_printed : (f : Fault) (known : Option (List ℕ)) (bytes : List ℕ) → IsInputFault f → IsPrinted f known known bytes
 input_printed (BadScript line) known bytes is = refl
 input_printed ScriptRead known bytes is = refl
 input_printed (Limit what found most) known bytes is = refl
-input_printed NoMemory known bytes is = inl refl
+input_printed NoMemory known bytes is = refl
 input_printed other known bytes is = absurd is
 
 pub load_unprinted : (asked : Asked) (f : Fault) (known : Option (List ℕ)) (faults faults' : ℕ) (history : Recorded) → IsInputFault f

@@ -16,7 +16,7 @@ use Rattle.run_outcome.specs.Reports.{totals_text}
 use Rattle.run_outcome.specs.Generating.{generated_text}
 use Rattle.run_outcome.specs.Faults.{IsPrinted}
 use Rattle.script_play.proofs.Places.{follows_nothing, nobody_named}
-use Rattle.script_runner.specs.Run.{Judges, script_of}
+use Rattle.script_runner.specs.Run.{Judges, HasClosed, HasShown, script_of}
 use Rattle.script_runner.specs.Commands.{DoesInit, DoesScript, DoesDump, DoesCheck, DoesGen, DoesLoad}
 use Rattle.script_runner.proofs.Untouched.{no_while}
 
@@ -46,7 +46,7 @@ pub unknown_script : (words : List (List ℕ)) (source : Option (List ℕ)) (rea
     → (IsCommand words → ⊥) → fault ≡ Usage → DoesScript words source reads reads writes writes disk disk fault status history
 unknown_script words source reads writes disk fault status history unknown is =
     record {
-      durable = λ good. absurd (told fault is good);
+      durable = λ closed. absurd (subst HasClosed is closed);
       played = λ good. absurd (told fault is good);
       judged = subst (λ (f : Fault). IfSome source (Judges (way_in words) f)) (sym is) (judged (way_in words) source);
       too_large = λ bytes rows most at script limit. (let both = sym is ∙ limit in cc);
@@ -56,12 +56,24 @@ unknown_script words source reads writes disk fault status history unknown is =
 pub unknown_dump : (words : List (List ℕ)) (taken : Option (List ℕ)) (disk : Past) (fault : Fault) (past : List Event) → (IsCommand words → ⊥)
     → fault ≡ Usage → past ≡ [] → DoesDump words taken taken disk disk fault past
 unknown_dump words taken disk fault past unknown is none =
-    record { dump = none; dumped = λ db files. printed fault taken (dump_of db) is; shown_fault = λ known. absurd (unknown known) }
+    record {
+      dump = none;
+      dumped = λ db files. printed fault taken (dump_of db) is;
+      held = λ shown. absurd (subst HasShown is shown);
+      shown_fault = λ known. absurd (unknown known);
+      quiet = λ failed. refl;
+    }
 
 pub unknown_check : (words : List (List ℕ)) (taken : Option (List ℕ)) (disk : Past) (fault : Fault) (past : List Event) → (IsCommand words → ⊥)
     → fault ≡ Usage → past ≡ [] → DoesCheck words taken taken disk disk fault past
 unknown_check words taken disk fault past unknown is none =
-    record { check = none; checked = λ db files. printed fault taken (counts_text db) is; shown_fault = λ known. absurd (unknown known) }
+    record {
+      check = none;
+      checked = λ db files. printed fault taken (counts_text db) is;
+      held = λ shown. absurd (subst HasShown is shown);
+      shown_fault = λ known. absurd (unknown known);
+      quiet = λ failed. refl;
+    }
 
 pub unknown_gen : {D S : Type 0} (words : List (List ℕ)) (given left : D) (source : S) (taken : Option (List ℕ)) (fault : Fault) (past : List Event)
     → (IsCommand words → ⊥) → fault ≡ Usage → past ≡ [] → left ≡ given → DoesGen words given left source source taken taken fault past
@@ -84,7 +96,7 @@ unknown_load words source taken writes disk fault history unknown is names past 
       load_named = nobody_named (script_of (asked_in 3 words)) history.names names;
       load_follows = follows_nothing (script_of (asked_in 3 words)).items history.past (λ s. ap (items s) past);
       load_played = λ good. absurd (told fault is good);
-      durable = λ good. absurd (told fault is good);
+      durable = λ closed. absurd (subst HasClosed is closed);
       load_fault = λ known. absurd (unknown known);
       load_source = refl;
     }

@@ -9,7 +9,9 @@ use Rattle.inno_model.specs.declared.event.Event.{Event}
 use Rattle.inno_model.specs.Recorded.{Recorded}
 use Rattle.law_crashes.specs.Files.{Files, IsAtRest}
 use Rattle.file_zero.specs.Making.{AreEmpty, AreNew, AreBeingMade, IsPageAlone}
-use Rattle.file_zero.specs.Refused.{HasTooMany}
+use Rattle.file_zero.specs.Looks.{Had}
+use Rattle.file_zero.specs.Reading.{HoldsDatabase}
+use Rattle.file_zero.specs.Refused.{HasTooMany, HasFewRows}
 use Rattle.durable_engine.specs.Whole.{HoldsAll}
 use Rattle.script.specs.Script.{IsScript}
 use Rattle.script_generator.specs.Dump.{text_of as dump_of}
@@ -23,7 +25,7 @@ use Rattle.run_outcome.specs.Reports.{IsReported, IsReportedWhole}
 use Rattle.run_outcome.specs.Generating.{generated_text, IsGenerateFault}
 use Rattle.run_outcome.specs.Faults.{allowed, IsPrinted}
 use Rattle.script_play.specs.Sessions.{AreNamed, FollowsScript, HasPlayed, HasAnswered}
-use Rattle.script_runner.specs.Run.{SparesFiles, IsMountFault, IsMakeFault, IsLoadFault, Judges, Plays, script_of}
+use Rattle.script_runner.specs.Run.{SparesFiles, HasClosed, HasShown, IsMountFault, IsMakeFault, IsLoadFault, Judges, Plays, script_of}
 
 -- `init FILE` makes the files of a database.
 pub record DoesInit (words : List (List ℕ)) (disk disk' : Past) (fault : Fault) (past : List Event) : Type 0 where
@@ -42,8 +44,8 @@ pub record DoesInit (words : List (List ℕ)) (disk disk' : Past) (fault : Fault
 -- the bytes of the script, and `reads` and `writes` count the failures of the source and of the sink.
 pub record DoesScript (words : List (List ℕ)) (source : Option (List ℕ)) (reads reads' writes writes' : ℕ) (disk disk' : Past) (fault : Fault)
     (status : ℕ) (history : Recorded) : Type 0 where
-  -- without a fault whatever a crash leaves from now on holds every commit
-  pub durable : fault ≡ Nothing → HoldsAll disk disk' history.past
+  -- where the engine was closed, whatever a crash leaves from now on holds every commit
+  pub durable : HasClosed fault → HoldsAll disk disk' history.past
   -- without a fault each session has started all items of the script, and each of them was answered
   pub played : fault ≡ Nothing → IfSome source (λ bytes. Plays (way_in words) bytes history.names history.past)
   -- bytes that are no script are refused for what is wrong with them, and no others are
@@ -61,8 +63,12 @@ pub record DoesDump (words : List (List ℕ)) (taken taken' : Option (List ℕ))
   pub dump : past ≡ []
   -- the text is that of the database that the files stand for
   pub dumped : (db : Database) → Files disk disk' db → IsPrinted fault taken taken' (dump_of db)
+  -- whatever the files are, it is that of a database that they held, of few enough rows
+  pub held : HasShown fault → (db : Database) × Had (HoldsDatabase db) disk disk' × HasFewRows db × IsPrinted fault taken taken' (dump_of db)
   -- it fails with the disk, the sink or memory, or at files that are refused
   pub shown_fault : IsCommand words → IsMountFault disk disk' fault
+  -- where the disk fails, nothing is printed
+  pub quiet : fault ≡ DiskFault → taken' ≡ taken
 
 -- `check FILE` prints what is counted in the database.
 pub record DoesCheck (words : List (List ℕ)) (taken taken' : Option (List ℕ)) (disk disk' : Past) (fault : Fault) (past : List Event) : Type 0 where
@@ -70,8 +76,12 @@ pub record DoesCheck (words : List (List ℕ)) (taken taken' : Option (List ℕ)
   pub check : past ≡ []
   -- the counts are those of the database that the files stand for
   pub checked : (db : Database) → Files disk disk' db → IsPrinted fault taken taken' (counts_text db)
+  -- whatever the files are, it is that of a database that they held, of few enough rows
+  pub held : HasShown fault → (db : Database) × Had (HoldsDatabase db) disk disk' × HasFewRows db × IsPrinted fault taken taken' (counts_text db)
   -- it fails with the disk, the sink or memory, or at files that are refused
   pub shown_fault : IsCommand words → IsMountFault disk disk' fault
+  -- where the disk fails, nothing is printed
+  pub quiet : fault ≡ DiskFault → taken' ≡ taken
 
 -- `gen NUMBER SESSIONS TXNS` prints a generated script.
 pub record DoesGen {D S : Type 0} (words : List (List ℕ)) (given left : D) (source source' : S) (taken taken' : Option (List ℕ)) (fault : Fault)
@@ -101,8 +111,8 @@ pub record DoesLoad {S : Type 0} (words : List (List ℕ)) (source source' : S) 
   -- without a fault each has started all of them, and each of them was answered
   pub load_played : fault ≡ Nothing
       → HasPlayed (script_of (asked_in 3 words)) history.names history.past × HasAnswered (script_of (asked_in 3 words)) history.past
-  -- without a fault whatever a crash leaves from now on holds every commit
-  pub durable : fault ≡ Nothing → HoldsAll disk disk' history.past
+  -- where the engine was closed, whatever a crash leaves from now on holds every commit
+  pub durable : HasClosed fault → HoldsAll disk disk' history.past
   -- it fails for the limit that such a script passes, or as a script that was read
   pub load_fault : IsCommand words → IsLoadFault (passed (asked_in 3 words).sessions (asked_in 3 words).transfers) disk disk' fault
   -- no source is met

@@ -11,8 +11,9 @@ use Rattle.sql_history.specs.Legal.{IsLegal}
 use Rattle.sql_history.specs.Serial.{IsSetUp}
 use Rattle.sql_history.specs.Counts.{has_stopped}
 use Rattle.session_engine.specs.Places.{HasExactPlaces}
-use Rattle.law_histories.specs.Space.{ends_for_pages}
-use Rattle.file_zero.specs.Making.{IsNotMade}
+use Rattle.law_histories.specs.Space.{ends_without_want}
+use Rattle.file_zero.specs.Looks.{Had}
+use Rattle.file_zero.specs.Making.{HasBytes, IsNotMade}
 use Rattle.file_zero.specs.Refused.{IsRefused as AreRefused, HasTooMany}
 use Rattle.law_crashes.specs.Files.{LeavesFiles}
 use Rattle.law_crashes.specs.Since.{KeepsSince}
@@ -20,6 +21,7 @@ use Rattle.script.specs.declared.script.Script.{Script}
 use Rattle.script.specs.Script.{Spells, IsScript}
 use Rattle.run_outcome.specs.declared.outcome.Fault.{Fault}
 use Rattle.run_outcome.specs.declared.outcome.Fault.TheVariants.{Nothing, Usage, ScriptBad as BadScript, ScriptRead, OutputWrite, DiskFault, File, Limit}
+use Rattle.run_outcome.specs.declared.outcome.Fault.TheVariants.{NoMemory, LackedMemory}
 use Rattle.run_outcome.specs.declared.reports.Report.{Report}
 use Rattle.run_outcome.specs.Reports.{IsReported, IsReportedWhole}
 use Rattle.script.specs.declared.script.ScriptBad.{ScriptBad}
@@ -41,10 +43,12 @@ pub record IsRecorded (disk disk' : Past) (fault : Fault) (past : List Event) : 
   pub exact : HasExactPlaces past
   -- the setup part has ended all its items when another session starts one
   pub set_up : IsSetUp past
-  -- no store keeps pages so far, so none was wanting
-  pub for_pages : list_any ends_for_pages past ≡ false
+  -- an item that ends for want of pages names fewer that are free than it needs
+  pub for_pages : list_any ends_without_want past ≡ false
   -- only a disk that has failed stops the engine
   pub stopped : has_stopped past ≡ true → Rose disk.faults disk'.faults
+  -- and such a stop is told, whatever became of the sink, unless there was no memory for the text
+  pub stop_told : has_stopped past ≡ true → (fault ≡ DiskFault) ⊎ (fault ≡ NoMemory)
   -- without a fault the engine has not stopped
   pub served : fault ≡ Nothing → has_stopped past ≡ false
   -- without a fault no session was answered NO MEMORY
@@ -72,6 +76,20 @@ SparesFiles (File bad) = ⊥
 SparesFiles (Limit what found most) = ⊥
 SparesFiles other = Unit {0}
 
+-- The sessions have played, and the engine was closed: all its commits are on the disk. The sink may have failed since, or a
+-- session may have been answered that memory was lacking.
+abbrev pub HasClosed : Fault → Type 0
+HasClosed Nothing = Unit {0}
+HasClosed OutputWrite = Unit {0}
+HasClosed LackedMemory = Unit {0}
+HasClosed other = ⊥
+
+-- What the files hold was shown, or a front of it.
+abbrev pub HasShown : Fault → Type 0
+HasShown Nothing = Unit {0}
+HasShown OutputWrite = Unit {0}
+HasShown other = ⊥
+
 -- What is printed is the history: nothing else is asked for.
 abbrev pub PrintsHistory : List (List ℕ) → Type 0
 PrintsHistory words = NoDump words × NoCheck words × NoGen words × NoLoad words
@@ -83,9 +101,14 @@ IsMountFault old new (File bad) = AreRefused old new bad
 IsMountFault old new (Limit what found most) = (what ≡ 5) × (most ≡ 1000000) × Now (HasTooMany found) new
 IsMountFault old new other = IsOutputFault other
 
--- what may come of making files
+-- the same where sessions play, which may lack memory
+abbrev pub IsPlayFault : Past → Past → Fault → Type 0
+IsPlayFault old new LackedMemory = Unit {0}
+IsPlayFault old new other = IsMountFault old new other
+
+-- What may come of making files. They are made where all three were empty, and nowhere else.
 abbrev pub IsMakeFault : Past → Past → Fault → Type 0
-IsMakeFault old new Nothing = Unit {0}
+IsMakeFault old new Nothing = Had (HasBytes 0) old new
 IsMakeFault old new DiskFault = Rose old.faults new.faults
 IsMakeFault old new (File bad) = IsNotMade old new bad
 IsMakeFault old new other = ⊥
@@ -95,11 +118,14 @@ abbrev pub IsMadeUp : Fault → Type 0
 IsMadeUp (Limit what found most) = what ≤ 2
 IsMadeUp other = IsOutputFault other
 
--- What a fault says of the bytes of the source. Where they weren't read, it says nothing. The fifth limit is that of the rows
--- in the files.
+-- What a fault says of the bytes of the source: a script comes first, before the files and what is printed. Where the bytes
+-- weren't read, and where memory was lacking, it says nothing. The fifth limit is that of the rows in the files.
 abbrev pub Judges : Way → Fault → List ℕ → Type 0
 Judges way Nothing bytes = IsScript (allowed way) bytes
 Judges way OutputWrite bytes = IsScript (allowed way) bytes
+Judges way DiskFault bytes = IsScript (allowed way) bytes
+Judges way (File bad) bytes = IsScript (allowed way) bytes
+Judges way LackedMemory bytes = IsScript (allowed way) bytes
 Judges way (Limit what found most) bytes = (what ≡ 5) ⊎ Refuses way (Limit what found most) bytes
 Judges way other bytes = Refuses way other bytes
 
@@ -118,7 +144,7 @@ script_of asked = generated asked.number asked.sessions asked.transfers
 
 -- A generated script that passes a limit is refused for that before the disk is met. Any other runs as one that was read.
 abbrev pub IsLoadFault : Option ScriptBad → Past → Past → Fault → Type 0
-IsLoadFault None old new fault = IsMountFault old new fault
+IsLoadFault None old new fault = IsPlayFault old new fault
 IsLoadFault (Some why) old new fault = fault ≡ script_fault why
 
 -- What a crash leaves of the files at any moment of a call, whose history this is. Where no engine was mounted, it stands for

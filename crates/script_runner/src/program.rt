@@ -7,7 +7,9 @@ ghost use Rattle.store_api.specs.Past.{Now, Meanwhile};
 ghost use Rattle.inno_db.specs.Database.{Database};
 ghost use Rattle.law_crashes.specs.Files.{Files, LeavesFiles, IsAtRest};
 ghost use Rattle.file_zero.specs.Making.{AreEmpty, AreNew, AreBeingMade, IsPageAlone};
-ghost use Rattle.file_zero.specs.Refused.{HasTooMany};
+ghost use Rattle.file_zero.specs.Looks.{Had};
+ghost use Rattle.file_zero.specs.Reading.{HoldsDatabase};
+ghost use Rattle.file_zero.specs.Refused.{HasTooMany, HasFewRows};
 ghost use Rattle.durable_engine.specs.Whole.{HoldsAll};
 ghost use Rattle.script.specs.Script.{IsScript, IsPlayable};
 ghost use Rattle.script_generator.specs.Generated.{passed};
@@ -18,7 +20,8 @@ ghost use Rattle.run_outcome.specs.Generating.{generated_text, IsGenerateFault};
 ghost use Rattle.run_outcome.specs.Faults.{allowed, fault_of, IsPlayedFault, IsPrinted};
 ghost use Rattle.engine.specs.Opened.{IsOpened};
 ghost use Rattle.script_runner.specs.Run.{IsRecorded, Prints, PrintsHistory, PlaysScript, KeepsDatabase, KeepsFiles, HasCause, script_of};
-ghost use Rattle.script_runner.specs.Run.{IsBeforeDisk, SparesFiles, Judges, Follows, Plays, IsMountFault, IsMakeFault, IsMadeUp, IsLoadFault};
+ghost use Rattle.script_runner.specs.Run.{IsBeforeDisk, SparesFiles, HasClosed, HasShown, Judges, Follows, Plays, IsMountFault, IsPlayFault};
+ghost use Rattle.script_runner.specs.Run.{IsMakeFault, IsMadeUp, IsLoadFault};
 ghost use Rattle.script_runner.specs.Commands.{DoesInit, DoesScript, DoesDump, DoesCheck, DoesGen, DoesLoad, DoesNothing};
 
 use crate::ways::play_script;
@@ -129,7 +132,7 @@ where
     ensures recorded { IsRecorded (D.past disk) (D.past result.disk) result.fault result.history.past }
     ensures prints { Prints Report.Transcript result.fault (K.taken out.old) (K.taken out.new) (K.faults out.old) (K.faults out.new) result.history }
     ensures keeps { KeepsDatabase (D.past disk) (D.past result.disk) result.fault result.history.past }
-    ensures durable { result.fault ≡ Fault.Nothing → HoldsAll (D.past disk) (D.past result.disk) result.history.past }
+    ensures durable { HasClosed result.fault → HoldsAll (D.past disk) (D.past result.disk) result.history.past }
     ensures follows { IfSome (S.left script.old) (λ bytes. Follows way bytes result.history.names result.history.past) }
     ensures played { result.fault ≡ Fault.Nothing
         → IfSome (S.left script.old) (λ bytes. Plays way bytes result.history.names result.history.past) }
@@ -171,7 +174,7 @@ where
     ensures recorded { IsRecorded (D.past disk) (D.past result.disk) result.fault result.history.past }
     ensures prints { Prints (Report.Totals asked) result.fault (K.taken out.old) (K.taken out.new) (K.faults out.old) (K.faults out.new) result.history }
     ensures keeps { KeepsDatabase (D.past disk) (D.past result.disk) result.fault result.history.past }
-    ensures durable { result.fault ≡ Fault.Nothing → HoldsAll (D.past disk) (D.past result.disk) result.history.past }
+    ensures durable { HasClosed result.fault → HoldsAll (D.past disk) (D.past result.disk) result.history.past }
     ensures plays { PlaysScript (script_of asked) result.fault result.history }
     ensures usage { result.fault ≡ Fault.Usage → ⊥ }
     ensures script_read { result.fault ≡ Fault.ScriptRead → ⊥ }
@@ -239,6 +242,8 @@ fn show<D: Disk, K: Sink>(alloc: Global, disk: D, shown: Shown, out: &mut K) -> 
     ensures empty { result.history.past ≡ [] }
     ensures printed { (db : Database) → Files (D.past disk) (D.past result.disk) db
         → IsPrinted result.fault (K.taken out.old) (K.taken out.new) (shown_text shown db) }
+    ensures held { HasShown result.fault → (db : Database) × Had (HoldsDatabase db) (D.past disk) (D.past result.disk) × HasFewRows db
+        × IsPrinted result.fault (K.taken out.old) (K.taken out.new) (shown_text shown db) }
     ensures quiet { result.fault ≡ Fault.DiskFault → K.taken out.new ≡ K.taken out.old }
     ensures crash { LeavesFiles (D.past disk) (D.past result.disk) }
     ensures output_write { result.fault ≡ Fault.OutputWrite → Rose (K.faults out.old) (K.faults out.new) }
@@ -280,10 +285,10 @@ where
     ensures recorded { IsRecorded (D.past disk) (D.past result.disk) result.fault result.history.past }
     ensures prints { Prints report result.fault (K.taken out.old) (K.taken out.new) (K.faults out.old) (K.faults out.new) result.history }
     ensures crash { KeepsFiles (D.past disk) (D.past result.disk) result.history.past }
-    ensures durable { result.fault ≡ Fault.Nothing → HoldsAll (D.past disk) (D.past result.disk) result.history.past }
+    ensures durable { HasClosed result.fault → HoldsAll (D.past disk) (D.past result.disk) result.history.past }
     ensures plays { PlaysScript script.now result.fault result.history }
     ensures output_write { result.fault ≡ Fault.OutputWrite → Rose (K.faults out.old) (K.faults out.new) }
-    ensures causes { IsMountFault (D.past disk) (D.past result.disk) result.fault }
+    ensures causes { IsPlayFault (D.past disk) (D.past result.disk) result.fault }
 {
     match mount::<D, B>(alloc, disk) {
         Ok(engine) => play_on(rt, alloc, engine, script, out, clock, gate, way, report),
@@ -316,7 +321,7 @@ where
     ensures recorded { IsRecorded B.root (D.past result.disk) result.fault result.history.past }
     ensures prints { Prints report result.fault (K.taken out.old) (K.taken out.new) (K.faults out.old) (K.faults out.new) result.history }
     ensures crash { KeepsFiles B.root (D.past result.disk) result.history.past }
-    ensures durable { result.fault ≡ Fault.Nothing → HoldsAll B.root (D.past result.disk) result.history.past }
+    ensures durable { HasClosed result.fault → HoldsAll B.root (D.past result.disk) result.history.past }
     ensures plays { PlaysScript script.now result.fault result.history }
     ensures output_write { result.fault ≡ Fault.OutputWrite → Rose (K.faults out.old) (K.faults out.new) }
     ensures disk_fault { result.fault ≡ Fault.DiskFault → Rose B.root.faults (D.past result.disk).faults }

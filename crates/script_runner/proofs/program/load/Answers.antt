@@ -2,8 +2,8 @@ use Rattle.std.proofs.Common.{sym, subst, ◌∙◌, Option}
 use Rattle.script.specs.declared.script.Script.{Script}
 use Rattle.script.specs.declared.script.ScriptBad.{ScriptBad}
 use Rattle.run_outcome.specs.Faults.{IsInputFault}
-use Rattle.script_runner.specs.Run.{PlaysScript, IsLoadFault, script_of}
-use Rattle.script_runner.proofs.Causing.{nothing_recorded, mount_file, not_usage, not_read, input_not_usage}
+use Rattle.script_runner.specs.Run.{PlaysScript, HasClosed, IsLoadFault, script_of}
+use Rattle.script_runner.proofs.Causing.{nothing_recorded, mount_file, not_usage, not_read, input_not_usage, input_unclosed}
 use Rattle.script_runner.proofs.Loading.{made_up, made_not_read, load_refused, load_unprinted, load_unplayed}
 use Rattle.script_runner.proofs.program.load.Goals as goal
 
@@ -68,3 +68,7 @@ returns-in-Err-clause-plays g c =
     rw c.untouched.ensures.fault
     (load_unplayed (script_of c.args.asked) c.in-Err.fault c.untouched.result.history c.in-Err.ensures.kind c.untouched.ensures.names
     c.untouched.ensures.past)
+
+pub returns-in-Err-clause-durable : goal.returns-in-Err-clause-durable
+returns-in-Err-clause-durable g c = λ closed.
+    absurd (input_unclosed c.in-Err.fault c.in-Err.ensures.kind (subst HasClosed c.untouched.ensures.fault closed))

@@ -2,7 +2,8 @@ use Rattle.std.proofs.Common.{sym, ap, subst, ◌∙◌}
 use Rattle.inno_model.specs.Text.{items}
 use Rattle.script_runner.proofs.Following.{nothing_follows, spelled_follows, spelled_plays}
 use Rattle.script_runner.proofs.Causing.{nothing_recorded, nothing_prints, mount_caused, input_caused, mount_file}
-use Rattle.script_runner.proofs.Causing.{not_usage, input_not_usage, judged, judged_refused, no_limit}
+use Rattle.script_runner.proofs.Causing.{not_usage, input_not_usage, input_unclosed, judged, judged_refused, no_limit}
+use Rattle.script_runner.specs.Run.{HasClosed}
 use Rattle.run_outcome.specs.Faults.{IsInputFault}
 use Rattle.std.specs.Prelude.{Err}
 use Rattle.script_runner.proofs.program.play_source.Goals as goal
@@ -84,3 +85,7 @@ returns-in-Err-clause-caused g c =
     (g.S.Source.faults c.args.script.now) (g.S.Source.faults c.read_input.new.source) (g.K.Sink.faults c.args.out.now)
     (g.K.Sink.faults c.args.out.now) c.in-Err.fault c.in-Err.ensures.causes (λ is. c.read_input.ensures.read (c.in-Err.is ∙ ap Err is))
     c.untouched.ensures.disk)
+
+pub returns-in-Err-clause-durable : goal.returns-in-Err-clause-durable
+returns-in-Err-clause-durable g c = λ closed.
+    absurd (input_unclosed c.in-Err.fault c.in-Err.ensures.causes (subst HasClosed c.untouched.ensures.fault closed))

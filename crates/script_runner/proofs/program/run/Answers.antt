@@ -13,7 +13,7 @@ use Rattle.script_generator.specs.Generated.{passed}
 use Rattle.script_play.specs.Sessions.{AreNamed, FollowsScript, HasPlayed, HasAnswered}
 use Rattle.script_runner.specs.Run.{Follows, Plays, Judges, IsMadeUp, IsLoadFault, script_of}
 use Rattle.script_runner.proofs.Following.{nothing_follows}
-use Rattle.script_runner.proofs.Causing.{nothing_recorded, nothing_prints, mount_caused, make_caused, made_up_caused, usage_caused, mount_file}
+use Rattle.script_runner.proofs.Causing.{nothing_recorded, nothing_prints, mount_caused, make_caused, made_up_caused, usage_caused, mount_file, play_fault}
 use Rattle.script_runner.proofs.Unknown.{unknown_init, unknown_script, unknown_dump, unknown_check, unknown_gen, unknown_load}
 use Rattle.script_runner.proofs.program.run.Goals as goal
 
@@ -101,7 +101,8 @@ pub returns-in-Dump-clause-keeps : goal.returns-in-Dump-clause-keeps
 returns-in-Dump-clause-keeps g c = λ keeps.
     record {
       crash = rw c.show.ensures.empty c.show.ensures.crash;
-      refused = λ bad. mount_file (g.D.Disk.past c.args.disk) (g.D.Disk.past c.show.result.disk) c.show.result.fault bad c.show.ensures.causes;
+      refused = λ bad. mount_file (g.D.Disk.past c.args.disk) (g.D.Disk.past c.show.result.disk) c.show.result.fault bad
+          (play_fault (g.D.Disk.past c.args.disk) (g.D.Disk.past c.show.result.disk) c.show.result.fault c.show.ensures.causes);
     }
 
 pub returns-in-Check-clause-keeps : goal.returns-in-Check-clause-keeps
@@ -109,7 +110,7 @@ returns-in-Check-clause-keeps g c = λ keeps.
     record {
       crash = rw c.show-in-Check.ensures.empty c.show-in-Check.ensures.crash;
       refused = λ bad. mount_file (g.D.Disk.past c.args.disk) (g.D.Disk.past c.show-in-Check.result.disk) c.show-in-Check.result.fault bad
-          c.show-in-Check.ensures.causes;
+          (play_fault (g.D.Disk.past c.args.disk) (g.D.Disk.past c.show-in-Check.result.disk) c.show-in-Check.result.fault c.show-in-Check.ensures.causes);
     }
 
 pub returns-in-Gen-clause-keeps : goal.returns-in-Gen-clause-keeps
@@ -145,14 +146,15 @@ returns-in-Dump-clause-caused g c =
     mount_caused c.args.disk c.show.result.disk (g.D.Disk.past c.args.disk) (g.D.Disk.past c.show.result.disk) (g.S.Source.faults c.args.script.now)
     (g.S.Source.faults c.args.script.now)
     (g.K.Sink.faults c.args.out.now) (g.K.Sink.faults c.show.new.out) c.show.result.fault
-    c.show.ensures.causes c.show.ensures.output_write
+    (play_fault (g.D.Disk.past c.args.disk) (g.D.Disk.past c.show.result.disk) c.show.result.fault c.show.ensures.causes) c.show.ensures.output_write
 
 pub returns-in-Check-clause-caused : goal.returns-in-Check-clause-caused
 returns-in-Check-clause-caused g c =
     mount_caused c.args.disk c.show-in-Check.result.disk (g.D.Disk.past c.args.disk) (g.D.Disk.past c.show-in-Check.result.disk)
     (g.S.Source.faults c.args.script.now) (g.S.Source.faults c.args.script.now)
     (g.K.Sink.faults c.args.out.now) (g.K.Sink.faults c.show-in-Check.new.out) c.show-in-Check.result.fault
-    c.show-in-Check.ensures.causes c.show-in-Check.ensures.output_write
+    (play_fault (g.D.Disk.past c.args.disk) (g.D.Disk.past c.show-in-Check.result.disk) c.show-in-Check.result.fault c.show-in-Check.ensures.causes)
+    c.show-in-Check.ensures.output_write
 
 pub returns-in-Gen-clause-caused : goal.returns-in-Gen-clause-caused
 returns-in-Gen-clause-caused g c =
@@ -222,12 +224,14 @@ returns-in-Init-clause-init g c = λ is.
     record { init = made.empty; init_fault = λ known. made.causes; init_crash = made.crash; made = made.made; new = made.new }
 
 pub returns-in-Dump-clause-dump : goal.returns-in-Dump-clause-dump
-returns-in-Dump-clause-dump g c = λ is. record { dump = c.show.ensures.empty; dumped = c.show.ensures.printed; shown_fault = λ known. c.show.ensures.causes }
+returns-in-Dump-clause-dump g c = λ is.
+    let shown = c.show.ensures in
+    record { dump = shown.empty; dumped = shown.printed; held = shown.held; shown_fault = λ known. shown.causes; quiet = shown.quiet }
 
 pub returns-in-Check-clause-check : goal.returns-in-Check-clause-check
 returns-in-Check-clause-check g c = λ is.
     let shown = c.show-in-Check.ensures in
-    record { check = shown.empty; checked = shown.printed; shown_fault = λ known. shown.causes }
+    record { check = shown.empty; checked = shown.printed; held = shown.held; shown_fault = λ known. shown.causes; quiet = shown.quiet }
 
 pub returns-in-Gen-clause-generate : goal.returns-in-Gen-clause-generate
 returns-in-Gen-clause-generate g c = λ is.

@@ -1,7 +1,8 @@
-use Rattle.std.proofs.Common.{sym, subst}
+use Rattle.std.proofs.Common.{sym, subst, ◌∙◌}
 use Rattle.store_api.specs.Past.{Past}
-use Rattle.script_runner.specs.Run.{IsRecorded}
-use Rattle.script_runner.proofs.Causing.{nothing_recorded, mount_fault}
+use Rattle.script_runner.specs.Run.{IsRecorded, HasClosed, IsPlayFault}
+use Rattle.run_outcome.specs.Faults.{fault_of}
+use Rattle.script_runner.proofs.Causing.{nothing_recorded, mount_fault, play_fault, played_fault, refused_unclosed}
 use Rattle.script_runner.proofs.Reporting.{refused_prints, refused_plays}
 use Rattle.script_runner.proofs.program.serve.Goals as goal
 
@@ -32,4 +33,15 @@ pub returns-in-Err-clause-causes : goal.returns-in-Err-clause-causes
 returns-in-Err-clause-causes g c =
     rw c.without_engine.ensures.fault
     (rw c.without_engine.ensures.disk
-    (rw c.fault_of.ensures (mount_fault (g.D.Disk.past c.args.disk) (g.D.Disk.past c.in-Err.disk) c.in-Err.bad c.in-Err.ensures.refused)))
+    (rw c.fault_of.ensures
+    (play_fault (g.D.Disk.past c.args.disk) (g.D.Disk.past c.in-Err.disk) (fault_of c.in-Err.bad)
+    (mount_fault (g.D.Disk.past c.args.disk) (g.D.Disk.past c.in-Err.disk) c.in-Err.bad c.in-Err.ensures.refused))))
+
+pub returns-in-Ok-clause-causes : goal.returns-in-Ok-clause-causes
+returns-in-Ok-clause-causes g c =
+    subst (λ (root : Past). IsPlayFault root (g.D.Disk.past c.play_on.result.disk) c.play_on.result.fault) (sym c.requires.root)
+    (played_fault g.B.Root.root (g.D.Disk.past c.play_on.result.disk) c.play_on.result.fault c.play_on.ensures.causes c.play_on.ensures.disk_fault)
+
+pub returns-in-Err-clause-durable : goal.returns-in-Err-clause-durable
+returns-in-Err-clause-durable g c = λ closed.
+    absurd (refused_unclosed c.in-Err.bad (subst HasClosed (c.without_engine.ensures.fault ∙ c.fault_of.ensures) closed))

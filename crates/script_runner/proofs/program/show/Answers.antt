@@ -1,9 +1,10 @@
-use Rattle.std.proofs.Common.{ap, sym, subst}
+use Rattle.std.proofs.Common.{ap, sym, subst, ◌∙◌}
 use Rattle.inno_db.specs.Database.{Database}
 use Rattle.law_crashes.specs.Files.{Files}
 use Rattle.run_outcome.specs.Shown.{shown_text}
 use Rattle.run_outcome.specs.Faults.{IsPrinted}
-use Rattle.script_runner.proofs.Causing.{mount_fault, refused_printed}
+use Rattle.script_runner.specs.Run.{HasShown}
+use Rattle.script_runner.proofs.Causing.{mount_fault, refused_printed, refused_unshown}
 use Rattle.script_runner.proofs.program.show.Goals as goal
 
 pub returns-in-Ok-clause-printed : goal.returns-in-Ok-clause-printed
@@ -23,3 +24,15 @@ returns-in-Err-clause-causes g c =
     rw c.without_engine-in-Err.ensures.fault
     (rw c.without_engine-in-Err.ensures.disk
     (rw c.fault_of.ensures (mount_fault (g.D.Disk.past c.args.disk) (g.D.Disk.past c.mount.new.disk) c.in-Err.bad c.in-Err.ensures.refused)))
+
+pub returns-in-Ok-clause-held : goal.returns-in-Ok-clause-held
+returns-in-Ok-clause-held g c = λ shown. (
+  c.in-Ok.files.db,
+  rw c.without_engine.ensures.disk c.in-Ok.ensures.held,
+  c.in-Ok.ensures.few,
+  rw c.without_engine.ensures.fault c.print_shown-fault.ensures.printed,
+)
+
+pub returns-in-Err-clause-held : goal.returns-in-Err-clause-held
+returns-in-Err-clause-held g c = λ shown.
+    absurd (refused_unshown c.in-Err.bad (subst HasShown (c.without_engine-in-Err.ensures.fault ∙ c.fault_of.ensures) shown))
