@@ -2,6 +2,7 @@
 //! Tests alone open sessions in memory here, without a disk and a log.
 
 ghost use Rattle.std.specs.Prelude.{◌≡◌, ◌<◌, ◌∷◌, [], ℕ, All, IfOk, IfErr};
+ghost use Rattle.inno_db.specs.Database.{Database};
 ghost use Rattle.inno_db.specs.Keyed.{IsKeyed};
 ghost use Rattle.inno_model.specs.declared.event.Event.TheVariants.{Opened};
 ghost use Rattle.store_api.specs.Past.{Past};
@@ -9,6 +10,8 @@ ghost use Rattle.shared_lists.specs.Tasks.{Idle as TaskIdle};
 ghost use Rattle.shared_lists.specs.State.{task_of};
 ghost use Rattle.law_crashes.specs.Files.{LeavesFiles};
 ghost use Rattle.law_crashes.specs.Since.{IsMounted};
+ghost use Rattle.file_zero.specs.Looks.{Had};
+ghost use Rattle.file_zero.specs.Reading.{HoldsDatabase};
 ghost use Rattle.file_zero.specs.Refused.{IsRefused, HasFewRows};
 ghost use Rattle.commit_log.specs.Room.{IsLoggable};
 ghost use Rattle.commit_log.specs.View.{IsLogging};
@@ -40,6 +43,10 @@ pub type Sessions = SessionEngine<WorldLists<ListWorld>>;
 pub fn mount<D: Disk, R: Root>(alloc: Global, disk: D) -> Result<Engine<D, R>, (D, MountBad)>
     requires root { D.past disk ≡ R.root }
     ensures ok { IfOk result IsOpened }
+    // The files held the database that it opens on: page 0 is a header of version 0, and the log's groups make it. Its rows are not
+    // too many, and each stands at its key.
+    ensures held { IfOk result (λ e. (db : Database) × (e.past ≡ Opened db ∷ []) × Had (HoldsDatabase db) (D.past disk) (D.past e.disk)
+        × HasFewRows db × IsKeyed db) }
     ensures refused { IfErr result (λ e. IsRefused (D.past disk) (D.past e.0) e.1) }
     ensures crash { IfErr result (λ e. LeavesFiles (D.past disk) (D.past e.0)) }
 {

@@ -9,3 +9,12 @@ returns-in-Ok-parts_over-clause-ok g c =
       db = c.in-Ok.mounted.db;
       past = c.new.ensures.past ∙ c.in-Ok-parts_over.ensures.first.past;
     }
+
+pub returns-in-Ok-parts_over-clause-held : goal.returns-in-Ok-parts_over-clause-held
+returns-in-Ok-parts_over-clause-held g c = (
+  c.in-Ok.mounted.db,
+  c.new.ensures.past ∙ c.in-Ok-parts_over.ensures.first.past,
+  rw c.new.ensures.disk c.in-Ok.ensures.held,
+  c.in-Ok.ensures.few,
+  c.in-Ok.ensures.keyed,
+)
