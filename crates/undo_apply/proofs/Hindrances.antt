@@ -1,4 +1,4 @@
--- Nothing hinders a step of a taking back over a store at hand where nobody is awaited.
+-- Nothing hinders a step of a taking back over a store at hand where nobody else is awaited.
 use Rattle.std.proofs.Common.{◌≡◌, ◌⊎◌, inl, inr, ⊎_elim, ℕ, Some, refl}
 use Rattle.store_api.specs.{declared.answers.Undo.Undo, declared.moves.Move.Move}
 use Rattle.store_api.specs.declared.moves.Move.TheVariants.{Done, Step, Latch, Again, Failed, Bad}
@@ -8,7 +8,7 @@ use Rattle.row_versions.specs.{declared.place.Place.Place, Chains.Chains}
 use Rattle.law_stored_rows.specs.{Edits.clustered_index, Edits.key_index, Tables.Said}
 use Rattle.world.specs.{State.WorldState, AtHand.IsAtHand}
 use Rattle.world.proofs.AtHand.{index_not_delayed, never_unseen}
-use Rattle.row_changes.specs.Awaited.{AwaitsNobody}
+use Rattle.undo_apply.specs.Removal.{IsAwaitedAlone}
 use Rattle.undo_apply.specs.{declared.work_room.WorkRoom.WorkRoom, declared.work_room.Stage.Stage}
 use Rattle.undo_apply.specs.declared.work_room.Stage.TheVariants.{Walk, Remove, Record}
 use Rattle.undo_apply.specs.Stages.{PutsBack, Stops, StopsWalk, StopsRemoval, StopsAt, index_at}
@@ -28,16 +28,16 @@ module _ (actor index : ℕ) (old new : WorldState) (was : IsAtHand old) (is : I
   never_stops (Bad page rule) h = never_delays (Bad page rule) h
   never_stops other h = h was.told
 
-module _ (actor : ℕ) (old new : WorldState) (was : IsAtHand old) (is : IsAtHand new) (nobody : AwaitsNobody old) where
+module _ (actor : ℕ) (old new : WorldState) (was : IsAtHand old) (is : IsAtHand new) (alone : IsAwaitedAlone actor old) where
   never_stops_call : (index : ℕ) (why : Move) → Stops actor index old new why → ⊥
-  never_stops_call index = never_stops actor index old new was is (λ by awaited. absurd (nobody index by awaited))
+  never_stops_call index = never_stops actor index old new was is (alone index)
 
   -- who is awaited amid a removal is its actor
   never_stops_removal : (index : ℕ) (why : Move) → StopsRemoval actor index old new why → ⊥
   never_stops_removal index why (inl first) = never_stops_call index why first
   never_stops_removal index why (inr second) =
       never_stops actor index second.mid second.after second.at_hand.0 second.at_hand.1
-      (λ by awaited. ⊎_elim (λ at. absurd (nobody index by at)) (λ mine. mine) (second.reached.awaited by awaited)) why second.cause
+      (λ by awaited. ⊎_elim (λ at. alone index by at) (λ mine. mine) (second.reached.awaited by awaited)) why second.cause
 
   never_stops_walk : (why : Move) → StopsWalk old new why → ⊥
   never_stops_walk Failed h = never_unseen old.versions new.versions was.versions is.versions visit.Failed h

@@ -19,3 +19,7 @@ pub record HasNext (actor index : ℕ) (start mid : WorldState) : Type 0 where
   pub stays : RowsStay start mid
   pub reached : IsReached actor (start.indexes index) (mid.indexes index)
   pub elsewhere : (other by : ℕ) → other ≢ index → (mid.indexes other).awaited ≡ Some by → (start.indexes other).awaited ≡ Some by
+
+-- nobody but this actor is awaited anywhere
+abbrev pub IsAwaitedAlone : ℕ → WorldState → Type 0
+IsAwaitedAlone actor state = (index by : ℕ) → (state.indexes index).awaited ≡ Some by → by ≡ actor

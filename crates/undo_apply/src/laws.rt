@@ -12,7 +12,7 @@ ghost use Rattle.world.specs.State.{WorldState};
 ghost use Rattle.undo_apply.specs.declared.work_room.WorkRoom.{WorkRoom};
 ghost use Rattle.world.specs.Told.{LeavesRows};
 ghost use Rattle.world.specs.AtHand.{IsAtHand};
-ghost use Rattle.row_changes.specs.Awaited.{AwaitsNobody};
+ghost use Rattle.undo_apply.specs.Removal.{IsAwaitedAlone};
 ghost use Rattle.undo_apply.specs.Stages.{IsPuttingBack, PutsBack};
 
 /// Steps of others that change no row may come between.
@@ -21,10 +21,10 @@ pub fn others_leave_it()
         → IsPuttingBack chains beside place undo room old → LeavesRows old new → IsPuttingBack chains beside place undo room new }
 {}
 
-/// Over a store at hand a taking back needs neither memory nor pages more, and where nobody is awaited nothing hinders it: each step is
-/// made.
+/// Over a store at hand a taking back needs neither memory nor pages more, and where nobody else is awaited nothing hinders it:
+/// each step is made.
 pub fn nothing_hinders_at_hand()
     ensures { (chains : Chains) (beside : Said) (place : Place) (actor : ℕ) (undo : Undo) (room next : WorkRoom) (old new : WorldState) (answer : Move)
-        → IsAtHand old → IsAtHand new → AwaitsNobody old → PutsBack chains beside place actor undo room next old new answer
+        → IsAtHand old → IsAtHand new → IsAwaitedAlone actor old → PutsBack chains beside place actor undo room next old new answer
         → (answer ≡ Done) ⊎ (answer ≡ Step) }
 {}
