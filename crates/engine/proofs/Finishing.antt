@@ -11,7 +11,8 @@ use Rattle.law_past_agreement.specs.Agreement.{IsOpenedWith}
 use Rattle.world.specs.State.{WorldState}
 use Rattle.world.specs.Told.{IsTold}
 use Rattle.world.specs.EngineCalls.{with_opening}
-use Rattle.engine.specs.Laid.{version_of, IsLaid, IsFreshOf, AwaitsNobody}
+use Rattle.engine.specs.Laid.{version_of, IsLaid, IsFreshOf}
+use Rattle.row_changes.specs.Awaited.{AwaitsNobody}
 
 opened_with : (row : Option (List Value)) → IsOpenedWith row (version_of row)
 opened_with None = record { older = tt; row_is = refl }

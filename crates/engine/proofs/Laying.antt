@@ -21,13 +21,13 @@ use Rattle.law_stored_rows.specs.Tables.{HasNoPairs, AreCoded, AreCodedAs, what_
 use Rattle.world.specs.{State.WorldState, Told.IsTold, Told.pairs_in, Told.pairs_of, EngineCalls.IsNew, EngineCalls.LaysTable}
 use Rattle.inno_db.specs.Indexes.{index_of}
 use Rattle.row_changes.specs.declared.row_edit.RowEdit.TheVariants as edits
-use Rattle.row_changes.specs.{Edits.IsKeyAt, Keys.IsChangingKeys, Awaited.IsOfTable}
+use Rattle.row_changes.specs.{Edits.IsKeyAt, Keys.IsChangingKeys, Awaited.AwaitsNobody}
 use Rattle.row_changes.proofs.Pushed.{key_at, first_rows}
 use Rattle.row_changes.proofs.Telling.{HasPut, pairs_told, puts_pairs, tells, coded_again}
 use Rattle.law_logged_changes.proofs.{Entering.with_version, Leaving.has_rows_left}
 use Rattle.law_held_steps.proofs.Items.{its_columns}
 use Rattle.shared_lists.specs.Fitting.{FitsWell}
-use Rattle.engine.specs.Laid.{version_of, IsLaid, PutsNewRecord, HasRecordThere, TakesKeysOver, AwaitsNobody}
+use Rattle.engine.specs.Laid.{version_of, IsLaid, PutsNewRecord, HasRecordThere, TakesKeysOver}
 use Rattle.law_crashes.specs.Records.{no_db}
 use Rattle.std.proofs.lemmas.Bool.{cases_eq}
 use Rattle.world.specs.Told.{LeavesRows}
@@ -215,13 +215,8 @@ module _ (db : Database) (table : ℕ) (row : List Value) (schema : Schema) (old
       (cases_eq index (clustered_index table))
 
   -- nor once the keys have taken the row over and the indexes are left
-  nobody_left : (over left : WorldState) → TakesKeysOver table key row mid over → MovesPlaces 0 over left → LeavesTable 0 table over left → AwaitsNobody left
-  nobody_left over left takes leaves gone index by is =
-      ⊎_elim (λ was. nobody_mid index by was)
-      (λ mine. gone.gone index by
-      (subst (λ (schemas : List Schema). IsOfTable table schemas index) (sym (ap (λ (s : WorldState). s.schemas) takes.rest)) mine.1)
-      is mine.0)
-      (takes.awaits.each index by (leaves.fewer index by is))
+  nobody_left : (over left : WorldState) → TakesKeysOver table key row mid over → MovesPlaces 0 over left → AwaitsNobody left
+  nobody_left over left takes leaves index by is = nobody_mid index by (takes.awaits.each index by (leaves.fewer index by is))
 
   pub laid_row : (over new : WorldState) → TakesKeysOver table key row mid over → MovesPlaces 0 over new → LeavesTable 0 table over new
       → FitsWell db.schemas (Put table row) → IsLaid (apply_one db (Put table row)) new
@@ -250,7 +245,7 @@ module _ (db : Database) (table : ℕ) (row : List Value) (schema : Schema) (old
             (ap (λ (s : WorldState). s.txns) over.rest ∙ (ap (λ (s : WorldState). s.txns) puts.inserts.beside.rest ∙ laid.txns));
         sessions = ap (λ (s : WorldState). s.sessions) leaves.rest ∙
             (ap (λ (s : WorldState). s.sessions) over.rest ∙ (ap (λ (s : WorldState). s.sessions) puts.inserts.beside.rest ∙ laid.sessions));
-        nobody = nobody_left between new over leaves gone;
+        nobody = nobody_left between new over leaves;
       }
 
 -- the table is there still, and has few keys

@@ -13,7 +13,7 @@ use Rattle.law_stored_rows.proofs.Coding.{short_key, short_value}
 use Rattle.row_codec.specs.Rows.{version_code}
 use Rattle.store_api.specs.declared.moves.Move.TheVariants as moves
 use Rattle.store_api.specs.declared.moves.Move.{Move}
-use Rattle.entries.specs.{Calls.Inserts, Index.Index, Index.Paged, Index.InPages}
+use Rattle.entries.specs.{Calls.Inserts, Index.Index, Index.Paged, Index.InPages, Index.GoesOn}
 use Rattle.law_stored_rows.specs.Edits.{clustered_index, key_index}
 use Rattle.law_held_steps.proofs.Hindering.{keys_lack}
 use Rattle.law_held_steps.specs.Hindering.{IsForWant}
@@ -28,8 +28,9 @@ use Rattle.row_changes.specs.Told.{HasRows}
 use Rattle.row_changes.proofs.Alone.{alone_over}
 use Rattle.law_stored_rows.specs.Tables.{what_is_there}
 use Rattle.row_changes.specs.{Keys.IsChangingKeys, Keys.ChangesKeys, Keys.HindersKeys, Reached.Reached}
-use Rattle.engine.specs.Laid.{PutsNewRecord, AwaitsNobody}
-use Rattle.row_changes.specs.Awaited.{AwaitsIn, IsOfTable}
+use Rattle.engine.specs.Laid.{PutsNewRecord}
+use Rattle.row_changes.specs.{Awaited.AwaitsNoMore, Awaited.AwaitsNobody}
+use Rattle.row_changes.proofs.Awaited.{awaits_then}
 
 -- the bytes are the key of the row
 pub row_for : (schema : Schema) (row : List Value) (key : List ℕ) → FitsTable schema row → All Has64Bits row
@@ -79,14 +80,20 @@ put_at_once key value old new none nobody (moves.Latch by) is not_done not_there
 put_at_once key value old new none nobody moves.End is not_done not_there not_lacking = is
 put_at_once key value old new none nobody other is not_done not_there not_lacking = no_pages _ old.paged new.paged none is.cause
 
+-- nor does it have some amid a step
+no_pages_mid : (old mid : Option Paged) → old ≡ None → GoesOn old mid → mid ≡ None
+no_pages_mid None None none later = refl
+no_pages_mid None (Some mid) none later = absurd later
+no_pages_mid (Some old) mid none later = absurd (cc)
+
 -- where indexes have no pages, what a step of keys wants is memory
 memory_lacks : (mid new : WorldState) (change : KeysChange) → ((index : ℕ) → (mid.indexes index).paged ≡ None) → (why : Move) → IsForWant why
     → HindersKeys 0 mid new change why → why ≡ moves.NoMemory
 memory_lacks mid new change none moves.NoMemory want off = refl
 memory_lacks mid new change none (moves.Full need free) want off =
-    ⊎_elim (λ lacks. absurd (no_pages _ _ _ (none (key_index change.table off.which)) lacks.cause)) (λ gone. absurd (let same = gone.0 in cc)) off.cause
+    ⊎_elim (λ lacks. absurd (no_pages _ _ _ (no_pages_mid _ _ (none (key_index change.table off.which)) lacks.reached.later) lacks.cause.cause)) (λ gone. absurd (let same = gone.0 in cc)) off.cause
 memory_lacks mid new change none moves.TooDeep want off =
-    ⊎_elim (λ lacks. absurd (no_pages _ _ _ (none (key_index change.table off.which)) lacks.cause)) (λ gone. absurd (let same = gone.0 in cc)) off.cause
+    ⊎_elim (λ lacks. absurd (no_pages _ _ _ (no_pages_mid _ _ (none (key_index change.table off.which)) lacks.reached.later) lacks.cause.cause)) (λ gone. absurd (let same = gone.0 in cc)) off.cause
 memory_lacks mid new change none other want off = absurd want
 
 -- since this change began the keys have come so far
@@ -95,7 +102,7 @@ pub record IsTaking (start : KeysChange) (old now : WorldState) (change : KeysCh
   pub holds : IsChangingKeys chains (what_is_there chains) now change
   pub follows : (those : Chains) → IsChangingKeys those (what_is_there those) old start → IsChangingKeys those (what_is_there those) now change
   pub table_is : change.table ≡ start.table
-  pub awaits : AwaitsIn 0 change.table old now
+  pub awaits : AwaitsNoMore old now
   pub rest : now ≡ record old { indexes = now.indexes; versions = now.versions; paged = now.paged }
   pub later : StoreGoes old.paged now.paged
 
@@ -105,14 +112,6 @@ rests : (old mid new : WorldState) → mid ≡ record old { indexes = mid.indexe
     → new ≡ record old { indexes = new.indexes; versions = new.versions; paged = new.paged }
 rests old mid new first next = next ∙ ap (λ (s : WorldState). record s { indexes = new.indexes; versions = new.versions; paged = new.paged }) first
 
--- who is awaited after two steps
-awaits_twice : (table : ℕ) (old mid new : WorldState) → mid.schemas ≡ old.schemas → AwaitsIn 0 table old mid → AwaitsIn 0 table mid new
-    → AwaitsIn 0 table old new
-awaits_twice table old mid new same first next = record {
-  each = λ i by is. ⊎_elim (λ was. first.each i by was)
-      (λ mine. inr (mine.0, subst (λ (schemas : List Schema). IsOfTable table schemas i) same mine.1)) (next.each i by is);
-}
-
 module _ (start : KeysChange) (old mid new : WorldState) (change : KeysChange) (taking : IsTaking start old mid change) where
   -- what its step leaves, where nobody else changes a row
   abbrev pub Steps : Reached KeysChange → Type 0
@@ -120,14 +119,11 @@ module _ (start : KeysChange) (old mid new : WorldState) (change : KeysChange) (
       (chains : Chains) → IsChangingKeys chains (what_is_there chains) mid change
       → ChangesKeys 0 chains (what_is_there chains) mid new change reached
 
-  same_tables : mid.schemas ≡ old.schemas
-  same_tables = ap (λ (s : WorldState). s.schemas) taking.rest
-
-  taken_awaits : AwaitsIn 0 change.table mid new → AwaitsIn 0 change.table old new
-  taken_awaits awaits = awaits_twice change.table old mid new same_tables taking.awaits awaits
+  pub taken_awaits : AwaitsNoMore mid new → AwaitsNoMore old new
+  taken_awaits awaits = awaits_then taking.awaits awaits
 
   pub taking_next : (next : KeysChange) → Steps (Went next)
-      → AwaitsIn 0 change.table mid new → IsTaking start old new next
+      → AwaitsNoMore mid new → IsTaking start old new next
   taking_next next step awaits =
       let mine = step taking.chains taking.holds in
       record {
@@ -135,13 +131,10 @@ module _ (start : KeysChange) (old mid new : WorldState) (change : KeysChange) (
         holds = mine.holds;
         follows = λ those is. (step those (taking.follows those is)).holds;
         table_is = mine.table_is ∙ taking.table_is;
-        awaits = subst (λ (table : ℕ). AwaitsIn 0 table old new) (sym mine.table_is) (taken_awaits awaits);
+        awaits = taken_awaits awaits;
         rest = rests old mid new taking.rest mine.stays.rest;
         later = store_goes_on old.paged mid.paged new.paged taking.later mine.stays.later;
       }
-
-  pub same_table : AwaitsIn 0 change.table mid new → AwaitsIn 0 start.table old new
-  same_table awaits = subst (λ (table : ℕ). AwaitsIn 0 table old new) taking.table_is (taken_awaits awaits)
 
   pub taken_rows : Steps Done → (chains : Chains)
       → IsChangingKeys chains (what_is_there chains) old start → HasRows chains new
@@ -160,4 +153,4 @@ module _ (start : KeysChange) (old mid new : WorldState) (change : KeysChange) (
   taking_lacks was now none nobody same why step =
       let off = (step taking.chains taking.holds).3 in
       memory_lacks mid new change none why (keys_lack 0 mid new was now
-      (λ i by is. ⊎_elim (λ awaits. absurd (nobody i by awaits)) (λ mine. mine.0) (taking.awaits.each i by is)) change why off) off
+      (λ i by is. nobody i by (taking.awaits.each i by is)) change why off) off

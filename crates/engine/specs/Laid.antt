@@ -21,7 +21,7 @@ use Rattle.row_changes.specs.Told.{HasRows}
 use Rattle.row_changes.specs.Edits.{IsRowFor}
 use Rattle.row_changes.specs.Keys.{IsChangingKeys}
 use Rattle.law_stored_rows.specs.Tables.{what_is_there}
-use Rattle.row_changes.specs.Awaited.{AwaitsIn}
+use Rattle.row_changes.specs.Awaited.{AwaitsNoMore, AwaitsNobody}
 use Rattle.shared_lists.specs.Fitting.{CanBeCoded}
 use Rattle.desks.specs.Holding.{IsFresh}
 use Rattle.engine.specs.declared.opened.OpenBad.{OpenBad}
@@ -31,10 +31,6 @@ use Rattle.engine.specs.declared.opened.OpenBad.TheVariants.{TooManyRows, NoMemo
 abbrev pub version_of : Option (List Value) → List Version
 version_of None = []
 version_of (Some row) = record { writer = 0; row = Some row } ∷ []
-
--- nobody is awaited at an index
-abbrev pub AwaitsNobody : WorldState → Type 0
-AwaitsNobody state = (index by : ℕ) → (state.indexes index).awaited ≡ Some by → ⊥
 
 -- The world holds the rows of the database, each in one version. It is yet to be opened, and nobody has joined.
 pub record IsLaid (db : Database) (state : WorldState) : Type 0 where
@@ -73,11 +69,11 @@ pub record HasRecordThere (table : ℕ) (schema : Schema) (row : List Value) (st
   pub row_is : IsRowFor schema row key
   pub there : Told (λ pairs. is_some (value_of key pairs) ≡ true) (state.indexes (clustered_index table))
 
--- The keys of the table have taken the row over, and nothing else has changed but who is awaited there.
+-- The keys of the table have taken the row over, and nothing else has changed.
 pub record TakesKeysOver (table : ℕ) (key : List ℕ) (row : List Value) (old new : WorldState) : Type 0 where
   pub rows : (chains : Chains) → IsChangingKeys chains (what_is_there chains) old
       (record { table = table; key = key; before = None; after = Some row; which = 0; put = None })
       → HasRows chains new
-  pub awaits : AwaitsIn 0 table old new
+  pub awaits : AwaitsNoMore old new
   pub rest : new ≡ record old { indexes = new.indexes; versions = new.versions; paged = new.paged }
   pub later : StoreGoes old.paged new.paged

@@ -16,7 +16,8 @@ ghost use Rattle.law_stored_rows.specs.Tables.{what_is_there};
 ghost use Rattle.row_changes.specs.Keys.{IsChangingKeys};
 ghost use Rattle.inno_types.specs.declared.value.Schema.{Schema as ASchema};
 ghost use Rattle.law_held_steps.specs.Leaving.{MovesPlaces, LeavesTable};
-ghost use Rattle.engine.specs.Laid.{AwaitsNobody, PutsNewRecord, HasRecordThere, TakesKeysOver};
+ghost use Rattle.row_changes.specs.Awaited.{AwaitsNobody};
+ghost use Rattle.engine.specs.Laid.{PutsNewRecord, HasRecordThere, TakesKeysOver};
 
 use crate::opened::PutBad;
 use inno_db::{index_number, key_of_row, to_value};

@@ -11,7 +11,8 @@ ghost use Rattle.inno_db.specs.declared.limits.TheConstants.{MOST_TABLES};
 ghost use Rattle.list_world.specs.Parts.{world_of};
 ghost use Rattle.law_stored_rows.specs.Storable.{IsStorable};
 ghost use Rattle.shared_lists.specs.Fitting.{FitsWell};
-ghost use Rattle.engine.specs.Laid.{IsFreshOf, IsTooLarge, AwaitsNobody};
+ghost use Rattle.engine.specs.Laid.{IsFreshOf, IsTooLarge};
+ghost use Rattle.row_changes.specs.Awaited.{AwaitsNobody};
 ghost use Rattle.law_crashes.specs.Records.{no_db};
 
 use crate::counting::rows_in;

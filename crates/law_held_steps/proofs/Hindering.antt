@@ -1,4 +1,4 @@
--- Nothing but want of memory, of pages or of levels hinders a call of a store at hand where nobody else is awaited: of an index, for room for an
+-- Nothing but want of memory, of pages or of levels hinders a call of a store at hand where nobody is awaited: of an index, for room for an
 -- undo record, and so of a change's keys. A search is hindered by want of memory alone.
 use Rattle.std.proofs.Common.{◌≡◌, ◌≢◌, ⊎_elim, ℕ, List, Option, Some, None, refl}
 use Rattle.std.specs.Prelude.{IsSome}
@@ -8,7 +8,7 @@ use Rattle.entries.specs.{Pairs.Pair, Index.Index, Index.AreKept}
 use Rattle.law_stored_rows.specs.Edits.{key_index}
 use Rattle.world.specs.{State.WorldState, AtHand.IsAtHand, AtHand.IsIndexAtHand, Undoing.MakesRoom}
 use Rattle.world.proofs.AtHand.{not_delayed, index_not_delayed, never_unseen, free_are_few}
-use Rattle.row_changes.specs.{Awaited.IsAwaitedAlone, Pairs.Hinders, Pairs.HindersBehind, Keys.HindersKeys, declared.keys_change.KeysChange.KeysChange}
+use Rattle.row_changes.specs.{Awaited.AwaitsNobody, Pairs.Hinders, Pairs.HindersBehind, Keys.HindersKeys, declared.keys_change.KeysChange.KeysChange}
 use Rattle.row_search.specs.{declared.scan.Scan.Scan, declared.phase.Phase.Phase, Steps.MayWait, Steps.MayBeUnseen, Steps.PhaseWaits}
 use Rattle.row_search.specs.declared.phase.Phase.TheVariants.{Seek, Follow, Fetch, Walk}
 use Rattle.store_api.specs.declared.visits.Visit.TheVariants as visit
@@ -44,15 +44,10 @@ told_before None (Some new) kept told = absurd kept
 told_before None None kept told = told
 
 module _ (s : ℕ) (old new : WorldState) (was : IsAtHand old) (is : IsAtHand new) where
-  -- a call of an index
-  pub call_lacks : IsAwaitedAlone s old → (index : ℕ) (why : Move) → Hinders s (old.indexes index) (new.indexes index) why → IsForWant why
-  call_lacks alone index why off =
-      index_lacks s (old.indexes index) (new.indexes index) (alone index) (was.indexes index) (is.indexes index) (was.told.pairs index) why off
-
-  -- the last of several
-  pub last_lacks : IsAwaitedAlone s old → (index : ℕ) (why : Move) → HindersBehind s (old.indexes index) (new.indexes index) why → IsForWant why
-  last_lacks alone index why off =
-      index_lacks s off.mid (new.indexes index) (λ by awaits. ⊎_elim (λ at. alone index by at) (λ mine. mine) (off.reached.awaited by awaits))
+  -- a call of an index, the last of several in its step
+  pub last_lacks : AwaitsNobody old → (index : ℕ) (why : Move) → HindersBehind s (old.indexes index) (new.indexes index) why → IsForWant why
+  last_lacks nobody index why off =
+      index_lacks s off.mid (new.indexes index) (λ by awaits. ⊎_elim (λ at. absurd (nobody index by at)) (λ mine. mine) (off.reached.awaited by awaits))
       (off.reached.at_hand (was.indexes index)) (is.indexes index) (told_before off.mid.pairs (new.indexes index).pairs off.kept (is.told.pairs index)) why
       off.cause
 
@@ -65,9 +60,9 @@ module _ (s : ℕ) (old new : WorldState) (was : IsAtHand old) (is : IsAtHand ne
   room_lacks bytes other hindered off = not_delayed s old new was is other off
 
   -- that the old entry isn't there comes only where the world doesn't tell what is kept
-  pub keys_lack : IsAwaitedAlone s old → (change : KeysChange) (why : Move) → HindersKeys s old new change why → IsForWant why
-  keys_lack alone change why off =
-      ⊎_elim (call_lacks alone (key_index change.table off.which) why) (λ gone. absurd (gone.1 was.told)) off.cause
+  pub keys_lack : AwaitsNobody old → (change : KeysChange) (why : Move) → HindersKeys s old new change why → IsForWant why
+  keys_lack nobody change why off =
+      ⊎_elim (last_lacks nobody (key_index change.table off.which) why) (λ gone. absurd (gone.1 was.told)) off.cause
 
   -- a step of a search
   index_waits : (index : ℕ) (why : Move) → MayWait s (old.indexes index) (new.indexes index) why → why ≡ NoMemory

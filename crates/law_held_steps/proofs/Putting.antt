@@ -21,10 +21,11 @@ use Rattle.law_logged_changes.proofs.Beginning.{tells_of_it, begins_settled, beg
 use Rattle.law_logged_changes.proofs.{TakenBack.taken as taken_back, TakenBack.to_cut_by_history, Cutting.rows_as_cut, Cutting.has_cut}
 use Rattle.law_held_steps.proofs.AnyStep.{some_same, last_left, row_left, held_beside, last_log, waits_not, held_after}
 use Rattle.law_held_steps.proofs.{AnyStep.IsGiven, AnyStep.is_given, AnyStep.given_then, Keeping.open_work, Showing.settings_same, Showing.shows_now}
-use Rattle.undo_apply.specs.Stages.{Stops, StopsAt, IsPuttingBack, GoesOn, IsHindered, IsDone, PutsBack, StageHolds, WalksOn}
+use Rattle.undo_apply.specs.Stages.{Stops, StopsRemoval, StopsAt, IsPuttingBack, GoesOn, IsDone, PutsBack, StageHolds, WalksOn}
 use Rattle.undo_apply.specs.Standing.{versions_before, HasWalked, IsTakenBack, said_but}
 use Rattle.undo_apply.specs.{declared.work_room.Stage.Stage, Rooms.IsWhole, Rooms.steps_left, declared.work_room.WorkRoom.WorkRoom}
-use Rattle.undo_apply.specs.{declared.work_room.Stage.TheVariants.Walk, declared.work_room.Stage.TheVariants.Find, Told.rows_of}
+use Rattle.undo_apply.specs.declared.work_room.Stage.TheVariants.{Walk, Find, Remove, Record}
+use Rattle.undo_apply.specs.Told.{rows_of}
 use Rattle.undo_apply.proofs.{Taken.as_all, Hindrances.never_hindered, Telling.leaves_told, Columns.few_keys}
 use Rattle.law_held_steps.specs.Making.{HasPutBack, HasLast, IsReady, TakesBackIn}
 use Rattle.row_versions.specs.Chains.{Chains, older, versions_at, with_versions, is_same_place, Pops}
@@ -41,7 +42,7 @@ use Rattle.law_stored_rows.proofs.{KeptRows.found_of, RowRecords.leads_still}
 use Rattle.law_stored_rows.proofs.Tables.{popped_elsewhere}
 use Rattle.row_changes.proofs.{Telling.rows_beside, Sessions.same_pairs, Sessions.same_versions}
 use Rattle.desks.proofs.{Counting.versions_most, Counting.versions_are, Showing.task_is}
-use Rattle.row_changes.specs.{Awaited.IsAwaitedAlone, Told.HasRows, Rows.IsChangingRowAlone, declared.row_change.RowChange.RowChange}
+use Rattle.row_changes.specs.{Awaited.AwaitsNobody, Told.HasRows, Rows.IsChangingRowAlone, declared.row_change.RowChange.RowChange}
 use Rattle.std.specs.{Prelude.is_some, Prelude.slice_set, List.list_any}
 use Rattle.store_api.specs.{declared.answers.Undo.Undo, declared.moves.Move.Move, declared.moves.Move.TheVariants.Done, declared.moves.Move.TheVariants.Step}
 use Rattle.inno_db.specs.{declared.change.Change.Change, declared.change.Change.TheVariants.Create}
@@ -137,8 +138,16 @@ module _ (actor : ℕ) (old new : WorldState) (was : IsAtHand old) (is : IsAtHan
   no_step : (index : ℕ) → Stops actor index old new Step → ⊥
   no_step index stops = index_not_delayed actor (old.indexes index) (new.indexes index) (was.indexes index) (is.indexes index) Step stops
 
+  no_removal : (index : ℕ) → StopsRemoval actor index old new Step → ⊥
+  no_removal index (inl first) = no_step index first
+  no_removal index (inr second) =
+      index_not_delayed actor (second.mid.indexes index) (second.after.indexes index) (second.at_hand.0.indexes index) (second.at_hand.1.indexes index) Step
+      second.cause
+
   not_stopped : (undo : Undo) (stage : Stage) → StopsAt actor undo stage old new Step → ⊥
   not_stopped undo (Walk which pointer) stops = stops was.told
+  not_stopped undo (Remove which) stops = no_removal _ stops
+  not_stopped undo Record stops = no_removal _ stops
   not_stopped undo stage stops = no_step _ stops
 
 -- ---- how much is left of a change that is being taken back: steps first, and within a walk the versions
@@ -196,20 +205,19 @@ module _ (chains : Chains) (place : Place) (actor : ℕ) (undo : Undo) (room nex
       ⊎_elim (λ stays. record { places = stays.places; versions = stays.versions; rest = stays.rest })
       (λ puts. record { places = puts.places; versions = puts.versions; rest = puts.rest }) done.changes
 
-  of_hindered : (why : Move) → IsHindered chains (what_is_there chains) place actor undo room next old new why → StaysPutting chains place undo next old new
-  of_hindered why is = record { leaves = record { places = is.stays.places; versions = is.stays.versions; rest = is.stays.rest }; putting = is.holds }
+  -- a step that went on was made
+  goes_on : IsAtHand old → IsAtHand new → PutsBack chains (what_is_there chains) place actor undo room next old new Step
+      → GoesOn chains (what_is_there chains) place undo room next old new
+  goes_on was is (inl goes) = goes
+  goes_on was is (inr stuck) = absurd (not_stopped actor old new was is undo room.stage stuck.cause)
 
-  stays_putting : (answer : Move) → answer ≢ Done → PutsBack chains (what_is_there chains) place actor undo room next old new answer
-      → StaysPutting chains place undo next old new
-  stays_putting Step not_done (inl goes) = record {
+  stays_putting : GoesOn chains (what_is_there chains) place undo room next old new → StaysPutting chains place undo next old new
+  stays_putting goes = record {
     leaves =
         ⊎_elim (λ stays. record { places = stays.places; versions = stays.versions; rest = stays.rest })
         (λ one. record { places = one.4.places; versions = one.4.versions; rest = one.4.rest }) (goes.changes goes.holds.schema goes.holds.tells.there);
     putting = goes.holds;
   }
-  stays_putting Step not_done (inr is) = of_hindered Step is
-  stays_putting Done not_done is = absurd (not_done refl)
-  stays_putting why not_done is = of_hindered why is
 
 -- ---- the newest undo record of who may write
 
@@ -366,50 +374,55 @@ module _ (s : ℕ) {store : Store} (held : IsHeld store) where
       answers : PutsBack held.chains (what_is_there held.chains) going.place s (read_into undo) room next old new answer
       answers = put held.chains (what_is_there held.chains) going.place going.putting
 
-      -- over a store at hand each step is made, where nobody else is awaited
-      pub goes_or_is_done : IsAtHand old → IsAtHand new → IsAwaitedAlone s old → (answer ≡ Done) ⊎ (answer ≡ Step)
-      goes_or_is_done hand later alone =
-          never_hindered s old new hand later alone held.chains (what_is_there held.chains) going.place (read_into undo) room next answer answers
+      -- over a store at hand each step is made, where nobody is awaited
+      pub goes_or_is_done : IsAtHand old → IsAtHand new → AwaitsNobody old → (answer ≡ Done) ⊎ (answer ≡ Step)
+      goes_or_is_done hand later nobody =
+          never_hindered s old new hand later (λ index by is. absurd (nobody index by is)) held.chains (what_is_there held.chains) going.place (read_into undo) room next answer answers
 
       pub rest_beside : ChangesPairsAlone old new
       rest_beside = step_beside held.chains (what_is_there held.chains) going.place s (read_into undo) room next old new answer answers
 
-      module _ (not_done : answer ≢ Done) where
-        still_putting : StaysPutting held.chains going.place (read_into undo) next old new
-        still_putting = stays_putting held.chains going.place s (read_into undo) room next old new answer not_done answers
-
-        pub held_on : IsAtHand old → IsAtHand new → IsHeld (record store { world = new; desks = with_room s next store.desks })
-        held_on hand later =
-            let stays = still_putting in
-            held_given s held mine stays.leaves hand.told later.told (is_given s (λ d. record d { room = next }) store.desks goes_back.at refl)
-            (undoing_rows stays) (step_all held.chains (what_is_there held.chains) going.place s (read_into undo) room next old new answer answers
-            not_done held.logs)
-            (subst (λ doing. SearchHeld held.chains (record store { world = new; desks = with_room s next store.desks }) s doing) (sym is_busy) (record {}))
-            (record {
-              record_room = (held.rooms s desk goes_back.at).record_room;
-              whole = stays.putting.whole;
-              anew = λ none. absurd (let e : true ≡ false = sym (ap is_undoing is_busy) ∙ none in cc);
-            })
-          where
-            is_busy : desk.doing ≡ Undoing
-            is_busy = sym (ap doing_in goes_back.at) ∙ busy
-
-            undoing_rows : StaysPutting held.chains going.place (read_into undo) next old new
-                → HoldsAlone held.chains new s (read_into undo) next desk.doing
-            undoing_rows stays = subst (HoldsAlone held.chains new s (read_into undo) next) (sym is_busy) (record {
-              logged = going.logged;
-              place = going.place;
-              last = last_beside s stays.leaves.rest going.last;
-              undo_is = going.undo_is;
-              putting = stays.putting;
-            })
-
     module _ (new : WorldState) (next : WorkRoom) (put : HasPutBack s (read_into undo) room next old new Step) (hand : IsAtHand old)
         (later : IsAtHand new) where
+      its_step : PutsBack held.chains (what_is_there held.chains) going.place s (read_into undo) room next old new Step
+      its_step = answers new next Step put
+
+      its_going : GoesOn held.chains (what_is_there held.chains) going.place (read_into undo) room next old new
+      its_going = goes_on held.chains going.place s (read_into undo) room next old new hand later its_step
+
+      still_putting : StaysPutting held.chains going.place (read_into undo) next old new
+      still_putting = stays_putting held.chains going.place s (read_into undo) room next old new its_going
+
+      pub held_on : IsHeld (record store { world = new; desks = with_room s next store.desks })
+      held_on =
+          let stays = still_putting in
+          held_given s held mine stays.leaves hand.told later.told (is_given s (λ d. record d { room = next }) store.desks goes_back.at refl)
+          (undoing_rows stays) (step_all held.chains (what_is_there held.chains) going.place s (read_into undo) room next old new Step its_step
+          (λ e. cc) held.logs)
+          (subst (λ doing. SearchHeld held.chains (record store { world = new; desks = with_room s next store.desks }) s doing) (sym is_busy) (record {}))
+          (record {
+            record_room = (held.rooms s desk goes_back.at).record_room;
+            whole = stays.putting.whole;
+            anew = λ none. absurd (let e : true ≡ false = sym (ap is_undoing is_busy) ∙ none in cc);
+          })
+        where
+          is_busy : desk.doing ≡ Undoing
+          is_busy = sym (ap doing_in goes_back.at) ∙ busy
+
+          undoing_rows : StaysPutting held.chains going.place (read_into undo) next old new
+              → HoldsAlone held.chains new s (read_into undo) next desk.doing
+          undoing_rows stays = subst (HoldsAlone held.chains new s (read_into undo) next) (sym is_busy) (record {
+            logged = going.logged;
+            place = going.place;
+            last = last_beside s stays.leaves.rest going.last;
+            undo_is = going.undo_is;
+            putting = stays.putting;
+          })
+
       goes_nearer : GoesOn held.chains (what_is_there held.chains) going.place (read_into undo) room next old new
           → undo_left_in undo.table next.stage new < undo_left_in undo.table room.stage old
       goes_nearer goes =
-          let leaves = (still_putting new next Step put (λ e. cc)).leaves in
+          let leaves = still_putting.leaves in
           let kept : new.versions.kept_at ≡ old.versions.kept_at = leaves.versions.kept later.told.versions in
           let schemas : new.schemas ≡ old.schemas = ap (λ (x : WorldState). x.schemas) leaves.rest in
           let now = goes.holds in
@@ -432,7 +445,7 @@ module _ (s : ℕ) {store : Store} (held : IsHeld store) where
           subst (λ (n : ℕ). undo_left_in undo.table next.stage new < n) (left_same undo.table room.stage old new schemas kept) less_now
 
       pub nearer : undo_left_in undo.table next.stage new < undo_left_in undo.table room.stage old
-      nearer = ⊎_elim goes_nearer (λ is. absurd (not_stopped s old new hand later (read_into undo) room.stage is.cause)) (answers new next Step put)
+      nearer = goes_nearer its_going
 
 -- ---- The newest change is taken back: its rows, then its undo record, and then the history tells it. What callers see of that, and of the steps before
 -- it: the session's own task alone has changed.

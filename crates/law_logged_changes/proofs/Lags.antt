@@ -3,7 +3,7 @@ use Rattle.std.proofs.Common.{◌≡◌, ◌⊎◌, inl, inr, ⊎_elim, ℕ, Boo
 use Rattle.std.proofs.{lemmas.Bool.cases_order, Math.Bool.or-true}
 use Rattle.row_versions.specs.{Chains.Chains, Chains.versions_at, declared.place.Place.Place, declared.version.Version.Version}
 use Rattle.law_stored_rows.specs.{Tables.AreClustered, Tables.Said, Tables.TellsOfOlder, Entries.has_value, Records.shown}
-use Rattle.undo_apply.specs.declared.work_room.Stage.TheVariants.{Find, Key, Walk, Mark, Await, Remove, Unmark, AwaitRecords, Record}
+use Rattle.undo_apply.specs.declared.work_room.Stage.TheVariants.{Find, Key, Walk, Mark, Remove, Unmark, Record}
 use Rattle.undo_apply.specs.Standing.{versions_before, said_but, IsLagging, SayBefore, IsUnderWay, IsTakenBack}
 use Rattle.undo_apply.specs.{declared.work_room.WorkRoom.WorkRoom, declared.work_room.Stage.Stage, Told.Rows, Told.rows_of, Stages.StageHolds}
 use Rattle.undo_apply.specs.{Stages.IsPuttingBack}
@@ -37,7 +37,6 @@ module _ (chains : Chains) {beside : Said} (place : Place) (undo : Undo) (schema
   at_stage bytes (Key which) (coded, way) = lagged bytes coded which way
   at_stage bytes (Walk which pointer) (coded, way, plain, rest) = lagged bytes coded which way
   at_stage bytes (Mark which) (coded, way, rest) = lagged bytes coded which way
-  at_stage bytes (Await which) (coded, way, rest) = lagged bytes coded which way
   at_stage bytes (Remove which) (coded, way, rest) = lagged bytes coded which way
   at_stage bytes (Unmark which) (coded, way) = lagged bytes coded which (record {
     newest = way.newest;
@@ -45,7 +44,6 @@ module _ (chains : Chains) {beside : Said} (place : Place) (undo : Undo) (schema
     coded_but = way.coded_but;
     says = record { first = way.says.first; here = inl way.says.here; others = way.says.others };
   })
-  at_stage bytes AwaitRecords (coded, way) = lagged bytes coded (length schema.keys) way
   at_stage bytes Record (coded, way) = lagged bytes coded (length schema.keys) way
 
 pub clustered_while : (chains : Chains) {beside : Said} (place : Place) (undo : Undo) (room : WorkRoom) (state : WorldState)

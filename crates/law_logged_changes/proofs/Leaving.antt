@@ -23,7 +23,7 @@ use Rattle.inno_types.specs.{declared.value.Schema.Schema, declared.value.Value.
 use Rattle.inno_db.specs.{declared.change.Change.Change}
 use Rattle.inno_model.specs.Past.{own}
 use Rattle.entries.specs.{Pairs.value_of, Index.Index, Index.AreKept}
-use Rattle.undo_apply.proofs.{Telling.leaves_told, Telling.rows_left as stays_leave, Columns.few_keys}
+use Rattle.undo_apply.proofs.{Telling.leaves_told, Telling.rows_left as stays_leave, Telling.rows_left_but, Columns.few_keys}
 use Rattle.store_api.specs.{declared.answers.Undo.Undo, declared.moves.Move.Move, declared.moves.Move.TheVariants.Done, declared.moves.Move.TheVariants.Step}
 use Rattle.law_world_agreement.specs.Agreement.{Agrees}
 use Rattle.law_world_agreement.proofs.Joining.{agrees_alike}
@@ -178,8 +178,8 @@ module _ (chains : Chains) (beside : Said) (place : Place) (actor : ℕ) (undo :
       → LeavesRecords old new × ChangesPairsAlone old new
   step_leaves Done is not_done = absurd (not_done refl)
   step_leaves Step (inl goes) not_done = goes_leaves goes
-  step_leaves Step (inr is) not_done = (stay_leaves old new is.stays, is.stays.rest)
-  step_leaves why is not_done = (stay_leaves old new is.stays, is.stays.rest)
+  step_leaves Step (inr is) not_done = (rows_leave old new (rows_left_but is.stays), is.stays.rest)
+  step_leaves why is not_done = (rows_leave old new (rows_left_but is.stays), is.stays.rest)
 
   pub done_beside : IsDone chains beside place undo room next old new → ChangesPairsAlone old new
   done_beside done = ⊎_elim (λ stays. stays.rest) (λ puts. puts.rest) done.changes
@@ -197,7 +197,6 @@ module _ (chains : Chains) (beside : Said) (place : Place) (actor : ℕ) (undo :
 phase_kept : (phase : PutPhase) (entry : List ℕ) (old new : Index) → AreKept old.pairs new.pairs → PutPhaseHolds phase entry old → PutPhaseHolds phase entry new
 phase_kept puts.Look entry old new kept is = is
 phase_kept puts.Unmark entry old new kept is = told_kept (λ pairs. is_some (value_of entry pairs) ≡ true) old.pairs new.pairs kept is
-phase_kept puts.Insert entry old new kept is = told_kept (λ pairs. is_some (value_of entry pairs) ≡ false) old.pairs new.pairs kept is
 
 some_kept : (P Q : EntryPut → Type 0) (put : Option EntryPut) → ((x : EntryPut) → P x → Q x) → IfSome put P → IfSome put Q
 some_kept P Q None each is = record {}

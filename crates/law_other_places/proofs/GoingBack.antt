@@ -16,7 +16,7 @@ use Rattle.undo_apply.specs.Standing.{TellsOf, LeadsBack, versions_before, said_
 use Rattle.undo_apply.specs.Standing.{IsUnderWay, IsTakenBack, some_has}
 use Rattle.undo_apply.specs.Stages.{IsFound, StageHolds, IsPuttingBack}
 use Rattle.undo_apply.specs.{Told.rows_of, declared.work_room.WorkRoom.WorkRoom, declared.work_room.Stage.Stage}
-use Rattle.undo_apply.specs.declared.work_room.Stage.TheVariants.{Find, Key, Walk, Mark, Await, Remove, Unmark, AwaitRecords, Record}
+use Rattle.undo_apply.specs.declared.work_room.Stage.TheVariants.{Find, Key, Walk, Mark, Remove, Unmark, Record}
 use Rattle.law_logged_changes.proofs.Logs.{key_told}
 use Rattle.law_other_places.specs.Beside.{LeavesPlace, LeavesRow}
 use Rattle.law_other_places.proofs.Gluing.{at, glued, glued_coded}
@@ -142,11 +142,9 @@ module _ {place : Place} {chains after : Chains} {now : Said} {old new : WorldSt
       },
     )
     stage_left bytes (Mark which) (coded, way, found) = (coded, lags_left bytes coded which way, found_left which coded true found)
-    stage_left bytes (Await which) (coded, way, found) = (coded, lags_left bytes coded which way, found_left which coded false found)
     stage_left bytes (Remove which) (coded, way, found) = (coded, lags_left bytes coded which way, found_left which coded false found)
     stage_left bytes (Unmark which) (coded, way) =
         (coded, way_left (IsCleared (versions_before chains place)) (IsCleared (versions_before after place)) bytes coded which cleared_left way)
-    stage_left bytes AwaitRecords (coded, way) = (coded, lags_left bytes coded (length schema.keys) way)
     stage_left bytes Record (coded, way) = (coded, lags_left bytes coded (length schema.keys) way)
 
   pub putting_left : (undo : Undo) (room : WorkRoom) → IsPuttingBack chains beside place undo room old → IsPuttingBack after beside_now place undo room new

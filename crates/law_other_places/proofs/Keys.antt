@@ -11,7 +11,7 @@ use Rattle.world.specs.{State.WorldState, Told.IsTold, Told.pairs_in, Told.pairs
 use Rattle.row_changes.specs.{Edits.IsRowFor, Edits.IsKeyAt, Entries.PutPhaseHolds, Entries.IsThere}
 use Rattle.row_changes.specs.Keys.{IsChangingKeys, IsEntering, IsEntryIn, HasRowsSoFar, said_next}
 use Rattle.row_changes.specs.{declared.keys_change.KeysChange.KeysChange, declared.entry_put.EntryPut.EntryPut, declared.entry_put.PutPhase.PutPhase}
-use Rattle.row_changes.specs.declared.entry_put.PutPhase.TheVariants.{Look, Unmark, Insert}
+use Rattle.row_changes.specs.declared.entry_put.PutPhase.TheVariants.{Look, Unmark}
 use Rattle.row_changes.proofs.{Keying.at_entry, Telling.tells, Pushed.table_kept}
 use Rattle.law_other_places.specs.Beside.{LeavesPlace}
 use Rattle.law_other_places.proofs.Gluing.{at, glued, glued_here, glued_apart, glued_coded}
@@ -57,15 +57,8 @@ module _ {place : Place} {chains after : Chains} {now : Said} {old new : WorldSt
   phase_left : (phase : PutPhase) (entry : List ℕ) (index : ℕ) → value_of entry (pairs_of new index) ≡ value_of entry (pairs_of old index)
       → PutPhaseHolds phase entry (old.indexes index) → PutPhaseHolds phase entry (new.indexes index)
   phase_left Look entry index same holds = record {}
-  phase_left Unmark entry index same holds = there true entry index same holds
-    where
-      there : (b : Bool) (entry : List ℕ) (index : ℕ) → value_of entry (pairs_of new index) ≡ value_of entry (pairs_of old index)
-          → IsThere b entry (old.indexes index) → IsThere b entry (new.indexes index)
-      there b entry index same =
-          told_again (λ pairs. is_some (value_of entry pairs) ≡ b) (λ pairs. is_some (value_of entry pairs) ≡ b) old new index leaves.told leaves.tells
-          (λ is. ap is_some same ∙ is)
-  phase_left Insert entry index same holds =
-      told_again (λ pairs. is_some (value_of entry pairs) ≡ false) (λ pairs. is_some (value_of entry pairs) ≡ false) old new index leaves.told leaves.tells
+  phase_left Unmark entry index same holds =
+      told_again (λ pairs. is_some (value_of entry pairs) ≡ true) (λ pairs. is_some (value_of entry pairs) ≡ true) old new index leaves.told leaves.tells
       (λ is. ap is_some same ∙ is) holds
 
 -- ---- the change

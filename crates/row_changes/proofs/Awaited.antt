@@ -1,21 +1,17 @@
 -- What the calls of a world's indexes leave of its pairs, what may hinder them, and who is awaited afterwards.
-use Rattle.std.proofs.Common.{◌≡◌, ◌≢◌, ◌⊎◌, inr, ⊎_elim, ℕ, true, false, Option, Some, None, List, refl, sym, inl, ◌∙◌, ◌+◌, ap, ◌≤◌, arith, rules}
+use Rattle.std.proofs.Common.{◌≡◌, ◌≢◌, ◌⊎◌, inr, ⊎_elim, ℕ, true, false, Option, Some, None, List, refl, sym, inl, ◌∙◌, ap, rules}
 use Rattle.std.proofs.lemmas.Bool.{cases_eq}
 use Rattle.store_api.specs.{declared.moves.Move.Move, declared.answers.Undo.Undo}
 use Rattle.store_api.specs.declared.moves.Move.TheVariants.{At, End, Done, Latch, Failed, NoMemory}
 use Rattle.entries.specs.{Pairs.Pair, Pairs.value_of, Index.Index, Index.AreKept, Index.HasGone, Index.IsAsBefore}
 use Rattle.entries.specs.Calls.{Inserts, Replaces, Delays, IsKeptOff, Fetches, NextKeys, Removes}
-use Rattle.std.specs.Prelude.{IfSome, is_some, ◌<◌, length, slice_get}
+use Rattle.std.specs.Prelude.{IfSome, is_some}
 use Rattle.world.specs.Indexes.{InsertsWith, ReplacesWith, InIndex, Calls, Changes}
 use Rattle.world.specs.State.{WorldState, Session, Work}
-use Rattle.law_stored_rows.specs.{Edits.with_value, Edits.clustered_index, Edits.key_index, Tables.Said}
-use Rattle.row_changes.specs.{Entries.IsThere, Entering.Enters, Rows.IsAtRow, Rows.table_of, Pairs.RowsStay, Pairs.PutsPair, Pairs.Hinders}
-use Rattle.row_changes.specs.{declared.record_change.RecordChange.RecordChange, declared.row_change.RowChange.TheVariants.Record, Keys.IsChangingKeys}
-use Rattle.row_changes.specs.{declared.entry_put.EntryPut.EntryPut, declared.keys_change.KeysChange.KeysChange, declared.row_change.RowChange.RowChange}
-use Rattle.row_changes.specs.Awaited.{AwaitsAt, AwaitsIn, IsOfTable}
-use Rattle.inno_types.specs.{declared.value.Schema.Schema, declared.value.Value.Value}
+use Rattle.law_stored_rows.specs.Edits.{with_value}
+use Rattle.row_changes.specs.{Entries.IsThere, Entering.Enters, Pairs.RowsStay, Pairs.PutsPair, Pairs.Hinders}
+use Rattle.row_changes.specs.Awaited.{AwaitsNoMore}
 use Rattle.inno_db.specs.declared.change.Change.{Change}
-use Rattle.row_versions.specs.Chains.{Chains}
 
 -- the pairs are kept, and each actor's place
 abbrev pub HasStayed : Index → Index → Type 0
@@ -39,19 +35,19 @@ stays_if {index} {call} {old} {new} c kept =
       later = c.beside.later;
     }
 
--- who is awaited in an index was so before, or is this actor
-abbrev pub AwaitsHere : ℕ → Index → Index → Type 0
-AwaitsHere actor old new = (by : ℕ) → new.awaited ≡ Some by → (old.awaited ≡ Some by) ⊎ (by ≡ actor)
+-- who is awaited in an index was so before
+abbrev pub AwaitsHere : Index → Index → Type 0
+AwaitsHere old new = (by : ℕ) → new.awaited ≡ Some by → old.awaited ≡ Some by
 
 -- what a call leaves that changes nothing
-abbrev pub IsLeft : ℕ → Index → Index → Type 0
-IsLeft actor old new = HasStayed old new × AwaitsHere actor old new
+abbrev pub IsLeft : Index → Index → Type 0
+IsLeft old new = HasStayed old new × AwaitsHere old new
 
-pub as_before : (actor : ℕ) (old new : Index) → IsAsBefore old new → IsLeft actor old new
-as_before actor old new same = ((same.pairs, same.place), λ by is. inl (sym same.awaited ∙ is))
+pub as_before : (old new : Index) → IsAsBefore old new → IsLeft old new
+as_before old new same = ((same.pairs, same.place), λ by is. sym same.awaited ∙ is)
 
-none_here : (actor : ℕ) (old new : Index) → new.awaited ≡ None → AwaitsHere actor old new
-none_here actor old new none by is = absurd (cc)
+none_here : (old new : Index) → new.awaited ≡ None → AwaitsHere old new
+none_here old new none by is = absurd (cc)
 
 -- what a delay leaves
 delay_leaves : (actor : ℕ) (old new : Index) (move : Move) → Delays actor old new move → IsAsBefore old new
@@ -59,7 +55,7 @@ delay_leaves actor old new Failed h = record { pairs = h.pairs; place = h.place;
 delay_leaves actor old new other h = search rules
 
 delay_keeps : (actor : ℕ) (old new : Index) (move : Move) → Delays actor old new move → HasStayed old new
-delay_keeps actor old new move h = (as_before actor old new (delay_leaves actor old new move h)).0
+delay_keeps actor old new move h = (as_before old new (delay_leaves actor old new move h)).0
 
 pub delay_hinders : (actor : ℕ) (old new : Index) (move : Move) → Delays actor old new move → Hinders actor old new move
 delay_hinders actor old new (Latch by) h = inr h
@@ -83,8 +79,24 @@ fetch_keeps actor key read old new Done h = (h.1.pairs, h.1.place)
 fetch_keeps actor key read old new other h = search (rules, delay_keeps)
 
 pub next_key_keeps : (actor : ℕ) (key read : List ℕ) (old new : Index) (move : Move) → NextKeys actor key read old new move → HasStayed old new
-next_key_keeps actor key read old new (Latch by) h = (as_before actor old new (off_leaves actor by old new h)).0
+next_key_keeps actor key read old new (Latch by) h = (as_before old new (off_leaves actor by old new h)).0
 next_key_keeps actor key read old new other h = search (rules, delay_keeps)
+
+-- who is awaited behind a look for the next key: who was before, or who has looked
+pub next_key_here : (actor : ℕ) (key read : List ℕ) (old new : Index) (move : Move) → NextKeys actor key read old new move → (by : ℕ)
+    → new.awaited ≡ Some by → (old.awaited ≡ Some by) ⊎ (by ≡ actor)
+next_key_here actor key read old new Done h by is = inr (cc (h.2.awaited, is))
+next_key_here actor key read old new End h by is = inr (cc (h.2.awaited, is))
+next_key_here actor key read old new (Latch holder) h by is = inl ((as_before old new (off_leaves actor holder old new h)).1 by is)
+next_key_here actor key read old new other h by is = inl ((as_before old new (search (rules, delay_leaves))).1 by is)
+
+-- one that was put off keeps nobody off
+pub next_key_off : (actor : ℕ) (key read : List ℕ) (old new : Index) (move : Move) → NextKeys actor key read old new move → move ≢ Done → move ≢ End
+    → AwaitsHere old new
+next_key_off actor key read old new Done h not_done not_end = absurd (not_done refl)
+next_key_off actor key read old new End h not_done not_end = absurd (not_end refl)
+next_key_off actor key read old new (Latch holder) h not_done not_end = (as_before old new (off_leaves actor holder old new h)).1
+next_key_off actor key read old new other h not_done not_end = (as_before old new (search (rules, delay_leaves))).1
 
 -- ---- changes
 
@@ -114,45 +126,64 @@ not_told P Q (Some list) apart known answered = absurd (apart list known answere
 
 -- ---- insert
 
--- a call that wasn't done, of a key that was not there
-insert_alone : (actor : ℕ) (key value : List ℕ) (old new : Index) (move : Move) → IsThere false key old → Inserts actor key value old new move → move ≢ Done
-    → IsLeft actor old new × Hinders actor old new move
-insert_alone actor key value old new Done absent h not_done = absurd (not_done refl)
-insert_alone actor key value old new (At there kept) absent h not_done = (
-  ((h.3.pairs, h.3.place), none_here actor old new h.3.awaited),
-  not_told (λ pairs. is_some (value_of key pairs) ≡ false) (λ pairs. value_of key pairs ≡ Some kept) old.pairs (λ pairs none some. cc) absent h.2,
-)
-insert_alone actor key value old new (Latch by) absent h not_done = (as_before actor old new (off_leaves actor by old new h), h)
-insert_alone actor key value old new other absent h not_done = (as_before actor old new (search (rules, delay_leaves)), search rules)
+insert_alone : (actor : ℕ) (key value : List ℕ) (old new : Index) (move : Move) → Inserts actor key value old new move → move ≢ Done → IsLeft old new
+insert_alone actor key value old new Done h not_done = absurd (not_done refl)
+insert_alone actor key value old new (At there kept) h not_done = ((h.3.pairs, h.3.place), none_here old new h.3.awaited)
+insert_alone actor key value old new (Latch by) h not_done = as_before old new (off_leaves actor by old new h)
+insert_alone actor key value old new other h not_done = as_before old new (search (rules, delay_leaves))
 
-pub insert_left : (undo : Option Undo) (actor : ℕ) (key value : List ℕ) (old new : Index) (move : Move) → IsThere false key old
-    → InsertsWith undo actor key value old new move → move ≢ Done → IsLeft actor old new × Hinders actor old new move
-insert_left None actor key value old new move absent h not_done = insert_alone actor key value old new move absent h not_done
-insert_left (Some undo) actor key value old new NoMemory absent h not_done = (as_before actor old new h, record {})
-insert_left (Some undo) actor key value old new other absent h not_done = insert_alone actor key value old new other absent h not_done
+-- a call that wasn't done
+pub insert_left : (undo : Option Undo) (actor : ℕ) (key value : List ℕ) (old new : Index) (move : Move) → InsertsWith undo actor key value old new move
+    → move ≢ Done → IsLeft old new
+insert_left None actor key value old new move h not_done = insert_alone actor key value old new move h not_done
+insert_left (Some undo) actor key value old new NoMemory h not_done = as_before old new h
+insert_left (Some undo) actor key value old new other h not_done = insert_alone actor key value old new other h not_done
 
-pub insert_with_here : (undo : Option Undo) (actor : ℕ) (key value : List ℕ) (old new : Index) (move : Move) → IsThere false key old
-    → InsertsWith undo actor key value old new move → AwaitsHere actor old new
-insert_with_here None actor key value old new Done absent h = none_here actor old new h.2.awaited
-insert_with_here (Some undo) actor key value old new Done absent h = none_here actor old new h.2.awaited
-insert_with_here undo actor key value old new other absent h = (insert_left undo actor key value old new other absent h (λ e. cc)).0.1
+pub insert_with_here : (undo : Option Undo) (actor : ℕ) (key value : List ℕ) (old new : Index) (move : Move)
+    → InsertsWith undo actor key value old new move → AwaitsHere old new
+insert_with_here None actor key value old new Done h = none_here old new h.2.awaited
+insert_with_here (Some undo) actor key value old new Done h = none_here old new h.2.awaited
+insert_with_here undo actor key value old new other h = (insert_left undo actor key value old new other h (λ e. cc)).1
+
+-- where the key was not there
+insert_hinders_alone : (actor : ℕ) (key value : List ℕ) (old new : Index) (move : Move) → IsThere false key old → Inserts actor key value old new move
+    → move ≢ Done → Hinders actor old new move
+insert_hinders_alone actor key value old new Done absent h not_done = absurd (not_done refl)
+insert_hinders_alone actor key value old new (At there kept) absent h not_done =
+    not_told (λ pairs. is_some (value_of key pairs) ≡ false) (λ pairs. value_of key pairs ≡ Some kept) old.pairs (λ pairs none some. cc) absent h.2
+insert_hinders_alone actor key value old new (Latch by) absent h not_done = h
+insert_hinders_alone actor key value old new other absent h not_done = search rules
+
+pub insert_hinders : (undo : Option Undo) (actor : ℕ) (key value : List ℕ) (old new : Index) (move : Move) → IsThere false key old
+    → InsertsWith undo actor key value old new move → move ≢ Done → Hinders actor old new move
+insert_hinders None actor key value old new move absent h not_done = insert_hinders_alone actor key value old new move absent h not_done
+insert_hinders (Some undo) actor key value old new NoMemory absent h not_done = record {}
+insert_hinders (Some undo) actor key value old new other absent h not_done = insert_hinders_alone actor key value old new other absent h not_done
+
+-- where nothing is known of the key, an answer that doesn't say that it is there
+pub insert_waits : (actor : ℕ) (key value : List ℕ) (old new : Index) (move : Move) → Inserts actor key value old new move → move ≢ Done
+    → ((there kept : List ℕ) → move ≢ At there kept) → Hinders actor old new move
+insert_waits actor key value old new Done h not_done not_at = absurd (not_done refl)
+insert_waits actor key value old new (At there kept) h not_done not_at = absurd (not_at there kept refl)
+insert_waits actor key value old new (Latch by) h not_done not_at = h
+insert_waits actor key value old new other h not_done not_at = search rules
 
 -- ---- replace
 
-replace_alone : (actor : ℕ) (key value : List ℕ) (old new : Index) (move : Move) → Replaces actor key value old new move → move ≢ Done → IsLeft actor old new
+replace_alone : (actor : ℕ) (key value : List ℕ) (old new : Index) (move : Move) → Replaces actor key value old new move → move ≢ Done → IsLeft old new
 replace_alone actor key value old new Done h not_done = absurd (not_done refl)
-replace_alone actor key value old new other h not_done = as_before actor old new (search (rules, delay_leaves))
+replace_alone actor key value old new other h not_done = as_before old new (search (rules, delay_leaves))
 
 pub replace_leaves : (undo : Option Undo) (actor : ℕ) (key value : List ℕ) (old new : Index) (move : Move) → ReplacesWith undo actor key value old new move
-    → move ≢ Done → IsLeft actor old new
+    → move ≢ Done → IsLeft old new
 replace_leaves None actor key value old new move h not_done = replace_alone actor key value old new move h not_done
-replace_leaves (Some undo) actor key value old new NoMemory h not_done = as_before actor old new h
+replace_leaves (Some undo) actor key value old new NoMemory h not_done = as_before old new h
 replace_leaves (Some undo) actor key value old new other h not_done = replace_alone actor key value old new other h not_done
 
 pub replace_with_here : (undo : Option Undo) (actor : ℕ) (key value : List ℕ) (old new : Index) (move : Move)
-    → ReplacesWith undo actor key value old new move → AwaitsHere actor old new
-replace_with_here None actor key value old new Done h = λ by is. inl (sym h.1.awaited ∙ is)
-replace_with_here (Some undo) actor key value old new Done h = λ by is. inl (sym h.1.awaited ∙ is)
+    → ReplacesWith undo actor key value old new move → AwaitsHere old new
+replace_with_here None actor key value old new Done h = λ by is. sym h.1.awaited ∙ is
+replace_with_here (Some undo) actor key value old new Done h = λ by is. sym h.1.awaited ∙ is
 replace_with_here undo actor key value old new other h = (replace_leaves undo actor key value old new other h (λ e. cc)).1
 
 -- where the key was there
@@ -172,72 +203,36 @@ replace_hinders (Some undo) actor key value old new other there h not_done = rep
 -- ---- remove
 
 pub remove_keeps : (actor : ℕ) (key : List ℕ) (old new : Index) (move : Move) → Removes actor key old new move → move ≢ Done → HasStayed old new
-remove_keeps actor key old new (Latch by) h not_done = (as_before actor old new (off_leaves actor by old new h)).0
+remove_keeps actor key old new (Latch by) h not_done = (as_before old new (off_leaves actor by old new h)).0
 remove_keeps actor key old new other h not_done = search (rules, delay_keeps)
+
+pub remove_here : (actor : ℕ) (key : List ℕ) (old new : Index) (move : Move) → Removes actor key old new move → AwaitsHere old new
+remove_here actor key old new Done h = none_here old new h.2.awaited
+remove_here actor key old new End h = none_here old new h.2.awaited
+remove_here actor key old new (Latch by) h = (as_before old new (off_leaves actor by old new h)).1
+remove_here actor key old new other h = (as_before old new (search (rules, delay_leaves))).1
 
 -- ---- who is awaited after the calls of a world's indexes
 
 -- what holds in the index of the call holds of the world
-pub awaits_at : (actor index : ℕ) (step : Index → Index → Type 0) (old new : WorldState) → InIndex index step old new
-    → AwaitsHere actor (old.indexes index) (new.indexes index) → AwaitsAt actor index old new
-awaits_at actor index step old new in_index here = record {
+pub awaits_at : (index : ℕ) (step : Index → Index → Type 0) (old new : WorldState) → InIndex index step old new
+    → AwaitsHere (old.indexes index) (new.indexes index) → AwaitsNoMore old new
+awaits_at index step old new in_index here = record {
   each = λ i by is.
-      ⊎_elim (λ same. ⊎_elim (λ was. inl (rw same was)) (λ mine. inr (mine, same)) (here by (rw same at is)))
-      (λ apart. inl (sym (in_index.elsewhere i apart).awaited ∙ is)) (cases_eq i index);
+      ⊎_elim (λ same. rw same (here by (rw same at is))) (λ apart. sym (in_index.elsewhere i apart).awaited ∙ is) (cases_eq i index);
 }
 
--- two calls of one index
-pub awaits_then : {actor index : ℕ} {old mid new : WorldState} → AwaitsAt actor index old mid → AwaitsAt actor index mid new → AwaitsAt actor index old new
-awaits_then first next = record { each = λ i by is. ⊎_elim (λ was. first.each i by was) (λ mine. inr mine) (next.each i by is) }
-
--- where the index is one of the table
-pub awaits_in : (actor index table : ℕ) (old new : WorldState) → IsOfTable table old.schemas index → AwaitsAt actor index old new → AwaitsIn actor table old new
-awaits_in actor index table old new of_table awaits =
-    record { each = λ i by is. ⊎_elim (λ was. inl was) (λ mine. inr (mine.0, rw mine.1 of_table)) (awaits.each i by is) }
+pub awaits_then : {old mid new : WorldState} → AwaitsNoMore old mid → AwaitsNoMore mid new → AwaitsNoMore old new
+awaits_then first next = record { each = λ i by is. first.each i by (next.each i by is) }
 
 -- no index was called
-pub awaits_same : (actor index : ℕ) (old new : WorldState) → new.indexes ≡ old.indexes → AwaitsAt actor index old new
-awaits_same actor index old new same = record { each = λ i by is. inl (ap (λ (indexes : ℕ → Index). (indexes i).awaited) (sym same) ∙ is) }
-
-pub awaits_none_in : (actor table : ℕ) (state : WorldState) → AwaitsIn actor table state state
-awaits_none_in actor table state = record { each = λ i by is. inl is }
-
-pub clustered_of_table : (table : ℕ) (schemas : List Schema) (schema : Schema) → slice_get schemas table ≡ Some schema
-    → IsOfTable table schemas (clustered_index table)
-clustered_of_table table schemas schema there = record { schema = schema; there = there; which = 0; within = omega arith; number = omega arith }
-
-pub key_of_table : (table which : ℕ) (schemas : List Schema) (schema : Schema) → slice_get schemas table ≡ Some schema
-    → which + 1 ≤ length schema.keys → IsOfTable table schemas (key_index table which)
-key_of_table table which schemas schema there within =
-    record { schema = schema; there = there; which = 1 + which; within = omega arith; number = omega arith }
-
--- the index is that of a key
-pub key_awaits : (actor index which : ℕ) (old new : WorldState) (change : KeysChange) (chains : Chains) (beside : Said)
-    (is : IsChangingKeys chains beside old change)
-    → which < length is.schema.keys → index ≡ key_index change.table which → AwaitsAt actor index old new → AwaitsIn actor change.table old new
-key_awaits actor index which old new change chains beside is within number awaits =
-    awaits_in actor index change.table old new
-    (rw number (key_of_table change.table which old.schemas is.schema is.table.there (omega (arith, within)))) awaits
-
--- the entry that is being put stands in an index of the table
-pub put_awaits : (chains : Chains) (beside : Said) (actor : ℕ) (old new : WorldState) (change : KeysChange) (put : EntryPut) → change.put ≡ Some put
-    → IsChangingKeys chains beside old change → AwaitsAt actor put.index old new → AwaitsIn actor change.table old new
-put_awaits chains beside actor old new change put put_is is awaits =
-    let e = rw put_is at is.put in key_awaits actor put.index change.which old new change chains beside is e.within e.index_is awaits
-
--- a change that is at its record
-pub record_awaits_at : (chains : Chains) (beside : Said) (s : ℕ) (old new : WorldState) (mine : RowChange) (change : RecordChange) (key : List ℕ)
-    (after : Option (List Value)) → mine ≡ Record change key after → IsAtRow s chains beside old mine
-    → AwaitsAt s (clustered_index change.table) old new → AwaitsIn s (table_of mine) old new
-record_awaits_at chains beside s old new mine change key after mine_is is awaits =
-    let holds = rw mine_is at is in
-    rw mine_is (awaits_in s (clustered_index change.table) change.table old new
-    (clustered_of_table change.table old.schemas holds.0.schema holds.0.table.there) awaits)
+pub awaits_same : (old new : WorldState) → new.indexes ≡ old.indexes → AwaitsNoMore old new
+awaits_same old new same = record { each = λ i by is. ap (λ (indexes : ℕ → Index). (indexes i).awaited) (sym same) ∙ is }
 
 -- a record that was put, and then the entry of the history, which calls no index
 pub entered_awaits : (s index : ℕ) (step : Index → Index → Type 0) (old mid new : WorldState) (change : Change) (rows : ℕ) (session : Session) (work : Work)
-    → InIndex index step old mid → AwaitsHere s (old.indexes index) (mid.indexes index) → Enters s change rows session work mid new → AwaitsAt s index old new
+    → InIndex index step old mid → AwaitsHere (old.indexes index) (mid.indexes index) → Enters s change rows session work mid new → AwaitsNoMore old new
 entered_awaits s index step old mid new change rows session work in_index here enters = record {
   each = λ i by is.
-      (awaits_at s index step old mid in_index here).each i by (ap (λ (state : WorldState). (state.indexes i).awaited) (sym enters.rest) ∙ is);
+      (awaits_at index step old mid in_index here).each i by (ap (λ (state : WorldState). (state.indexes i).awaited) (sym enters.rest) ∙ is);
 }

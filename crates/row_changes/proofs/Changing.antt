@@ -31,6 +31,9 @@ use Rattle.row_codec.specs.Rows.{version_code, IsRowOf, IsKeyOf}
 use Rattle.row_changes.proofs.{Ids.one_work}
 use Rattle.row_changes.proofs.Sessions.{one_session, aside_of_stay, same_pairs, same_versions, set_here, set_other, one_found}
 use Rattle.row_changes.proofs.Awaited.{IsLeft, HasStayed, places_if, stays_if, change_stays_if, insert_left, replace_leaves, replace_hinders}
+use Rattle.row_changes.proofs.Awaited.{insert_hinders, insert_waits, puts_if, fetch_keeps, fetch_delays, delay_hinders}
+use Rattle.row_changes.specs.Entries.{GoesOnPutting, HasLooked, PutPhaseHolds, unmarked}
+use Rattle.row_changes.specs.{Pairs.PutsPair, declared.entry_put.PutPhase.PutPhase}
 use Rattle.inno_db.specs.declared.change.Change.{Change}
 use Rattle.law_stored_rows.proofs.Coding.{short_key, short_value}
 use Rattle.key_codec.specs.Keys.{key_width}
@@ -104,10 +107,10 @@ reaches_itself actor index =
 pub at_once : {actor : ℕ} {old new : Index} {why : Move} → AreKept old.pairs new.pairs → Hinders actor old new why → HindersBehind actor old new why
 at_once {actor} {old} kept cause = record { mid = old; reached = reaches_itself actor old; kept = kept; cause = cause }
 
-versions_then : {old mid new : Versions} → Stays old mid → Stays mid new → Stays old new
+pub versions_then : {old mid new : Versions} → Stays old mid → Stays mid new → Stays old new
 versions_then first next = record { told = λ told. first.told (next.told told); kept = λ told. next.kept told ∙ first.kept (next.told told) }
 
-kept_then : (old mid new : Option (List Pair)) → AreKept old mid → AreKept mid new → AreKept old new
+pub kept_then : (old mid new : Option (List Pair)) → AreKept old mid → AreKept mid new → AreKept old new
 kept_then old mid None first next = record {}
 kept_then old None (Some new) first next = absurd next
 kept_then None (Some mid) (Some new) first next = absurd first
@@ -137,6 +140,20 @@ same_rows state =
       rest = refl;
       later = store_stays state.paged;
     }
+
+-- a pair was put behind calls that change nothing
+pub puts_behind : {index : ℕ} {key : List ℕ} {value : Option (List ℕ)} {start mid new : WorldState} → RowsStay start mid → PutsPair index key value mid new
+    → PutsPair index key value start new
+puts_behind {index} {key} {value} {start} {mid} {new} stay puts = record {
+  here = gone_then (λ before after. after ≡ with_value key value before) (start.indexes index).pairs (mid.indexes index).pairs
+      (new.indexes index).pairs (stay.pairs index) puts.here;
+  elsewhere = λ other differs. kept_then (start.indexes other).pairs (mid.indexes other).pairs (new.indexes other).pairs (stay.pairs other)
+      (puts.elsewhere other differs);
+  places = λ other. puts.places other ∙ stay.places other;
+  versions = versions_then stay.versions puts.versions;
+  rest = puts.rest ∙ ap (λ (w : WorldState). record w { indexes = new.indexes; versions = new.versions; paged = new.paged }) stay.rest;
+  later = store_goes_on start.paged mid.paged new.paged stay.later puts.later;
+}
 
 -- ---- the next step of a record that is being changed
 
@@ -472,7 +489,7 @@ module _ {s : ℕ} {old : WorldState} {change : RecordChange} (p : IsChangingRec
   called_stays new undo answer call c differs stayed = stays_if (record { index_is = c.index_is; beside = not_brought undo new answer differs c.beside }) stayed
 
   hindered_by : (new : WorldState) (undo : Undo) (answer : Move) (call : Index → Index → Move → Type 0) → Changes index s (Some undo) call old new answer
-      → answer ≢ moves.Done → IsLeft s (old.indexes index) (new.indexes index) × Hinders s (old.indexes index) (new.indexes index) answer
+      → answer ≢ moves.Done → IsLeft (old.indexes index) (new.indexes index) × Hinders s (old.indexes index) (new.indexes index) answer
       → ChangesRecord s old new change (Hindered change answer)
   hindered_by new undo answer call c differs left =
       hindered s old new change p answer
@@ -595,23 +612,120 @@ module _ {s : ℕ} {start mid : WorldState} {change : RecordChange} (missing : I
   pub insert_hindered : (new : WorldState) (value : List ℕ) (undo : Undo) (answer : Move) → Calling changing_still InsertsWith undo value new answer
       → answer ≢ moves.Done → ChangesRecord s start new change (Hindered change answer)
   insert_hindered new value undo answer c differs =
-      let left = insert_left (Some undo) s change.key value _ _ answer absent_still c.index_is.here differs in
-      hindered_then new answer (called_stays changing_still new undo answer _ c differs left.0.0) left.1
+      let left = insert_left (Some undo) s change.key value _ _ answer c.index_is.here differs in
+      hindered_then new answer (called_stays changing_still new undo answer _ c differs left.0)
+      (insert_hinders (Some undo) s change.key value _ _ answer absent_still c.index_is.here differs)
 
 -- ---- an entry that is being put
 
-pub entry_hindered : (actor : ℕ) (value : List ℕ) (old new : WorldState) (put : EntryPut) (move : Move) → IsPutting old put → put.phase ≡ phases.Insert
-    → Changes put.index actor None (λ before after answer. Inserts actor put.entry value before after answer) old new move → move ≢ moves.Done
-    → PutsEntry actor old new put (reached.Hindered put move)
-entry_hindered actor value old new put move is phase_is call not_done =
-    let absent : IsThere false put.entry (old.indexes put.index) = rw phase_is at is.phase in
-    let left = insert_left None actor put.entry value _ _ move absent call.index_is.here not_done in (
-      refl,
-      change_stays_if call left.0.0,
-      record {
-        index_is = rw (ap (λ (w : WorldState). w.schemas) call.beside.rest) is.index_is;
-        short = is.short;
-        phase = rw phase_is (told_kept _ (old.indexes put.index).pairs _ left.0.0.0 absent);
-      },
-      left.1,
-    )
+phase_kept : (phase : PutPhase) (entry : List ℕ) (old new : Index) → AreKept old.pairs new.pairs → PutPhaseHolds phase entry old
+    → PutPhaseHolds phase entry new
+phase_kept phases.Look entry old new kept holds = record {}
+phase_kept phases.Unmark entry old new kept holds = told_kept _ old.pairs new.pairs kept holds
+
+-- no pair has changed
+putting_kept : {old new : WorldState} {put : EntryPut} → IsPutting old put → RowsStay old new → IsPutting new put
+putting_kept {old} {new} {put} is stay = record {
+  index_is = rw (ap (λ (w : WorldState). w.schemas) stay.rest) is.index_is;
+  short = is.short;
+  phase = phase_kept put.phase put.entry (old.indexes put.index) (new.indexes put.index) (stay.pairs put.index) is.phase;
+}
+
+-- the first call of a step was hindered
+pub put_hindered : (actor : ℕ) (old new : WorldState) (put : EntryPut) (why : Move) → IsPutting old put → RowsStay old new
+    → Hinders actor (old.indexes put.index) (new.indexes put.index) why → PutsEntry actor old new put (reached.Hindered put why)
+put_hindered actor old new put why is stay cause = (refl, stay, putting_kept is stay, at_once (stay.pairs put.index) cause)
+
+pub put_lacks_memory : (actor : ℕ) (state : WorldState) (put : EntryPut) → IsPutting state put
+    → PutsEntry actor state state put (reached.Hindered put moves.NoMemory)
+put_lacks_memory actor state put is = put_hindered actor state state put moves.NoMemory is (same_rows state) (record {})
+
+-- the entry is there, so its mark is taken away next
+found_there : {old new : WorldState} {put : EntryPut} → IsPutting old put → put.phase ≡ phases.Look → RowsStay old new
+    → IsThere true put.entry (new.indexes put.index) → GoesOnPutting old new put (record put { phase = phases.Unmark })
+found_there {old} {new} {put} is phase_is stay there = record {
+  stays = stay;
+  index_is = refl;
+  entry_is = refl;
+  holds = record { index_is = (putting_kept is stay).index_is; short = is.short; phase = there };
+  nears = rw phase_is (omega arith);
+}
+
+module _ (actor : ℕ) (old new : WorldState) (put : EntryPut) (read : List ℕ) (is : IsPutting old put) (phase_is : put.phase ≡ phases.Look) where
+  abbrev Looks : Move → Type 0
+  Looks answer = Calls put.index (λ before after. Fetches actor put.entry read before after answer) old new
+
+  looked_stays : (answer : Move) → Looks answer → RowsStay old new
+  looked_stays answer c = stays_if c (fetch_keeps actor put.entry read (old.indexes put.index) (new.indexes put.index) answer c.index_is.here)
+
+  pub look_found : Looks moves.Done → GoesOnPutting old new put (record put { phase = phases.Unmark })
+  look_found c =
+      let stay = looked_stays moves.Done c in
+      found_there is phase_is stay (told_kept _ (old.indexes put.index).pairs (new.indexes put.index).pairs (stay.pairs put.index)
+      (told_only _ _ (old.indexes put.index).pairs c.index_is.here.0 (λ pairs found. ap is_some found)))
+
+  -- the entry isn't there: it is put by a second call of the step
+  pub look_none : IsAtHand new → Looks moves.End → HasLooked actor put old new
+  look_none hand c = record {
+    putting = is;
+    phase_is = phase_is;
+    stays = looked_stays moves.End c;
+    reached = record {
+      pairs = c.index_is.here.1.pairs;
+      place = c.index_is.here.1.place;
+      awaited = λ by awaits. inl (sym c.index_is.here.1.awaited ∙ awaits);
+      later = c.index_is.later;
+      at_hand = λ were. hand.indexes put.index;
+    };
+  }
+
+  pub look_hindered : (answer : Move) → Looks answer → answer ≢ moves.Done → answer ≢ moves.End → PutsEntry actor old new put (reached.Hindered put answer)
+  look_hindered answer c not_done not_end =
+      put_hindered actor old new put answer is (looked_stays answer c)
+      (delay_hinders _ _ _ _ (fetch_delays _ _ _ _ _ _ c.index_is.here not_done not_end))
+
+-- an entry of which nothing is known is inserted
+module _ {actor : ℕ} {start mid : WorldState} {put : EntryPut} (looked : HasLooked actor put start mid) where
+  abbrev Inserting : List ℕ → WorldState → Move → Type 0
+  Inserting value new answer = Changes put.index actor None (λ before after answer. Inserts actor put.entry value before after answer) mid new answer
+
+  pub put_index : IsIndex mid.schemas put.index
+  put_index = (putting_kept looked.putting looked.stays).index_is
+
+  pub put_inserted : (value : List ℕ) (new : WorldState) → value ≡ unmarked → Inserting value new moves.Done
+      → PutsPair put.index put.entry (Some unmarked) start new
+  put_inserted value new value_is c =
+      puts_behind looked.stays (rw value_is at (puts_if put.entry (Some value) c c.index_is.here.2))
+
+  insert_stays : (value : List ℕ) (new : WorldState) (answer : Move) → Inserting value new answer → answer ≢ moves.Done → RowsStay mid new
+  insert_stays value new answer c differs =
+      change_stays_if c (insert_left None actor put.entry value _ _ answer c.index_is.here differs).0
+
+  -- it was there after all
+  pub put_there : (value there kept : List ℕ) (new : WorldState) → Inserting value new (moves.At there kept)
+      → GoesOnPutting start new put (record put { phase = phases.Unmark })
+  put_there value there kept new c =
+      let stay = insert_stays value new (moves.At there kept) c (λ e. cc) in
+      found_there looked.putting looked.phase_is (stays_then looked.stays stay)
+      (told_kept _ (mid.indexes put.index).pairs (new.indexes put.index).pairs (stay.pairs put.index)
+      (told_only _ _ (mid.indexes put.index).pairs c.index_is.here.2 (λ pairs found. ap is_some found)))
+
+  -- what hindered a call that came behind hinders the step
+  pub put_hindered_then : (new : WorldState) (why : Move) → RowsStay mid new → Hinders actor (mid.indexes put.index) (new.indexes put.index) why
+      → PutsEntry actor start new put (reached.Hindered put why)
+  put_hindered_then new why stay cause =
+      let all = stays_then looked.stays stay in (
+        refl,
+        all,
+        putting_kept looked.putting all,
+        record { mid = mid.indexes put.index; reached = looked.reached; kept = stay.pairs put.index; cause = cause },
+      )
+
+  pub put_lacks_then : PutsEntry actor start mid put (reached.Hindered put moves.NoMemory)
+  put_lacks_then = put_hindered_then mid moves.NoMemory (same_rows mid) (record {})
+
+  pub put_insert_hindered : (value : List ℕ) (new : WorldState) (answer : Move) → Inserting value new answer → answer ≢ moves.Done
+      → ((there kept : List ℕ) → answer ≢ moves.At there kept) → PutsEntry actor start new put (reached.Hindered put answer)
+  put_insert_hindered value new answer c not_done not_at =
+      put_hindered_then new answer (insert_stays value new answer c not_done)
+      (insert_waits actor put.entry value _ _ answer c.index_is.here not_done not_at)

@@ -20,7 +20,7 @@ use Rattle.law_stored_rows.specs.Steps.{PutsEntry as PutsStored}
 use Rattle.row_changes.specs.{Told.HasRowsAt, Told.AreRowsAs, Edits.IsRowFor, declared.entry_put.PutPhase.PutPhase}
 use Rattle.row_changes.specs.declared.entry_put.PutPhase.TheVariants.{Look}
 use Rattle.row_changes.specs.{declared.entry_put.EntryPut.EntryPut, declared.keys_change.KeysChange.KeysChange, declared.key_entries.KeyEntries.KeyEntries}
-use Rattle.row_changes.specs.{Reached.Hindered, Pairs.Hinders, Pairs.RowsStay, Pairs.PutsPair}
+use Rattle.row_changes.specs.{Reached.Hindered, Pairs.HindersBehind, Pairs.RowsStay, Pairs.PutsPair}
 use Rattle.row_changes.specs.Keys.{StaysBesideKeys, gone, SaySoFar, said_next, keys_next, without_row, keys_steps, HasRowsSoFar, ChangesKeys, IsEntering}
 use Rattle.row_changes.specs.Keys.{IsChangingKeys, GoesOnWithKeys, value_stays, AreEntries, StayBetween, IsEntryIn, IsEntryFor, IsEntryAt, ChangesItsEntry}
 use Rattle.row_changes.specs.Entries.{marked, unmarked, PutsEntry, GoesOnPutting, HindersEntry, put_steps}
@@ -29,7 +29,7 @@ use Rattle.law_stored_rows.proofs.{Coding.short_entries, FittingValues.at_or}
 use Rattle.law_stored_rows.proofs.Steps.{old_marked, new_put, first_put}
 use Rattle.law_stored_rows.proofs.{Coding.value_in-kind, Keys.now_says, Keys.others_say, Keys.lag_says, Keys.said_alike, Keys.change_over}
 use Rattle.law_stored_rows.proofs.Entries.{holds_said, is_unmarked, value_again, without_row as tells_no_row}
-use Rattle.row_changes.proofs.{Sessions.one_found, Pushed.at_primary, Pushed.plain, Pushed.code_of, Pushed.table_kept}
+use Rattle.row_changes.proofs.{Changing.at_once, Changing.same_rows, Sessions.one_found, Pushed.at_primary, Pushed.plain, Pushed.code_of, Pushed.table_kept}
 use Rattle.row_changes.proofs.Telling.{tells, stays_told, rows_again, rows_at, coded_again, put_told, put_pairs}
 use Rattle.world.specs.{State.IsIndex, State.WorldState, Told.pairs_of, Told.IsTold}
 use Rattle.store_api.specs.declared.moves.Move.TheVariants as moves
@@ -125,6 +125,20 @@ some_key schema which within = ⊎_elim (λ found. (found.0, found.2)) (λ none.
 some_step : (phase : PutPhase) → 0 < put_steps phase
 some_step Look = omega arith
 some_step other = omega arith
+
+-- memory was lacking before a call
+pub lacks_memory_now : (actor : ℕ) (chains : Chains) (beside : Said) (state : WorldState) (change : KeysChange) → IsChangingKeys chains beside state change
+    → ChangesKeys actor chains beside state state change (Hindered change moves.NoMemory)
+lacks_memory_now actor chains beside state change p = (
+  refl,
+  same_rows state,
+  p,
+  record {
+    which = change.which;
+    from = omega arith;
+    cause = inl (at_once ((same_rows state).pairs (key_index change.table change.which)) (record {}));
+  },
+)
 
 -- an entry of a row is short
 short_entry : (schema : Schema) (which : ℕ) (row : Option (List Value)) (primary entry : List ℕ) → IsStorable schema
@@ -352,17 +366,17 @@ module _ (chains : Chains) (beside : Said) (old new : WorldState) (change : Keys
             ap (λ (k : List ℕ). value_of k (pairs_of old (key_index change.table entries.which))) code
             ∙ holds_said (keyed.marks p.value value (subst (λ (c : Column). HasKey c.kind p.value) primary p.at.has_key) has) (ap is_some said) ∙ said
 
-    mark_cause : (actor : ℕ) (why : Move) → HindersEntry actor entry (old.indexes (key_index change.table entries.which)) (new.indexes
-        (key_index change.table entries.which)) why → Hinders actor (old.indexes (key_index change.table entries.which))
+    mark_cause : (actor : ℕ) (why : Move) → RowsStay old new → HindersEntry actor entry (old.indexes (key_index change.table entries.which)) (new.indexes
+        (key_index change.table entries.which)) why → HindersBehind actor (old.indexes (key_index change.table entries.which))
         (new.indexes (key_index change.table entries.which)) why ⊎ ((why ≡ moves.End) × (IsTold old → ⊥))
-    mark_cause actor moves.End lacks = inr (
+    mark_cause actor moves.End stay lacks = inr (
       refl,
       λ told.
           let index = key_index change.table entries.which in
           let gone = tells (λ pairs. value_of entry pairs ≡ None) (old.indexes index).pairs lacks (told.pairs index) in
           let there = old_there told in cc,
     )
-    mark_cause actor other call = inl call
+    mark_cause actor other stay call = inl (at_once (stay.pairs (key_index change.table entries.which)) call)
 
     pub mark_hindered : (actor index : ℕ) (why : Move) → index ≡ key_index change.table entries.which → RowsStay old new
         → HindersEntry actor entry (old.indexes index) (new.indexes index) why → ChangesKeys actor chains beside old new change (Hindered change why)
@@ -370,7 +384,7 @@ module _ (chains : Chains) (beside : Said) (old new : WorldState) (change : Keys
       refl,
       stay,
       changing_kept stay (rw none (record {})),
-      record { which = entries.which; from = all.first.from_there; cause = mark_cause actor why (rw is at because) },
+      record { which = entries.which; from = all.first.from_there; cause = mark_cause actor why stay (rw is at because) },
     )
 
   waiting_steps : change.put ≡ None → keys_steps (keys - change.which) change.put ≡ 4 * (keys - change.which)

@@ -1,12 +1,12 @@
 -- What is known of a change of one entry between its steps, and what each step does.
-use Rattle.std.specs.Prelude.{◌≡◌, ℕ, ◌<◌, ◌≤◌, Bool, true, false, List, [], ◌∷◌, length, None, Some, is_some, Result, Ok, Err}
+use Rattle.std.specs.Prelude.{◌≡◌, ℕ, ◌<◌, ◌≤◌, Bool, true, List, [], ◌∷◌, length, None, Some, is_some, Result, Ok, Err}
 use Rattle.store_api.specs.{declared.moves.Move.Move, declared.moves.Move.TheVariants.End}
 use Rattle.entries.specs.{Pairs.value_of, Index.Index, Index.Told}
 use Rattle.world.specs.State.{WorldState, IsIndex}
 use Rattle.row_changes.specs.{Reached.Reached, declared.entry_put.EntryPut.EntryPut, declared.entry_put.PutPhase.PutPhase}
-use Rattle.row_changes.specs.{declared.entry_mark.EntryMark.EntryMark, Pairs.RowsStay, Pairs.PutsPair, Pairs.Hinders}
+use Rattle.row_changes.specs.{declared.entry_mark.EntryMark.EntryMark, Pairs.RowsStay, Pairs.PutsPair, Pairs.Hinders, Pairs.HindersBehind, Pairs.IsReached}
 use Rattle.row_changes.specs.Reached.{Went, Done, Hindered}
-use Rattle.row_changes.specs.declared.entry_put.PutPhase.TheVariants.{Look, Unmark, Insert}
+use Rattle.row_changes.specs.declared.entry_put.PutPhase.TheVariants.{Look, Unmark}
 
 -- the value of an entry is its mark
 abbrev pub unmarked : List ℕ
@@ -22,7 +22,6 @@ IsThere there entry index = Told (λ pairs. is_some (value_of entry pairs) ≡ t
 abbrev pub PutPhaseHolds : PutPhase → List ℕ → Index → Type 0
 PutPhaseHolds Look entry index = Unit {0}
 PutPhaseHolds Unmark entry index = IsThere true entry index
-PutPhaseHolds Insert entry index = IsThere false entry index
 
 pub record IsPutting (state : WorldState) (put : EntryPut) : Type 0 where
   pub index_is : IsIndex state.schemas put.index
@@ -33,7 +32,6 @@ pub record IsPutting (state : WorldState) (put : EntryPut) : Type 0 where
 abbrev pub put_steps : PutPhase → ℕ
 put_steps Look = 2
 put_steps Unmark = 1
-put_steps Insert = 1
 
 -- the same entry, some steps nearer
 pub record GoesOnPutting (old new : WorldState) (put next : EntryPut) : Type 0 where
@@ -47,7 +45,15 @@ abbrev pub PutsEntry : ℕ → WorldState → WorldState → EntryPut → Reache
 PutsEntry actor old new put (Went next) = GoesOnPutting old new put next
 PutsEntry actor old new put Done = PutsPair put.index put.entry (Some unmarked) old new
 PutsEntry actor old new put (Hindered same why) =
-    (same ≡ put) × RowsStay old new × IsPutting new put × Hinders actor (old.indexes put.index) (new.indexes put.index) why
+    (same ≡ put) × RowsStay old new × IsPutting new put × HindersBehind actor (old.indexes put.index) (new.indexes put.index) why
+
+-- The step has begun at one world with a look for the entry, and is at another by calls that change nothing. Of the entry nothing is claimed:
+-- the call that is to put it tells whether it is there.
+pub record HasLooked (actor : ℕ) (put : EntryPut) (start state : WorldState) : Type 0 where
+  pub putting : IsPutting start put
+  pub phase_is : put.phase ≡ Look
+  pub stays : RowsStay start state
+  pub reached : IsReached actor (start.indexes put.index) (state.indexes put.index)
 
 -- ---- marking
 

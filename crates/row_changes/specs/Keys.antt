@@ -5,7 +5,7 @@ use Rattle.key_codec.specs.Keys.{HasEntry, entry_code}
 use Rattle.law_stored_rows.specs.{Entries.value_in, Entries.is_same_value, Edits.clustered_index, Edits.key_index, Tables.Said, Tables.SayTheSameBut}
 use Rattle.row_changes.specs.{declared.key_entries.KeyEntries.KeyEntries, declared.entry_put.EntryPut.EntryPut, declared.entry_put.PutPhase.TheVariants.Look}
 use Rattle.row_changes.specs.{declared.keys_change.KeysChange.KeysChange, Reached.Reached, Pairs.RowsStay, Pairs.PutsPair, Entries.IsPutting}
-use Rattle.row_changes.specs.{Entries.put_steps, Pairs.Hinders, Edits.IsRowFor, Edits.IsKeyAt, Records.IsTable, Told.AreRowsAs, Told.HasRowsAt}
+use Rattle.row_changes.specs.{Entries.put_steps, Pairs.HindersBehind, Edits.IsRowFor, Edits.IsKeyAt, Records.IsTable, Told.AreRowsAs, Told.HasRowsAt}
 use Rattle.row_changes.specs.Reached.{Went, Done, Hindered}
 use Rattle.store_api.specs.{declared.moves.Move.Move, declared.moves.Move.TheVariants.End}
 use Rattle.entries.specs.Index.{AreKept}
@@ -171,7 +171,7 @@ pub record GoesOnWithKeys (chains : Chains) (beside : Said) (old new : WorldStat
 pub record HindersKeys (actor : ℕ) (old new : WorldState) (change : KeysChange) (why : Move) : Type 0 where
   pub which : ℕ
   pub from : change.which ≤ which
-  pub cause : Hinders actor (old.indexes (key_index change.table which)) (new.indexes (key_index change.table which)) why
+  pub cause : HindersBehind actor (old.indexes (key_index change.table which)) (new.indexes (key_index change.table which)) why
       ⊎ ((why ≡ End) × (IsTold old → ⊥))
 
 abbrev pub ChangesKeys : ℕ → Chains → Said → WorldState → WorldState → KeysChange → Reached KeysChange → Type 0

@@ -15,6 +15,14 @@ pub record RowsStay (old new : WorldState) : Type 0 where
   pub rest : new ≡ record old { indexes = new.indexes; versions = new.versions; paged = new.paged }
   pub later : StoreGoes old.paged new.paged
 
+-- No pair has changed anywhere, and no place but this actor's: it may have left an index.
+pub record RowsStayBut (actor : ℕ) (old new : WorldState) : Type 0 where
+  pub pairs : (index : ℕ) → AreKept (old.indexes index).pairs (new.indexes index).pairs
+  pub places : (index other : ℕ) → other ≢ actor → (new.indexes index).place other ≡ (old.indexes index).place other
+  pub versions : Stays old.versions new.versions
+  pub rest : new ≡ record old { indexes = new.indexes; versions = new.versions; paged = new.paged }
+  pub later : StoreGoes old.paged new.paged
+
 -- At one index the key has this value now, or none; no other pair has changed, and no actor's place.
 pub record PutsPair (index : ℕ) (key : List ℕ) (value : Option (List ℕ)) (old new : WorldState) : Type 0 where
   pub here : Goes (λ before after. after ≡ with_value key value before) (old.indexes index).pairs (new.indexes index).pairs

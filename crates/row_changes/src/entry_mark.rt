@@ -3,7 +3,7 @@
 
 ghost use Rattle.std.specs.Prelude.{◌≡◌};
 ghost use Rattle.row_changes.specs.Entries.{IsMarking, MarksEntry};
-ghost use Rattle.row_changes.specs.Awaited.{AwaitsAt};
+ghost use Rattle.row_changes.specs.Awaited.{AwaitsNoMore};
 
 use inno_types::Bytes;
 use std::alloc::Global;
@@ -22,7 +22,7 @@ impl EntryMark {
     pub fn step<W: World>(&self, alloc: Global, world: &mut W, actor: u32) -> Result<(), Move>
         requires { IsMarking (W.state world.old) self.now }
         ensures marks { MarksEntry actor (W.state world.old) (W.state world.new) self.now result }
-        ensures awaits { AwaitsAt actor self.now.index (W.state world.old) (W.state world.new) }
+        ensures awaits { AwaitsNoMore (W.state world.old) (W.state world.new) }
     {
         let Ok(value) = vec![in alloc; Mark::Marked as u8] else {
             return Err(Move::NoMemory);

@@ -2,25 +2,24 @@
 //! `keys_change` alone makes one, keeps it between its steps, and drives it to its end.
 
 ghost use Rattle.std.specs.Prelude.{◌≡◌};
-ghost use Rattle.row_changes.specs.Entries.{IsPutting, PutsEntry};
-ghost use Rattle.row_changes.specs.Awaited.{AwaitsAt};
+ghost use Rattle.world.specs.State.{WorldState};
+ghost use Rattle.row_changes.specs.Entries.{IsPutting, PutsEntry, HasLooked};
+ghost use Rattle.row_changes.specs.Awaited.{AwaitsNoMore};
 ghost use Rattle.store_api.specs.declared.stepped.Stepped.TheVariants.{Went};
 ghost use Rattle.row_changes.specs.InPlace.{reached_at};
 
 use inno_types::Bytes;
 use std::alloc::Global;
 use store_api::{MOST_BYTES_OF_VALUE, Mark, Move, Stepped};
-use world::World;
+use world::{EngineWorld, World};
 
 /// What is done next.
 #[derive(Clone, Copy)]
 pub enum PutPhase {
-    /// See whether the entry is there.
+    /// See whether the entry is there, and insert it where it isn't.
     Look,
     /// It is there, perhaps marked.
     Unmark,
-    /// It isn't there.
-    Insert,
 }
 
 /// An entry that is being put.
@@ -42,31 +41,42 @@ impl EntryPut {
         }
     }
 
-    /// One step. It asks that nobody else puts or removes this entry between the steps.
-    pub fn step<W: World>(&mut self, alloc: Global, world: &mut W, actor: u32) -> Stepped<(), Move>
+    /// One step. That the entry isn't there is known within a step alone, so it may come between two steps; that it is there asks that
+    /// nobody else removes it then.
+    pub fn step<W: EngineWorld>(
+        &mut self,
+        alloc: Global,
+        world: &mut W,
+        actor: u32,
+    ) -> Stepped<(), Move>
         requires { IsPutting (W.state world.old) self.old }
         ensures puts { PutsEntry actor (W.state world.old) (W.state world.new) self.old (reached_at self.new result) }
-        ensures awaits { AwaitsAt actor self.old.index (W.state world.old) (W.state world.new) }
+        ensures awaits { AwaitsNoMore (W.state world.old) (W.state world.new) }
     {
         match self.phase {
             PutPhase::Look => self.look(alloc, world, actor),
             PutPhase::Unmark => self.unmark(alloc, world, actor),
-            PutPhase::Insert => self.insert(alloc, world, actor),
         }
     }
 
-    fn look<W: World>(&mut self, alloc: Global, world: &mut W, actor: u32) -> Stepped<(), Move>
+    /// An entry that isn't there is inserted in the same step, by a second call, which the world doesn't put off either.
+    fn look<W: EngineWorld>(
+        &mut self,
+        alloc: Global,
+        world: &mut W,
+        actor: u32,
+    ) -> Stepped<(), Move>
         requires putting { IsPutting (W.state world.old) self.old }
         requires phase { self.old.phase ≡ PutPhase.Look }
         ensures puts { PutsEntry actor (W.state world.old) (W.state world.new) self.old (reached_at self.new result) }
-        ensures awaits { AwaitsAt actor self.old.index (W.state world.old) (W.state world.new) }
+        ensures awaits { AwaitsNoMore (W.state world.old) (W.state world.new) }
     {
         let Ok(mut mark) = Vec::with_capacity(alloc, MOST_BYTES_OF_VALUE) else {
             return Stepped::Hindered(Move::NoMemory);
         };
         match world.fetch(self.index, actor, &self.entry, &mut mark) {
             Move::Done => self.then(PutPhase::Unmark),
-            Move::End => self.then(PutPhase::Insert),
+            Move::End => self.insert(alloc, world, actor),
             hindrance => Stepped::Hindered(hindrance),
         }
     }
@@ -83,7 +93,7 @@ impl EntryPut {
         requires putting { IsPutting (W.state world.old) self.old }
         requires phase { self.old.phase ≡ PutPhase.Unmark }
         ensures puts { PutsEntry actor (W.state world.old) (W.state world.new) self.old (reached_at self.new result) }
-        ensures awaits { AwaitsAt actor self.old.index (W.state world.old) (W.state world.new) }
+        ensures awaits { AwaitsNoMore (W.state world.old) (W.state world.new) }
     {
         let Ok(value) = vec![in alloc; Mark::Unmarked as u8] else {
             return Stepped::Hindered(Move::NoMemory);
@@ -100,11 +110,11 @@ impl EntryPut {
         }
     }
 
+    /// Where the entry is there after all, the step ends as one that has found it.
     fn insert<W: World>(&mut self, alloc: Global, world: &mut W, actor: u32) -> Stepped<(), Move>
-        requires putting { IsPutting (W.state world.old) self.old }
-        requires phase { self.old.phase ≡ PutPhase.Insert }
-        ensures puts { PutsEntry actor (W.state world.old) (W.state world.new) self.old (reached_at self.new result) }
-        ensures awaits { AwaitsAt actor self.old.index (W.state world.old) (W.state world.new) }
+        requires looked { (start : WorldState) × HasLooked actor self.old start (W.state world.old) }
+        ensures puts { (start : WorldState) → HasLooked actor self.old start (W.state world.old) → PutsEntry actor start (W.state world.new) self.old (reached_at self.new result) }
+        ensures awaits { AwaitsNoMore (W.state world.old) (W.state world.new) }
     {
         let Ok(value) = vec![in alloc; Mark::Unmarked as u8] else {
             return Stepped::Hindered(Move::NoMemory);
@@ -117,6 +127,7 @@ impl EntryPut {
             None,
         ) {
             Move::Done => Stepped::Done(()),
+            Move::At(..) => self.then(PutPhase::Unmark),
             hindrance => Stepped::Hindered(hindrance),
         }
     }

@@ -6,7 +6,7 @@ ghost use Rattle.inno_types.specs.declared.value.Schema.{Schema};
 ghost use Rattle.row_versions.specs.Chains.{Chains};
 ghost use Rattle.law_stored_rows.specs.{Edits.key_index, Tables.Said};
 ghost use Rattle.row_changes.specs.Keys.{StayBetween, AreEntries};
-ghost use Rattle.row_changes.specs.Awaited.{AwaitsIn};
+ghost use Rattle.row_changes.specs.Awaited.{AwaitsNoMore};
 ghost use Rattle.row_changes.specs.Keys.{IsChangingKeys, ChangesKeys, keys_next};
 ghost use Rattle.row_changes.specs.Reached.{Went};
 ghost use Rattle.row_changes.specs.InPlace.{reached_at};
@@ -17,7 +17,7 @@ use crate::key_entries::{KeyEntries, index_of_key, next_entries};
 use inno_types::{Bytes, Row};
 use std::alloc::Global;
 use store_api::{Move, NoMemory, Stepped};
-use world::World;
+use world::{EngineWorld, World};
 
 /// A change of a row that the keys of its table are taking over.
 #[derive(Drop)]
@@ -38,7 +38,7 @@ pub struct KeysChange {
 impl KeysChange {
     /// One step. Between the steps others may change other rows, and what keys say of those. It asks that nobody else changes
     /// this row.
-    pub fn advance<W: World>(
+    pub fn advance<W: EngineWorld>(
         &mut self,
         alloc: Global,
         world: &mut W,
@@ -46,7 +46,7 @@ impl KeysChange {
     ) -> Stepped<(), Move>
         requires { (chains : Chains) × (beside : Said) × IsChangingKeys chains beside (W.state world.old) self.old }
         ensures changes { (chains : Chains) (beside : Said) → IsChangingKeys chains beside (W.state world.old) self.old → ChangesKeys actor chains beside (W.state world.old) (W.state world.new) self.old (reached_at self.new result) }
-        ensures awaits { AwaitsIn actor self.old.table (W.state world.old) (W.state world.new) }
+        ensures awaits { AwaitsNoMore (W.state world.old) (W.state world.new) }
     {
         let Some(put) = &mut self.put else {
             return self.pass(alloc, world, actor);
@@ -67,7 +67,7 @@ impl KeysChange {
         requires changing { (chains : Chains) × (beside : Said) × IsChangingKeys chains beside (W.state world.old) self.old }
         requires none { self.old.put ≡ None }
         ensures changes { (chains : Chains) (beside : Said) → IsChangingKeys chains beside (W.state world.old) self.old → ChangesKeys actor chains beside (W.state world.old) (W.state world.new) self.old (reached_at self.new result) }
-        ensures awaits { AwaitsIn actor self.old.table (W.state world.old) (W.state world.new) }
+        ensures awaits { AwaitsNoMore (W.state world.old) (W.state world.new) }
     {
         match self.entries(alloc, world) {
             Ok(Some(entries)) => self.take_over(entries, alloc, world, actor),
@@ -106,7 +106,7 @@ impl KeysChange {
         requires none { self.old.put ≡ None }
         requires entries { (schema : Schema) → slice_get (W.state world.old).schemas self.old.table ≡ Some schema → AreEntries schema self.old.which self.old.before self.old.after self.old.key entries }
         ensures changes { (chains : Chains) (beside : Said) → IsChangingKeys chains beside (W.state world.old) self.old → ChangesKeys actor chains beside (W.state world.old) (W.state world.new) self.old (reached_at self.new result) }
-        ensures awaits { AwaitsIn actor self.old.table (W.state world.old) (W.state world.new) }
+        ensures awaits { AwaitsNoMore (W.state world.old) (W.state world.new) }
     {
         let KeyEntries { which, old, new } = entries;
         let index = index_of_key(self.table, which);
@@ -130,7 +130,7 @@ impl KeysChange {
         requires index { mark.index ≡ key_index self.old.table which }
         requires entries { (schema : Schema) → slice_get (W.state world.old).schemas self.old.table ≡ Some schema → AreEntries schema self.old.which self.old.before self.old.after self.old.key (record { which = which; old = Some mark.entry; new = new }) }
         ensures changes { (chains : Chains) (beside : Said) → IsChangingKeys chains beside (W.state world.old) self.old → ChangesKeys actor chains beside (W.state world.old) (W.state world.new) self.old (reached_at self.new result) }
-        ensures awaits { AwaitsIn actor self.old.table (W.state world.old) (W.state world.new) }
+        ensures awaits { AwaitsNoMore (W.state world.old) (W.state world.new) }
     {
         let index = mark.index;
         match mark.step(alloc, world, actor) {

@@ -10,7 +10,7 @@ ghost use Rattle.law_stored_rows.specs.Edits.{clustered_index};
 ghost use Rattle.law_stored_rows.specs.Records.{row_shown};
 ghost use Rattle.row_changes.specs.Edits.{version_by, IsPut};
 ghost use Rattle.row_changes.specs.Records.{IsChangingRecord, ChangesRecord, MayMake, when_found, row_found, undo_of_former, id_for, IsMissing};
-ghost use Rattle.row_changes.specs.Awaited.{AwaitsAt};
+ghost use Rattle.row_changes.specs.Awaited.{AwaitsNoMore};
 ghost use Rattle.row_changes.specs.InPlace.{record_reached};
 ghost use Rattle.row_changes.specs.RecordReached.{Went};
 
@@ -60,7 +60,7 @@ impl RecordChange {
     ) -> Stepped<Option<Row>, Move>
         requires { IsChangingRecord s (W.state world.old) self.old }
         ensures changes { ChangesRecord s (W.state world.old) (W.state world.new) self.old (record_reached self.new result) }
-        ensures awaits { AwaitsAt s (clustered_index self.old.table) (W.state world.old) (W.state world.new) }
+        ensures awaits { AwaitsNoMore (W.state world.old) (W.state world.new) }
     {
         match &self.stage {
             RecordStage::Enter => self.enter(world, s),
@@ -87,7 +87,7 @@ impl RecordChange {
         requires changing { IsChangingRecord s (W.state world.old) self.old }
         requires stage { self.old.stage ≡ RecordStage.Enter }
         ensures changes { ChangesRecord s (W.state world.old) (W.state world.new) self.old (record_reached self.new result) }
-        ensures awaits { AwaitsAt s (clustered_index self.old.table) (W.state world.old) (W.state world.new) }
+        ensures awaits { AwaitsNoMore (W.state world.old) (W.state world.new) }
     {
         match world.event_room(s) {
             Ok(()) => self.then(RecordStage::Room),
@@ -99,7 +99,7 @@ impl RecordChange {
         requires changing { IsChangingRecord s (W.state world.old) self.old }
         requires stage { self.old.stage ≡ RecordStage.Room }
         ensures changes { ChangesRecord s (W.state world.old) (W.state world.new) self.old (record_reached self.new result) }
-        ensures awaits { AwaitsAt s (clustered_index self.old.table) (W.state world.old) (W.state world.new) }
+        ensures awaits { AwaitsNoMore (W.state world.old) (W.state world.new) }
     {
         match world.undo_room(s, MOST_UNDO_BYTES) {
             Move::Done => self.then(RecordStage::Find),
@@ -117,7 +117,7 @@ impl RecordChange {
         requires changing { IsChangingRecord s (W.state world.old) self.old }
         requires stage { self.old.stage ≡ RecordStage.Find }
         ensures changes { ChangesRecord s (W.state world.old) (W.state world.new) self.old (record_reached self.new result) }
-        ensures awaits { AwaitsAt s (clustered_index self.old.table) (W.state world.old) (W.state world.new) }
+        ensures awaits { AwaitsNoMore (W.state world.old) (W.state world.new) }
     {
         let Ok(mut value) = Vec::with_capacity(alloc, MOST_BYTES_OF_VALUE) else {
             return Stepped::Hindered(Move::NoMemory);
@@ -141,7 +141,7 @@ impl RecordChange {
     ) -> Stepped<Option<Row>, Move>
         requires missing { (start : WorldState) × IsMissing s self.old start (W.state world.old) }
         ensures changes { (start : WorldState) → IsMissing s self.old start (W.state world.old) → ChangesRecord s start (W.state world.new) self.old (record_reached self.new result) }
-        ensures awaits { AwaitsAt s (clustered_index self.old.table) (W.state world.old) (W.state world.new) }
+        ensures awaits { AwaitsNoMore (W.state world.old) (W.state world.new) }
     {
         match &self.edit {
             RowEdit::Put(_) => self.insert(alloc, world, s),
@@ -170,7 +170,7 @@ impl RecordChange {
         requires missing { (start : WorldState) × IsMissing s self.old start (W.state world.old) }
         requires put { IsPut self.old.edit }
         ensures changes { (start : WorldState) → IsMissing s self.old start (W.state world.old) → ChangesRecord s start (W.state world.new) self.old (record_reached self.new result) }
-        ensures awaits { AwaitsAt s (clustered_index self.old.table) (W.state world.old) (W.state world.new) }
+        ensures awaits { AwaitsNoMore (W.state world.old) (W.state world.new) }
     {
         let Ok(value) = self.value(alloc, world, s, 0) else {
             return Stepped::Hindered(Move::NoMemory);
@@ -198,7 +198,7 @@ impl RecordChange {
         requires changing { IsChangingRecord s (W.state world.old) self.old }
         requires stage { (before : Version) × (bytes : List ℕ) × (self.old.stage ≡ RecordStage.Replace before bytes) }
         ensures changes { ChangesRecord s (W.state world.old) (W.state world.new) self.old (record_reached self.new result) }
-        ensures awaits { AwaitsAt s (clustered_index self.old.table) (W.state world.old) (W.state world.new) }
+        ensures awaits { AwaitsNoMore (W.state world.old) (W.state world.new) }
     {
         let pointer = world.next_pointer(s);
         let Ok(value) = self.value(alloc, world, s, pointer) else {

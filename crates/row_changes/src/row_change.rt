@@ -4,9 +4,9 @@
 ghost use Rattle.std.specs.Prelude.{◌≡◌, None, IfOk};
 ghost use Rattle.row_versions.specs.Chains.{Chains};
 ghost use Rattle.law_stored_rows.specs.Tables.{Said};
-ghost use Rattle.row_changes.specs.Awaited.{AwaitsIn};
+ghost use Rattle.row_changes.specs.Awaited.{AwaitsNoMore};
 ghost use Rattle.row_changes.specs.InPlace.{reached_at};
-ghost use Rattle.row_changes.specs.Rows.{IsAtRow, MakesRow, row_after, table_of};
+ghost use Rattle.row_changes.specs.Rows.{IsAtRow, MakesRow, row_after};
 
 use crate::keys_change::KeysChange;
 use crate::record_change::{RecordChange, RecordStage};
@@ -51,7 +51,7 @@ impl RowChange {
     ) -> Stepped<(), Move>
         requires { (chains : Chains) × (beside : Said) × IsAtRow s chains beside (W.state world.old) self.old }
         ensures makes { (chains : Chains) (beside : Said) → IsAtRow s chains beside (W.state world.old) self.old → MakesRow s chains beside (W.state world.old) (W.state world.new) self.old (reached_at self.new result) }
-        ensures awaits { AwaitsIn s (table_of self.old) (W.state world.old) (W.state world.new) }
+        ensures awaits { AwaitsNoMore (W.state world.old) (W.state world.new) }
     {
         match self {
             RowChange::Record(change, key, after) => {

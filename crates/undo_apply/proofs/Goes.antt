@@ -22,22 +22,24 @@ use Rattle.law_stored_rows.proofs.KeptRows.{found_of}
 use Rattle.undo_apply.specs.{declared.work_room.WorkRoom.WorkRoom, declared.work_room.Stage.Stage, Rooms.IsWhole, Rooms.steps_left, Told.Rows, Told.rows_of}
 use Rattle.undo_apply.specs.Standing.{column_of, some_has, AreCodedBut, TellsOf, had_row, versions_before, IsCleared, IsUnderWay, IsLagging}
 use Rattle.undo_apply.specs.Standing.{LeadsBack, was_before, IsTakenBack}
-use Rattle.undo_apply.specs.Stages.{FitsKeys, StageHolds, IsPuttingBack, ChangesOneEntry, Nears, StopsAt, IsHindered, PutsBack, Stops, LagsAt, StopsWalk}
+use Rattle.undo_apply.specs.Stages.{FitsKeys, StageHolds, IsPuttingBack, ChangesOneEntry, Nears, StopsAt, IsHindered, PutsBack, Stops, StopsRemoval, LagsAt}
+use Rattle.undo_apply.specs.Stages.{StopsWalk}
+use Rattle.undo_apply.specs.Removal.{RemovesPair}
 use Rattle.undo_apply.specs.Moves.{WentOn, WentOnOrEnded, at_stage, LooksAt, LooksOn, Ended}
-use Rattle.undo_apply.specs.declared.work_room.Stage.TheVariants.{Key, Mark, Await, Remove, Unmark, Walk, AwaitRecords, Record, Find}
+use Rattle.undo_apply.specs.declared.work_room.Stage.TheVariants.{Key, Mark, Remove, Unmark, Walk, Record, Find}
 use Rattle.undo_apply.proofs.Columns.{key_at, one_less, entry_short, entry_says, one_byte, cleared_any, lagging_any, newest_any, absent_stays}
 use Rattle.undo_apply.proofs.Columns.{newest_read, newest_own, what_was, WasThere, WasNot, not_new, before_new}
 use Rattle.undo_apply.proofs.Taken.{ends, stands, with_entry, dropped, unmarked_now, passed, clear_unless_row, clear_of_same}
-use Rattle.undo_apply.proofs.Telling.{schemas_stay, rows_stay, leaves_told, leaves_rows, rows_after, pairs_after}
-use Rattle.undo_apply.proofs.Telling.{told_of, IsThereAs, replace_stops, remove_stops, next_key_stops, delay_stops}
+use Rattle.undo_apply.proofs.Telling.{schemas_stay, rows_stay, leaves_told, leaves_rows, rows_after, pairs_after, stay_but, rows_left_but}
+use Rattle.undo_apply.proofs.Telling.{told_of, IsThereAs, replace_stops, delay_stops}
 use Rattle.world.specs.{State.WorldState, Undoing.IsUnchanged, Indexes.Calls, Indexes.Changes, Indexes.ReplacesWith}
 use Rattle.world.specs.Told.{pairs_of, IsTold, LeavesRows, TellsTogether}
-use Rattle.row_changes.specs.{Pairs.RowsStay, Pairs.PutsPair, Keys.IsEntryAt}
+use Rattle.row_changes.specs.{Pairs.RowsStay, Pairs.RowsStayBut, Pairs.PutsPair, Keys.IsEntryAt}
 use Rattle.std.specs.declared.alloc.Global.{Global}
-use Rattle.entries.specs.{Pairs.Pair, Pairs.value_of, Index.Index, Index.HasGone, Calls.NextKeys, Calls.Removes, Calls.is_done, Calls.Fetches}
+use Rattle.entries.specs.{Pairs.Pair, Pairs.value_of, Index.Index, Calls.is_done, Calls.Fetches}
 use Rattle.row_codec.specs.Rows.{IsRecordOf, IsVersion, head_code, others_code}
 use Rattle.row_changes.proofs.Changing.{same_rows, unchanged_stays}
-use Rattle.row_changes.proofs.Awaited.{replace_leaves, stays_if, next_key_keeps, puts_if, change_stays_if, remove_keeps, fetch_keeps, fetch_delays}
+use Rattle.row_changes.proofs.Awaited.{replace_leaves, stays_if, puts_if, change_stays_if, fetch_keeps, fetch_delays}
 use Rattle.row_changes.proofs.Telling.{stays_told, put_told}
 use Rattle.row_codec.proofs.Stored.{length-version_code}
 
@@ -120,11 +122,6 @@ Writes state undo which value entry result =
     → length (entry_of schema (which + 1) version.row undo.key) ≤ 67
     → IsTrue result × (entry ≡ entry_of schema (which + 1) version.row undo.key)
 
-pub removed_if : {index : ℕ} {call : Index → Index → Type 0} {old new : WorldState} {holder : Option ℕ} (key : List ℕ) → Calls index call old new
-    → HasGone (λ before after. after ≡ with_value key None before) holder (old.indexes index) (new.indexes index) → PutsPair index key None old new
-removed_if {index} {call} {old} {new} key c here =
-    puts_if {actor = 0} {call = λ before after answer. call before after} {answer = Done} key None (record { index_is = c.index_is; beside = c.beside }) here
-
 -- a key that isn't there is removed from the pairs of an index in vain
 pub unchanged_at : (index : ℕ) (key : List ℕ) (pairs : ℕ → List Pair) (other : ℕ) → value_of key (pairs index) ≡ None
     → pairs_after index key None pairs other ≡ pairs other
@@ -188,13 +185,13 @@ module _ {chains : Chains} {beside : Said} {place : Place} (actor : ℕ) {undo :
   hindrance_is next new other not_done is = search rules
 
   -- It was not.
-  hindered : (next : WorkRoom) (new : WorldState) (answer : Move) → answer ≢ Done → RowsStay old new → next.stage ≡ room.stage
+  hindered : (next : WorkRoom) (new : WorldState) (answer : Move) → answer ≢ Done → RowsStayBut actor old new → next.stage ≡ room.stage
       → next.newest.items ≡ room.newest.items → IsWhole next → StopsAt actor undo room.stage old new answer → Back next new answer
   hindered next new answer not_done stays stage bytes whole cause = hindrance_is next new answer not_done (record {
     stays = stays;
     stage_is = stage;
-    holds = is_back next new (schemas_stay stays) whole (rw stage is.fits)
-        (λ told. rw (stage, bytes, rows_stay stays told) (is.holds (stays_told old new stays told)));
+    holds = is_back next new (rows_left_but stays).schemas whole (rw stage is.fits)
+        (λ told. rw (stage, bytes, leaves_rows (rows_left_but stays) told) (is.holds (leaves_told (rows_left_but stays) told)));
     cause = cause;
   })
 
@@ -270,10 +267,14 @@ module _ {chains : Chains} {beside : Said} {place : Place} (actor : ℕ) {undo :
       went_to mid leaves stage next is_at new (schemas_stay stays) (inl stays) fits
       (λ told. let was = stays_told old new stays told in rw (rows_stay stays told) (holds was (held stage is_at was))) nearer
 
+  stopped_but : (stage : Stage) → room.stage ≡ stage → (mid : WorkRoom) → Leaves mid → (new : WorldState) (answer : Move) → answer ≢ Done
+      → RowsStayBut actor old new → StopsAt actor undo stage old new answer → Back mid new answer
+  stopped_but stage is_at mid leaves new answer not_done stays cause =
+      hindered mid new answer not_done stays leaves.stage leaves.newest leaves.whole (rw is_at cause)
+
   stopped_by : (stage : Stage) → room.stage ≡ stage → (mid : WorkRoom) → Leaves mid → (new : WorldState) (answer : Move) → answer ≢ Done
       → RowsStay old new → StopsAt actor undo stage old new answer → Back mid new answer
-  stopped_by stage is_at mid leaves new answer not_done stays cause =
-      hindered mid new answer not_done stays leaves.stage leaves.newest leaves.whole (rw is_at cause)
+  stopped_by stage is_at mid leaves new answer not_done stays cause = stopped_but stage is_at mid leaves new answer not_done (stay_but stays) cause
 
   -- ---- answers
 
@@ -290,23 +291,6 @@ module _ {chains : Chains} {beside : Said} {place : Place} (actor : ℕ) {undo :
   went_or_ended next mid new Call done ended other Done call after reached on = rw (on.0, on.1) (done call)
   went_or_ended next mid new Call done ended other End call after reached on = rw (on.0, on.1) (ended call)
   went_or_ended next mid new Call done ended other answer call after reached on = rw (on.0, on.1) (other answer (λ e. cc) (λ e. cc) call)
-
-  -- Others are kept from changing keys, and no row has changed.
-  await_keys : (stage next : Stage) (index : ℕ) → room.stage ≡ stage → FitsKeys keys undo next → ((rows : Rows) → At rows stage → At rows next)
-      → steps_left keys next < steps_left keys stage
-      → ((new : WorldState) (answer : Move) → Stops actor index old new answer → StopsAt actor undo stage old new answer) → (mid : WorkRoom) → Leaves mid
-      → (key read : List ℕ) (new : WorldState) (answer : Move) → Calls index (λ b a. NextKeys actor key read b a answer) old new
-      → HandsOn (WentOnOrEnded next answer mid) new
-  await_keys stage next index is_at fits holds nearer stops mid leaves key read new =
-      went_or_ended next mid new (λ answer. Calls index (λ b a. NextKeys actor key read b a answer) old new) (gone Done) (gone End)
-      (λ answer other not_end calls. stopped_by stage is_at mid leaves new answer other (kept answer calls)
-      (stops new answer (next_key_stops actor old new index key read answer calls.index_is.here other not_end)))
-    where
-      kept : (answer : Move) → Calls index (λ b a. NextKeys actor key read b a answer) old new → RowsStay old new
-      kept answer calls = stays_if calls (next_key_keeps actor key read (old.indexes index) (new.indexes index) answer calls.index_is.here)
-
-      gone : (answer : Move) → Calls index (λ b a. NextKeys actor key read b a answer) old new → Back (at_stage next mid) new Step
-      gone answer calls = moved mid leaves stage next is_at new (kept answer calls) fits (λ told. holds (rows_of old)) nearer
 
   -- ---- the record
 
@@ -377,24 +361,18 @@ module _ {chains : Chains} {beside : Said} {place : Place} (actor : ℕ) {undo :
 
     pub find_stopped : (answer : Move) → Fetching answer → read.items ≡ room.newest.items → answer ≢ Done → answer ≢ End → Back found new answer
     find_stopped answer calls same not_done not_end =
-        hindered found new answer not_done (fetched answer calls) refl same (found_whole room.stage)
+        hindered found new answer not_done (stay_but (fetched answer calls)) refl same (found_whole room.stage)
         (rw is_at (delay_stops actor old new records answer
         (fetch_delays actor undo.key read.items (old.indexes records) (new.indexes records) answer calls.index_is.here not_done not_end)))
 
-  -- others are kept from changing records
-  pub await_records_step : room.stage ≡ AwaitRecords → (mid : WorkRoom) → Leaves mid → (read : List ℕ) (new : WorldState) (answer : Move)
-      → Calls records (λ b a. NextKeys actor undo.key read b a answer) old new
-      → HandsOn (WentOnOrEnded Record answer mid) new
-  await_records_step is_at mid leaves = await_keys AwaitRecords Record records is_at tt (λ rows h. h) (omega arith) (λ new answer h. h) mid leaves undo.key
-
   -- ---- the record is put back
 
-  module _ (is_at : room.stage ≡ Record) (new : WorldState) where
+  module _ (is_at : room.stage ≡ Record) (mid : WorkRoom) (leaves : Leaves mid) (new : WorldState) where
     -- the record is what it was before, and the newest version is gone
-    ended : PutsPair records undo.key (was_before undo) old new → Back (at_stage Find room) new Done
+    ended : PutsPair records undo.key (was_before undo) old new → Back (at_stage Find mid) new Done
     ended puts = record {
       changes = inr puts;
-      whole = record { newest = is.whole.newest; older = is.whole.older; next = is.whole.next; marked = is.whole.marked; unmarked = is.whole.unmarked };
+      whole = (let w = leaves.whole in record { newest = w.newest; older = w.older; next = w.next; marked = w.marked; unmarked = w.unmarked });
       anew = refl;
       popped = λ told differs after pops.
           let h = held Record is_at (put_told records undo.key (was_before undo) old new puts told) in
@@ -406,35 +384,32 @@ module _ {chains : Chains} {beside : Said} {place : Place} (actor : ℕ) {undo :
 
     -- the call was done, and all is; or the room is as it was
     last_step : (Call : Move → Type 0) → (Call Done → PutsPair records undo.key (was_before undo) old new)
-        → ((answer : Move) → answer ≢ Done → Call answer → RowsStay old new × Stops actor records old new answer) → (answer : Move) → Call answer
-        → HandsOn (Ended answer room) new
+        → ((answer : Move) → answer ≢ Done → Call answer → RowsStayBut actor old new × StopsRemoval actor records old new answer) → (answer : Move)
+        → Call answer → HandsOn (Ended answer mid) new
     last_step Call done other Done call after reached on = rw (on.0, on.1) (ended (done call))
     last_step Call done other answer call after reached on =
-        let why = other answer (λ e. cc) call in rw (on.0, on.1) (stopped_by Record is_at room room_leaves new answer (λ e. cc) why.0 why.1)
+        let why = other answer (λ e. cc) call in rw (on.0, on.1) (stopped_but Record is_at mid leaves new answer (λ e. cc) why.0 why.1)
 
-    pub remove_record : undo.kind ≡ 1 → (answer : Move) → Calls records (λ b a. Removes actor undo.key b a answer) old new
-        → HandsOn (Ended answer room) new
-    remove_record kind =
-        last_step (λ answer. Calls records (λ b a. Removes actor undo.key b a answer) old new)
-        (λ calls. rw (before_new undo kind) (removed_if undo.key calls calls.index_is.here.2)) (λ answer other calls. (
-          stays_if calls (remove_keeps actor undo.key (old.indexes records) (new.indexes records) answer calls.index_is.here other),
-          hinders answer other calls.index_is.here,
-        ))
+    pub remove_record : undo.kind ≡ 1 → (answer : Move) → RemovesPair actor records undo.key old new answer → HandsOn (Ended answer mid) new
+    remove_record kind = last_step (λ answer. RemovesPair actor records undo.key old new answer) (λ puts. rw (before_new undo kind) puts) hinders
       where
-        hinders : (answer : Move) → answer ≢ Done → Removes actor undo.key (old.indexes records) (new.indexes records) answer
-            → Stops actor records old new answer
-        hinders End other h = λ told.
-            let there = sym (held Record is_at told).1.newest.there ∙ told_of (λ pairs. value_of undo.key pairs ≡ None) old records told h.1 in cc
-        hinders answer other h = remove_stops actor old new records undo.key answer h other (λ e. cc)
+        hinders : (answer : Move) → answer ≢ Done → RemovesPair actor records undo.key old new answer
+            → RowsStayBut actor old new × StopsRemoval actor records old new answer
+        hinders Done other h = absurd (other refl)
+        hinders End other h = (
+          stay_but h.0,
+          inl (λ told. let there = sym (held Record is_at told).1.newest.there ∙ told_of (λ pairs. value_of undo.key pairs ≡ None) old records told h.1 in cc),
+        )
+        hinders answer other h = h
 
     pub replace_record : undo.kind ≢ 1 → (answer : Move)
-        → Changes records actor None (λ b a ans. ReplacesWith None actor undo.key undo.value b a ans) old new answer → HandsOn (Ended answer room) new
+        → Changes records actor None (λ b a ans. ReplacesWith None actor undo.key undo.value b a ans) old new answer → HandsOn (Ended answer mid) new
     replace_record kind =
         last_step (Changes records actor None (λ b a ans. ReplacesWith None actor undo.key undo.value b a ans) old new)
         (λ changes. rw (not_new undo kind) (puts_if undo.key (Some undo.value) changes changes.index_is.here.1)) (λ answer other changes. (
-          change_stays_if changes
-              (replace_leaves None actor undo.key undo.value (old.indexes records) (new.indexes records) answer changes.index_is.here other).0,
-          replace_stops actor old new records undo.key undo.value answer there changes.index_is.here other,
+          stay_but (change_stays_if changes
+              (replace_leaves None actor undo.key undo.value (old.indexes records) (new.indexes records) answer changes.index_is.here other).0),
+          inl (replace_stops actor old new records undo.key undo.value answer there changes.index_is.here other),
         ))
       where
         there : IsTold old → IsThereAs undo.key undo.value old records
@@ -488,13 +463,14 @@ module _ {chains : Chains} {beside : Said} {place : Place} (actor : ℕ) {undo :
     abbrev Put : Coded → Option (List ℕ) → Rows
     Put version value = with_entry chains beside (rows_of old) is.tells which version value
 
-    entry_done : (stage next : Stage) → room.stage ≡ stage → (entry : List ℕ) (value now : Option (List ℕ)) (new : WorldState) → which < keys
+    entry_done : (stage next : Stage) → room.stage ≡ stage → (mid : WorkRoom) → Leaves mid → (entry : List ℕ) (value now : Option (List ℕ)) (new : WorldState)
+        → which < keys
         → PutsPair number entry value old new → value ≡ now → FitsKeys keys undo next → steps_left keys next < steps_left keys stage
         → (IsTold old → IsEntryAt is.schema which undo.key entry)
         → (IsTold old → (version : Coded) × (entry ≡ entry_of is.schema (which + 1) version.row undo.key) × At (Put version now) next)
-        → Back (at_stage next (written entry)) new Step
-    entry_done stage next is_at entry value now new within puts value_is fits nearer its holds =
-        went_to (written entry) (written_leaves entry) stage next is_at new (ap (λ (s : WorldState). s.schemas) puts.rest)
+        → Back (at_stage next mid) new Step
+    entry_done stage next is_at mid leaves entry value now new within puts value_is fits nearer its holds =
+        went_to mid leaves stage next is_at new (ap (λ (s : WorldState). s.schemas) puts.rest)
         (inr (which, within, entry, value, puts, its)) fits (λ told.
         let h = holds (put_told number entry value old new puts told) in
         let rows : rows_of new ≡ Put h.0 now =
@@ -510,7 +486,7 @@ module _ {chains : Chains} {beside : Said} {place : Place} (actor : ℕ) {undo :
     -- what comes once a key is clear
     record Comes (next : Stage) : Type 0 where
       pub fits : FitsKeys keys undo next
-      pub nearer : steps_left keys next < 5 * (keys - which) + 3
+      pub nearer : steps_left keys next < 4 * (keys - which) + 2
       pub holds : (rows : Rows) (coded : Coded) → TellsOf undo is.schema place rows.schemas
           → IsUnderWay chains beside place undo is.schema rows room.newest.items coded which (IsCleared before) → At rows next
 
@@ -528,7 +504,7 @@ module _ {chains : Chains} {beside : Said} {place : Place} (actor : ℕ) {undo :
         );
       }
 
-    follows : (stage : Stage) → which < keys → 5 * (keys - which) + 3 ≤ steps_left keys stage → steps_left keys following < steps_left keys stage
+    follows : (stage : Stage) → which < keys → 4 * (keys - which) + 2 ≤ steps_left keys stage → steps_left keys following < steps_left keys stage
     follows stage within far = let less = (comes within).nearer in omega (arith, less, far)
 
     -- The entry of a record is changed in place: the key says that one of the versions has its value.
@@ -548,7 +524,7 @@ module _ {chains : Chains} {beside : Said} {place : Place} (actor : ℕ) {undo :
         → HandsOn (WentOn next answer (written entry)) new
     replace_step stage next is_at within fits nearer stops value mark byte mark_is marks entry result writes new =
         went_on next (written entry) new (Changing entry mark new) (λ changes.
-        entry_done stage next is_at entry (Some mark) (Some (byte ∷ [])) new within
+        entry_done stage next is_at (written entry) (written_leaves entry) entry (Some mark) (Some (byte ∷ [])) new within
         (puts_if entry (Some mark) changes changes.index_is.here.1) (ap Some mark_is) fits nearer (λ told. let it = marked told in
         entry_at value entry it.version within it.code (written_is value entry result it.version writes within it.code).1) (λ told. let it = marked told in
         (it.version, (written_is value entry result it.version writes within it.code).1, it.holds)))
@@ -586,23 +562,12 @@ module _ {chains : Chains} {beside : Said} {place : Place} (actor : ℕ) {undo :
     mark_unwritten is_at =
         unwritten (Mark which) is_at (λ h. h) room.newest.items (fitting (Mark which) is_at) (λ told h. (h.0, h.1.newest.code_is))
 
-    -- ---- others are kept from changing keys
-
-    pub await_step : room.stage ≡ Await which → (mid : WorkRoom) → Leaves mid → (entry read : List ℕ) (new : WorldState) (answer : Move)
-        → Calls number (λ b a. NextKeys actor entry read b a answer) old new → HandsOn (WentOnOrEnded (Remove which) answer mid) new
-    await_step is_at mid leaves =
-        await_keys (Await which) (Remove which) number is_at (fitting (Await which) is_at) (λ rows h. h) (omega arith) (λ new answer h. h) mid leaves
-
-    pub await_unwritten : room.stage ≡ Await which → Unwritten room.newest.items
-    await_unwritten is_at =
-        unwritten (Await which) is_at (λ h. h) room.newest.items (fitting (Await which) is_at) (λ told h. (h.0, h.1.newest.code_is))
-
     -- ---- the newest row's entry is removed
 
     module _ (is_at : room.stage ≡ Remove which) (entry : List ℕ) (result : Bool) (writes : Writes old undo which room.newest.items entry result)
-        (new : WorldState) where
+        (mid : WorkRoom) (leaves : Leaves mid) (new : WorldState) where
       abbrev Removing : Move → Type 0
-      Removing answer = Calls number (λ b a. Removes actor entry b a answer) old new
+      Removing answer = RemovesPair actor number entry old new answer
 
       within : which < keys
       within = fitting (Remove which) is_at
@@ -616,32 +581,35 @@ module _ {chains : Chains} {beside : Said} {place : Place} (actor : ℕ) {undo :
             (comes within).holds (Put h.0 None) h.0 is.tells (dropped chains beside (rows_of old) is.tells which false within h.1 h.2.plain h.2.found_is),
           )
 
-      remove_ended : Removing End → Back (at_stage following (written entry)) new Step
+      remove_ended : Removing End → Back (at_stage following mid) new Step
       remove_ended calls =
-          moved (written entry) (written_leaves entry) (Remove which) following is_at new
-          (stays_if calls (calls.index_is.here.2.pairs, calls.index_is.here.2.place)) (comes within).fits (λ told known.
+          moved mid leaves (Remove which) following is_at new calls.0 (comes within).fits (λ told known.
           let h = remove_holds told in
-          let none = told_of (λ pairs. value_of entry pairs ≡ None) old number told calls.index_is.here.1 in
+          let none = told_of (λ pairs. value_of entry pairs ≡ None) old number told calls.1 in
           let same : Put h.0 None ≡ rows_of old = λ i. record (rows_of old) {
             pairs = λ other. unchanged_at number (entry_of is.schema (which + 1) h.0.row undo.key) (pairs_of old) other (rw h.1 at none) i;
           } in
           subst (λ (r : Rows). At r following) same h.2) (follows (Remove which) within (omega arith))
 
-      pub remove_step : (answer : Move) → Removing answer → HandsOn (WentOnOrEnded following answer (written entry)) new
+      put_off : (answer : Move) → answer ≢ Done → answer ≢ End → Removing answer → RowsStayBut actor old new × StopsRemoval actor number old new answer
+      put_off Done not_done not_end h = absurd (not_done refl)
+      put_off End not_done not_end h = absurd (not_end refl)
+      put_off answer not_done not_end h = h
+
+      pub remove_step : (answer : Move) → Removing answer → HandsOn (WentOnOrEnded following answer mid) new
       remove_step =
-          went_or_ended following (written entry) new Removing
-          (λ calls. entry_done (Remove which) following is_at entry None None new within (removed_if entry calls calls.index_is.here.2) refl
+          went_or_ended following mid new Removing
+          (λ puts. entry_done (Remove which) following is_at mid leaves entry None None new within puts refl
           (comes within).fits (follows (Remove which) within (omega arith)) (λ told.
           let h = held (Remove which) is_at told in
           entry_at room.newest.items entry h.0 within h.1.newest.code_is
           (written_is room.newest.items entry result h.0 writes within h.1.newest.code_is).1) remove_holds) remove_ended
-          (λ answer other not_end calls. stopped_by (Remove which) is_at (written entry) (written_leaves entry) new answer other
-          (stays_if calls (remove_keeps actor entry (old.indexes number) (new.indexes number) answer calls.index_is.here other))
-          (remove_stops actor old new number entry answer calls.index_is.here other not_end))
+          (λ answer not_done not_end h. let why = put_off answer not_done not_end h in
+          stopped_but (Remove which) is_at mid leaves new answer not_done why.0 why.1)
 
     pub remove_unwritten : room.stage ≡ Remove which → Unwritten room.newest.items
     remove_unwritten is_at =
-        unwritten (Remove which) is_at (λ h. h) room.newest.items (fitting (Remove which) is_at) (λ told h. (h.0, h.1.newest.code_is))
+        unwritten (Remove which) is_at (λ h. inl h) room.newest.items (fitting (Remove which) is_at) (λ told h. (h.0, h.1.newest.code_is))
 
     -- ---- the entry of the row before is unmarked
 
@@ -677,13 +645,10 @@ module _ {chains : Chains} {beside : Said} {place : Place} (actor : ℕ) {undo :
       -- the keys are done
       look_last : {count : ℕ} → Counts count → count ≤ which → (next : Stage) → FitsKeys keys undo next
           → ((coded : Coded) → LagsAt chains beside place undo is.schema (rows_of old) room.newest.items keys coded → At (rows_of old) next)
-          → steps_left keys next < 6 → Back (at_stage next room) old Step
+          → steps_left keys next < 4 → Back (at_stage next room) old Step
       look_last {count} counted more next fits holds near =
           let all : which ≡ keys = (let fits = fitting (Key which) is_at in omega (arith, more, fits, counted is.schema is.tells.there)) in
           moved room room_leaves (Key which) next is_at old (same_rows old) fits (λ told h. holds h.0 (rw all at h.1)) (omega (arith, near))
-
-      pub look_new : {count : ℕ} → Counts count → count ≤ which → undo.kind ≡ 1 → Back (at_stage AwaitRecords room) old Step
-      look_new counted more new = look_last counted more AwaitRecords new (λ coded lags. (coded, lags)) (omega arith)
 
       pub look_kept : {count : ℕ} → Counts count → count ≤ which → Back (at_stage Record room) old Step
       look_kept counted more = look_last counted more Record tt (λ coded lags. (coded, lags)) (omega arith)
@@ -756,9 +721,9 @@ module _ {chains : Chains} {beside : Said} {place : Place} (actor : ℕ) {undo :
         abbrev mid : WorkRoom
         mid = record room { older = read }
 
-        pub walk_over : pointer ≡ 0 → Back (at_stage (Await which) mid) new Step
+        pub walk_over : pointer ≡ 0 → Back (at_stage (Remove which) mid) new Step
         walk_over nowhere =
-            moved mid (older_leaves read room_is) (Walk which pointer) (Await which) is_at new stays inside (λ told h.
+            moved mid (older_leaves read room_is) (Walk which pointer) (Remove which) is_at new stays inside (λ told h.
             let none = ap (some_has is.schema which h.0) (leads_nowhere is.schema undo.key (kept_of (rows_of old).kept undo.table undo.key) pointer h.3.left
             h.3.leads nowhere) in
             (h.0, h.1, record { plain = h.2; found_is = h.3.passed ∙ none })) (omega arith)

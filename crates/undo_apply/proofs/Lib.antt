@@ -2,4 +2,5 @@ pub mod Telling
 pub mod Columns
 pub mod Taken
 pub mod Goes
+pub mod Removed
 pub mod Hindrances

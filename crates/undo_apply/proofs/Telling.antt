@@ -5,7 +5,7 @@ use Rattle.entries.specs.{Index.Told, Pairs.Pair, Pairs.value_of}
 use Rattle.entries.specs.Calls.{Delays, NextKeys, Replaces, Removes, IsResized, is_as_long}
 use Rattle.law_stored_rows.specs.Edits.{with_value}
 use Rattle.world.specs.{State.WorldState, Told.pairs_of, Told.IsTold, Told.LeavesRows}
-use Rattle.row_changes.specs.Pairs.{RowsStay, PutsPair}
+use Rattle.row_changes.specs.Pairs.{RowsStay, RowsStayBut, PutsPair}
 use Rattle.row_changes.proofs.Telling.{told_if, went, put_pairs, tells}
 use Rattle.undo_apply.specs.{Told.rows_of, Stages.Stops}
 use Rattle.std.proofs.lemmas.Bool.{true≢false, eq-eqb}
@@ -25,6 +25,19 @@ leaves_rows {old} {new} leaves told =
 
 pub schemas_stay : {old new : WorldState} → RowsStay old new → new.schemas ≡ old.schemas
 schemas_stay {old} {new} stays = ap (λ (s : WorldState). s.schemas) stays.rest
+
+pub stay_but : {actor : ℕ} {old new : WorldState} → RowsStay old new → RowsStayBut actor old new
+stay_but stays = record {
+  pairs = stays.pairs;
+  places = λ index other differs. ap (λ (place : ℕ → Option Pair). place other) (stays.places index);
+  versions = stays.versions;
+  rest = stays.rest;
+  later = stays.later;
+}
+
+-- no pair has changed, whatever has become of this actor's place
+pub rows_left_but : {actor : ℕ} {old new : WorldState} → RowsStayBut actor old new → LeavesRows old new
+rows_left_but stays = record { schemas = ap (λ (s : WorldState). s.schemas) stays.rest; pairs = stays.pairs; versions = stays.versions }
 
 pub rows_left : {old new : WorldState} → RowsStay old new → LeavesRows old new
 rows_left {old} {new} stays = record { schemas = schemas_stay stays; pairs = stays.pairs; versions = stays.versions }

@@ -5,4 +5,5 @@ pub mod Rooms
 pub mod Told
 pub mod Standing
 pub mod Stages
+pub mod Removal
 pub mod Moves

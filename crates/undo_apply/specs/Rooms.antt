@@ -1,7 +1,7 @@
 -- The buffers of a room, and how many steps are left from a stage.
 use Rattle.std.specs.Prelude.{◌≡◌, ℕ, ◌+◌, ◌*◌, ◌-◌, ◌≤◌, [], ◌∷◌, vec_capacity}
 use Rattle.undo_apply.specs.{declared.work_room.WorkRoom.WorkRoom, declared.work_room.Stage.Stage}
-use Rattle.undo_apply.specs.declared.work_room.Stage.TheVariants.{Find, Key, Walk, Mark, Await, Remove, Unmark, AwaitRecords, Record}
+use Rattle.undo_apply.specs.declared.work_room.Stage.TheVariants.{Find, Key, Walk, Mark, Remove, Unmark, Record}
 
 -- The buffers hold the longest record, version and key.
 pub record IsWhole (room : WorkRoom) : Type 0 where
@@ -13,12 +13,10 @@ pub record IsWhole (room : WorkRoom) : Type 0 where
 
 -- how many steps are left in a table of so many keys, where each walk is one
 abbrev pub steps_left : ℕ → Stage → ℕ
-steps_left keys Find = 5 * keys + 7
-steps_left keys (Key which) = 5 * (keys - which) + 6
-steps_left keys (Walk which pointer) = 5 * (keys - which) + 5
-steps_left keys (Mark which) = 5 * (keys - which) + 3
-steps_left keys (Await which) = 5 * (keys - which) + 4
-steps_left keys (Remove which) = 5 * (keys - which) + 3
-steps_left keys (Unmark which) = 5 * (keys - which) + 2
-steps_left keys AwaitRecords = 1
+steps_left keys Find = 4 * keys + 5
+steps_left keys (Key which) = 4 * (keys - which) + 4
+steps_left keys (Walk which pointer) = 4 * (keys - which) + 3
+steps_left keys (Mark which) = 4 * (keys - which) + 2
+steps_left keys (Remove which) = 4 * (keys - which) + 2
+steps_left keys (Unmark which) = 4 * (keys - which) + 1
 steps_left keys Record = 0

@@ -7,10 +7,10 @@ use Rattle.store_api.specs.declared.moves.Move.TheVariants.{Done, Step, Latch, A
 use Rattle.entries.specs.Pairs.{value_of}
 use Rattle.row_versions.specs.{Calls.IsUnseen, declared.place.Place.Place, declared.version.Version.Version, Chains.Chains, Chains.Pops}
 use Rattle.law_stored_rows.specs.{Edits.clustered_index, Edits.key_index, Records.shown, Records.LeadTo, Records.kept_of, Tables.Said}
-use Rattle.world.specs.{State.WorldState, Told.IsTold}
-use Rattle.row_changes.specs.{Pairs.RowsStay, Pairs.PutsPair, Pairs.Hinders, Keys.ChangesItsEntry}
+use Rattle.world.specs.{State.WorldState, Told.IsTold, AtHand.IsAtHand}
+use Rattle.row_changes.specs.{Pairs.RowsStay, Pairs.RowsStayBut, Pairs.PutsPair, Pairs.Hinders, Pairs.IsReached, Keys.ChangesItsEntry}
 use Rattle.undo_apply.specs.{declared.work_room.WorkRoom.WorkRoom, declared.work_room.Stage.Stage, Rooms.IsWhole, Rooms.steps_left, Told.Rows, Told.rows_of}
-use Rattle.undo_apply.specs.declared.work_room.Stage.TheVariants.{Find, Key, Walk, Mark, Await, Remove, Unmark, AwaitRecords, Record}
+use Rattle.undo_apply.specs.declared.work_room.Stage.TheVariants.{Find, Key, Walk, Mark, Remove, Unmark, Record}
 use Rattle.undo_apply.specs.Standing.{TellsOf, was_before, had_row, versions_before, IsCleared, IsLagging, IsUnderWay, IsTakenBack, some_has, HasWalked}
 use Rattle.store_api.specs.declared.visits.Visit.TheVariants as visit
 
@@ -20,10 +20,8 @@ FitsKeys keys undo Find = Unit {0}
 FitsKeys keys undo (Key which) = which ≤ keys
 FitsKeys keys undo (Walk which pointer) = which < keys
 FitsKeys keys undo (Mark which) = which < keys
-FitsKeys keys undo (Await which) = which < keys
 FitsKeys keys undo (Remove which) = which < keys
 FitsKeys keys undo (Unmark which) = (which < keys) × (had_row undo ≡ true)
-FitsKeys keys undo AwaitRecords = undo.kind ≡ 1
 FitsKeys keys undo Record = Unit {0}
 
 -- the newest row has this key's value, and an older version has it too, or none has
@@ -46,10 +44,8 @@ module _ (chains : Chains) (beside : Said) (place : Place) (undo : Undo) (schema
       (coded : Coded) × LagsAt which coded × (coded.marked ≡ false) × HasWalked schema undo.key (kept_of rows.kept undo.table undo.key) which pointer coded
       (versions_before chains place)
   StageHolds (Mark which) = (coded : Coded) × LagsAt which coded × IsFound schema which coded (versions_before chains place) true
-  StageHolds (Await which) = (coded : Coded) × LagsAt which coded × IsFound schema which coded (versions_before chains place) false
   StageHolds (Remove which) = (coded : Coded) × LagsAt which coded × IsFound schema which coded (versions_before chains place) false
   StageHolds (Unmark which) = (coded : Coded) × IsUnderWay chains beside place undo schema rows bytes coded which (IsCleared (versions_before chains place))
-  StageHolds AwaitRecords = (coded : Coded) × LagsAt (length schema.keys) coded
   StageHolds Record = (coded : Coded) × LagsAt (length schema.keys) coded
 
 -- A change is being taken back, or is to be, or has been, while keys say of other places what `beside` has. Where all is told, it is
@@ -87,7 +83,6 @@ pub record GoesOn (chains : Chains) (beside : Said) (place : Place) (undo : Undo
 -- the index that a stage calls
 abbrev pub index_at : Undo → Stage → ℕ
 index_at undo (Mark which) = key_index undo.table which
-index_at undo (Await which) = key_index undo.table which
 index_at undo (Remove which) = key_index undo.table which
 index_at undo (Unmark which) = key_index undo.table which
 index_at undo other = clustered_index undo.table
@@ -109,14 +104,28 @@ StopsWalk old new Again = IsUnseen old.versions new.versions visit.Again
 StopsWalk old new (Bad page rule) = IsUnseen old.versions new.versions (visit.Bad page rule)
 StopsWalk old new other = IsTold old → ⊥
 
+-- The same of a call that came behind others of its step, which have changed no pair. The actor has left the index behind it.
+pub record StopsBehind (actor index : ℕ) (old new : WorldState) (why : Move) : Type 0 where
+  pub mid : WorldState
+  pub after : WorldState
+  pub reached : IsReached actor (old.indexes index) (mid.indexes index)
+  pub at_hand : IsAtHand mid × IsAtHand after
+  pub cause : Stops actor index mid after why
+
+-- why one of the two calls of a removal has not done what it was asked
+abbrev pub StopsRemoval : ℕ → ℕ → WorldState → WorldState → Move → Type 0
+StopsRemoval actor index old new why = Stops actor index old new why ⊎ StopsBehind actor index old new why
+
 abbrev pub StopsAt : ℕ → Undo → Stage → WorldState → WorldState → Move → Type 0
 StopsAt actor undo (Walk which pointer) old new why = StopsWalk old new why
+StopsAt actor undo (Remove which) old new why = StopsRemoval actor (key_index undo.table which) old new why
+StopsAt actor undo Record old new why = StopsRemoval actor (clustered_index undo.table) old new why
 StopsAt actor undo stage old new why = Stops actor (index_at undo stage) old new why
 
--- The call that came next was not done: the stage is the same, and so are all pairs.
+-- The call that came next was not done: the stage is the same, and so are all pairs. The step begins anew, and nobody stays awaited.
 pub record IsHindered (chains : Chains) (beside : Said) (place : Place) (actor : ℕ) (undo : Undo) (room next : WorkRoom) (old new : WorldState)
     (why : Move) : Type 0 where
-  pub stays : RowsStay old new
+  pub stays : RowsStayBut actor old new
   pub stage_is : next.stage ≡ room.stage
   pub holds : IsPuttingBack chains beside place undo next new
   pub cause : StopsAt actor undo room.stage old new why

@@ -5,8 +5,8 @@ ghost use Rattle.std.specs.Prelude.{◌≡◌, ℕ, ◌*◌, ◌+◌, ◌<◌, �
 ghost use Rattle.inno_types.specs.declared.value.Schema.{Schema as ASchema};
 ghost use Rattle.store_api.specs.declared.answers.Version.{Version};
 ghost use Rattle.row_codec.specs.Rows.{IsRecordOf, IsVersion};
-ghost use Rattle.law_stored_rows.specs.Edits.{clustered_index, key_index};
-ghost use Rattle.row_changes.specs.Awaited.{AwaitsAt};
+ghost use Rattle.law_stored_rows.specs.Edits.{key_index};
+ghost use Rattle.row_changes.specs.Awaited.{AwaitsNoMore};
 ghost use Rattle.row_versions.specs.declared.place.Place.{Place};
 ghost use Rattle.row_versions.specs.Chains.{Chains};
 ghost use Rattle.law_stored_rows.specs.Tables.{Said};
@@ -19,10 +19,11 @@ ghost use Rattle.undo_apply.specs.Stages.{IsPuttingBack, PutsBack};
 use crate::entry_room::EntryRoom;
 use crate::moves::{go_on, go_on_or_end, go_to};
 use crate::record_bytes::{is_marked, pointer_of};
+use crate::removal::remove_pair;
 use crate::work_room::{Stage, WorkRoom};
 use inno_db::index_number;
 use store_api::{Move, Undo, UndoKind, Visit};
-use world::World;
+use world::{EngineWorld, World};
 
 /// The number of the index of a key.
 fn entries_of(undo: &Undo, which: u8) -> u32
@@ -106,9 +107,6 @@ pub(crate) fn look_at_key<W: World>(world: &W, undo: &Undo, room: &mut WorkRoom,
         → PutsBack chains beside place actor undo.now room.old room.new (W.state world.now) (W.state world.now) result }
 {
     if usize::from(which) >= number_of_keys(world, undo) {
-        if undo.kind == UndoKind::NewRow as u8 {
-            return go_to(room, Stage::AwaitRecords);
-        }
         return go_to(room, Stage::Record);
     }
     if is_marked(&room.newest) {
@@ -142,11 +140,11 @@ pub(crate) fn walk<W: World>(
     requires stage { room.old.stage ≡ Stage.Walk which pointer }
     ensures puts { (chains : Chains) (beside : Said) (place : Place) (actor : ℕ) → IsPuttingBack chains beside place undo.now room.old (W.state world.old)
         → PutsBack chains beside place actor undo.now room.old room.new (W.state world.old) (W.state world.new) result }
-    ensures awaits { (actor : ℕ) → AwaitsAt actor (clustered_index undo.now.table) (W.state world.old) (W.state world.new) }
+    ensures awaits { AwaitsNoMore (W.state world.old) (W.state world.new) }
 {
     match world.value(pointer, &mut room.older) {
         Ok(true) => look_at_version(world, undo, room, which),
-        Ok(false) => go_to(room, Stage::Await { which }),
+        Ok(false) => go_to(room, Stage::Remove { which }),
         Err(Visit::Failed) => Move::Failed,
         Err(Visit::Again) => Move::Again,
         Err(Visit::Bad { page, rule }) => Move::Bad { page, rule },
@@ -185,7 +183,7 @@ pub(crate) fn mark<W: World>(
     requires stage { room.old.stage ≡ Stage.Mark which }
     ensures puts { (chains : Chains) (beside : Said) (place : Place) → IsPuttingBack chains beside place undo.now room.old (W.state world.old)
         → PutsBack chains beside place actor undo.now room.old room.new (W.state world.old) (W.state world.new) result }
-    ensures awaits { AwaitsAt actor (key_index undo.now.table which) (W.state world.old) (W.state world.new) }
+    ensures awaits { AwaitsNoMore (W.state world.old) (W.state world.new) }
 {
     if !write_entry(world, undo, which, &room.newest, &mut room.entries) {
         return Move::NoMemory;
@@ -200,32 +198,7 @@ pub(crate) fn mark<W: World>(
     go_on(room, answer, after_entry(undo, which))
 }
 
-pub(crate) fn await_entries<W: World>(
-    world: &mut W,
-    actor: u32,
-    undo: &Undo,
-    room: &mut WorkRoom,
-    which: u8,
-) -> Move
-    requires under_way { (chains : Chains) × (beside : Said) × (place : Place) × IsPuttingBack chains beside place undo.now room.old (W.state world.old) }
-    requires stage { room.old.stage ≡ Stage.Await which }
-    ensures puts { (chains : Chains) (beside : Said) (place : Place) → IsPuttingBack chains beside place undo.now room.old (W.state world.old)
-        → PutsBack chains beside place actor undo.now room.old room.new (W.state world.old) (W.state world.new) result }
-    ensures awaits { AwaitsAt actor (key_index undo.now.table which) (W.state world.old) (W.state world.new) }
-{
-    if !write_entry(world, undo, which, &room.newest, &mut room.entries) {
-        return Move::NoMemory;
-    }
-    let answer = world.next_key(
-        entries_of(undo, which),
-        actor,
-        room.entries.entry(),
-        &mut room.next,
-    );
-    go_on_or_end(room, answer, Stage::Remove { which })
-}
-
-pub(crate) fn remove_entry<W: World>(
+pub(crate) fn remove_entry<W: EngineWorld>(
     world: &mut W,
     actor: u32,
     undo: &Undo,
@@ -236,12 +209,18 @@ pub(crate) fn remove_entry<W: World>(
     requires stage { room.old.stage ≡ Stage.Remove which }
     ensures puts { (chains : Chains) (beside : Said) (place : Place) → IsPuttingBack chains beside place undo.now room.old (W.state world.old)
         → PutsBack chains beside place actor undo.now room.old room.new (W.state world.old) (W.state world.new) result }
-    ensures awaits { AwaitsAt actor (key_index undo.now.table which) (W.state world.old) (W.state world.new) }
+    ensures awaits { AwaitsNoMore (W.state world.old) (W.state world.new) }
 {
     if !write_entry(world, undo, which, &room.newest, &mut room.entries) {
         return Move::NoMemory;
     }
-    let answer = world.remove(entries_of(undo, which), actor, room.entries.entry());
+    let answer = remove_pair(
+        world,
+        entries_of(undo, which),
+        actor,
+        room.entries.entry(),
+        &mut room.next,
+    );
     go_on_or_end(room, answer, after_entry(undo, which))
 }
 
@@ -256,7 +235,7 @@ pub(crate) fn unmark<W: World>(
     requires stage { room.old.stage ≡ Stage.Unmark which }
     ensures puts { (chains : Chains) (beside : Said) (place : Place) → IsPuttingBack chains beside place undo.now room.old (W.state world.old)
         → PutsBack chains beside place actor undo.now room.old room.new (W.state world.old) (W.state world.new) result }
-    ensures awaits { AwaitsAt actor (key_index undo.now.table which) (W.state world.old) (W.state world.new) }
+    ensures awaits { AwaitsNoMore (W.state world.old) (W.state world.new) }
 {
     if !write_entry(world, undo, which, undo.value.as_slice(), &mut room.entries) {
         return Move::NoMemory;

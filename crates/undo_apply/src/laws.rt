@@ -12,7 +12,7 @@ ghost use Rattle.world.specs.State.{WorldState};
 ghost use Rattle.undo_apply.specs.declared.work_room.WorkRoom.{WorkRoom};
 ghost use Rattle.world.specs.Told.{LeavesRows};
 ghost use Rattle.world.specs.AtHand.{IsAtHand};
-ghost use Rattle.row_changes.specs.Awaited.{IsAwaitedAlone};
+ghost use Rattle.undo_apply.specs.Removal.{IsAwaitedAlone};
 ghost use Rattle.undo_apply.specs.Stages.{IsPuttingBack, PutsBack};
 
 /// Steps of others that change no row may come between.

@@ -9,6 +9,7 @@ mod moves;
 mod record_bytes;
 mod record_room;
 mod record_steps;
+mod removal;
 mod taking_back;
 mod work_room;
 

@@ -7,7 +7,7 @@ ghost use Rattle.row_versions.specs.Chains.{Chains};
 ghost use Rattle.law_stored_rows.specs.Tables.{Said};
 ghost use Rattle.world.specs.Told.{TellsTogether};
 ghost use Rattle.world.specs.Undoing.{read_into};
-ghost use Rattle.row_changes.specs.Awaited.{AwaitsIn};
+ghost use Rattle.row_changes.specs.Awaited.{AwaitsNoMore};
 ghost use Rattle.undo_apply.specs.Stages.{IsPuttingBack, PutsBack};
 
 use crate::entry_room::lists_of_each_length;
@@ -18,7 +18,7 @@ use std::alloc::Global;
 use std::marker::Model;
 use std::mem;
 use store_api::{MOST_BYTES_OF_KEY, MOST_BYTES_OF_VALUE, Move, NoMemory, Undo};
-use world::{UndoRoom, World};
+use world::{EngineWorld, UndoRoom};
 
 /// Lists for the longest key and the longest value, and for all that are shorter. Contracts see nothing of them.
 #[derive(Drop)]
@@ -51,7 +51,7 @@ impl RecordRoom {
     }
 
     /// One step of the taking back of the change whose undo record was read, as `put_back`.
-    pub fn put_back<W: World>(
+    pub fn put_back<W: EngineWorld>(
         &mut self,
         world: &mut W,
         actor: u32,
@@ -63,7 +63,7 @@ impl RecordRoom {
         requires together { TellsTogether (W.state world.old) }
         ensures puts { (chains : Chains) (beside : Said) (place : Place) → IsPuttingBack chains beside place (read_into read.now) room.old (W.state world.old)
             → PutsBack chains beside place actor (read_into read.now) room.old room.new (W.state world.old) (W.state world.new) result }
-        ensures awaits { AwaitsIn actor read.now.table (W.state world.old) (W.state world.new) }
+        ensures awaits { AwaitsNoMore (W.state world.old) (W.state world.new) }
     {
         let undo = Undo {
             kind: read.kind,

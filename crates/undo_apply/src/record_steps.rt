@@ -3,18 +3,19 @@
 
 ghost use Rattle.std.specs.Prelude.{◌≡◌, ◌*◌, ◌↔◌, IsTrue, Some};
 ghost use Rattle.law_stored_rows.specs.Edits.{clustered_index};
-ghost use Rattle.row_changes.specs.Awaited.{AwaitsAt};
+ghost use Rattle.row_changes.specs.Awaited.{AwaitsNoMore};
 ghost use Rattle.row_versions.specs.declared.place.Place.{Place};
 ghost use Rattle.row_versions.specs.Chains.{Chains};
 ghost use Rattle.law_stored_rows.specs.Tables.{Said};
 ghost use Rattle.undo_apply.specs.Standing.{was_before};
 ghost use Rattle.undo_apply.specs.Stages.{IsPuttingBack, PutsBack};
 
-use crate::moves::{end, go_on_or_end, go_to};
+use crate::moves::{end, go_to};
+use crate::removal::remove_pair;
 use crate::work_room::{Stage, WorkRoom};
 use inno_db::index_number;
 use store_api::{Move, Undo, UndoKind};
-use world::World;
+use world::{EngineWorld, World};
 
 /// The number of the table's clustered index.
 fn records_of(undo: &Undo) -> u32
@@ -35,7 +36,7 @@ pub(crate) fn find<W: World>(world: &mut W, actor: u32, undo: &Undo, room: &mut 
     requires stage { room.old.stage ≡ Stage.Find }
     ensures puts { (chains : Chains) (beside : Said) (place : Place) → IsPuttingBack chains beside place undo.now room.old (W.state world.old)
         → PutsBack chains beside place actor undo.now room.old room.new (W.state world.old) (W.state world.new) result }
-    ensures awaits { AwaitsAt actor (clustered_index undo.now.table) (W.state world.old) (W.state world.new) }
+    ensures awaits { AwaitsNoMore (W.state world.old) (W.state world.new) }
 {
     match world.fetch(records_of(undo), actor, &undo.key, &mut room.newest) {
         Move::Done => {
@@ -49,23 +50,7 @@ pub(crate) fn find<W: World>(world: &mut W, actor: u32, undo: &Undo, room: &mut 
     }
 }
 
-pub(crate) fn await_records<W: World>(
-    world: &mut W,
-    actor: u32,
-    undo: &Undo,
-    room: &mut WorkRoom,
-) -> Move
-    requires under_way { (chains : Chains) × (beside : Said) × (place : Place) × IsPuttingBack chains beside place undo.now room.old (W.state world.old) }
-    requires stage { room.old.stage ≡ Stage.AwaitRecords }
-    ensures puts { (chains : Chains) (beside : Said) (place : Place) → IsPuttingBack chains beside place undo.now room.old (W.state world.old)
-        → PutsBack chains beside place actor undo.now room.old room.new (W.state world.old) (W.state world.new) result }
-    ensures awaits { AwaitsAt actor (clustered_index undo.now.table) (W.state world.old) (W.state world.new) }
-{
-    let answer = world.next_key(records_of(undo), actor, &undo.key, &mut room.next);
-    go_on_or_end(room, answer, Stage::Record)
-}
-
-pub(crate) fn put_record<W: World>(
+pub(crate) fn put_record<W: EngineWorld>(
     world: &mut W,
     actor: u32,
     undo: &Undo,
@@ -75,10 +60,10 @@ pub(crate) fn put_record<W: World>(
     requires stage { room.old.stage ≡ Stage.Record }
     ensures puts { (chains : Chains) (beside : Said) (place : Place) → IsPuttingBack chains beside place undo.now room.old (W.state world.old)
         → PutsBack chains beside place actor undo.now room.old room.new (W.state world.old) (W.state world.new) result }
-    ensures awaits { AwaitsAt actor (clustered_index undo.now.table) (W.state world.old) (W.state world.new) }
+    ensures awaits { AwaitsNoMore (W.state world.old) (W.state world.new) }
 {
     if undo.kind == UndoKind::NewRow as u8 {
-        let answer = world.remove(records_of(undo), actor, &undo.key);
+        let answer = remove_pair(world, records_of(undo), actor, &undo.key, &mut room.next);
         return end(room, answer);
     }
     let answer = world.replace(records_of(undo), actor, &undo.key, &undo.value, None);

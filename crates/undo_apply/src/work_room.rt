@@ -20,14 +20,11 @@ pub enum Stage {
     Walk { which: u8, pointer: u64 },
     /// It has: mark the newest row's entry.
     Mark { which: u8 },
-    /// No older version has: keep others from changing keys, and remove the entry.
-    Await { which: u8 },
+    /// No older version has: remove the entry.
     Remove { which: u8 },
     /// Unmark the entry of the row before.
     Unmark { which: u8 },
-    /// The keys are done: keep others from changing records, where this one is to be removed.
-    AwaitRecords,
-    /// Put the version before in place of the record, or remove it.
+    /// The keys are done: put the version before in place of the record, or remove it.
     Record,
 }
 

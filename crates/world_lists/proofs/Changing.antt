@@ -17,32 +17,29 @@ use Rattle.desks.specs.declared.desk.Doing.TheVariants.{Nothing, Searching, Chan
 use Rattle.desks.specs.Desks.{desk_at, doing_at, with_doing, doing_in, Store}
 use Rattle.desks.specs.{declared.desk.Desk.Desk, declared.desk.Doing.Doing, Shown.lists_of, Shown.shown, Undoing.left_in, Holding.IsHeld}
 use Rattle.desks.proofs.Showing.{task_is, desk_read, given_at}
-use Rattle.law_held_steps.proofs.Showing.{begun_turns, begun_task, went_shown, entered_shown, done_shown, given_up_shown, rows_shown, left_shown}
+use Rattle.law_held_steps.proofs.Showing.{begun_turns, begun_task, went_shown, entered_shown, done_shown, given_up_shown, rows_shown}
 use Rattle.row_changes.proofs.Pushed.{at_row, changes_row}
 use Rattle.law_held_steps.proofs.{Made.can_be_keyed, Made.begins, Made.change_made, Hindering.last_lacks, Hindering.room_lacks, Hindering.keys_lack}
 use Rattle.law_held_steps.proofs.Hindering.{lacking}
 use Rattle.law_held_steps.specs.Hindering.{IsForWant, hindrance_of}
 use Rattle.shared_lists.specs.declared.answers.Hindrance.TheVariants as hindrances
-use Rattle.law_held_steps.proofs.{Putting.changing_rows, Putting.alone_if, AnyStep.doing_here, AnyStep.changes_at_a_desk, Places.held_left}
-use Rattle.world_lists.specs.Parts.{StepsChange, StepsAtDesk, HasChange, IsThereToRemove, RemovesRow, MayGoOn, LeavesIfOver, IsForWantIfHindered}
+use Rattle.law_held_steps.proofs.{Putting.changing_rows, Putting.alone_if, AnyStep.doing_here, AnyStep.changes_at_a_desk}
+use Rattle.world_lists.specs.Parts.{StepsChange, StepsAtDesk, HasChange, IsThereToRemove, RemovesRow, MayGoOn, IsForWantIfHindered}
 use Rattle.world_lists.specs.Parts.{doing_now, is_told, answer_for}
-use Rattle.world_lists.specs.Between.{IsKept, AwaitsWriter}
+use Rattle.world_lists.specs.Between.{IsKept}
 use Rattle.inno_model.specs.{Past.IsOpen, Past.own, Past.commits, Past.committed, declared.event.Event.Event}
 use Rattle.row_changes.specs.{Reached.Went, Reached.Done, Reached.Hindered, Reached.Reached, Rows.IsChangingRow, Rows.IsAtRow, Rows.MakesRow, Rows.ChangesRow}
-use Rattle.row_changes.specs.{Rows.table_of}
 use Rattle.row_changes.specs.{Rows.primary_of, Edits.change_of, Edits.FitsEdit, Edits.HasNoRow, Edits.LacksRow, Records.IsTable, Records.IsSpoiled}
 use Rattle.row_changes.specs.{Records.HindersRecord, declared.row_change.RowChange.TheVariants.Record, declared.row_change.RowChange.TheVariants.Keys}
-use Rattle.row_changes.specs.{declared.row_edit.RowEdit.TheVariants.Put, declared.row_edit.RowEdit.TheVariants.Remove, Awaited.AwaitsIn, Awaited.IsAwaitedAlone}
+use Rattle.row_changes.specs.{declared.row_edit.RowEdit.TheVariants.Put, declared.row_edit.RowEdit.TheVariants.Remove, Awaited.AwaitsNoMore, Awaited.AwaitsNobody}
 use Rattle.row_changes.specs.{declared.row_edit.RowEdit.RowEdit, declared.row_change.RowChange.RowChange, Told.HasRowsAt}
 use Rattle.row_changes.specs.{declared.record_change.RecordChange.RecordChange}
 use Rattle.law_held_steps.specs.Making.{doing_after, made_to, Comes, LeavesLists, MakesChange, IsEditable, IsKeyOfEdit, begun}
-use Rattle.law_held_steps.specs.Leaving.{is_searching, MovesPlaces, LeavesTable}
-use Rattle.world_lists.proofs.Calls.{kept_beside, awaits_alone, same_no_more, change_awaits, only_mine, rests, table_by, past_here, at_rest, at_desk}
+use Rattle.world_lists.proofs.Calls.{kept_beside, same_no_more, nobody_then, past_here, at_rest, at_desk}
 use Rattle.world_lists.proofs.Calls.{writer_now}
 use Rattle.law_past_agreement.specs.{Rows.is_at, Rows.row_opened, Rows.row_seen, Order.created}
 use Rattle.inno_db.specs.declared.change.Change.{Change}
 use Rattle.row_changes.proofs.{Changing.lacks_memory, Sessions.one_found, Telling.tells, Pushed.key_at}
-use Rattle.law_logged_changes.proofs.Leaving.{left_told}
 use Rattle.inno_types.specs.{declared.value.Column.Column, declared.value.Schema.Schema, declared.value.Value.Value}
 use Rattle.store_api.specs.declared.moves.Move.TheVariants.{NoMemory, End}
 use Rattle.store_api.specs.{declared.moves.Move.Move, declared.answers.Version.Version as Coded}
@@ -55,7 +52,7 @@ use Rattle.law_world_agreement.specs.Agreement.{Agrees}
 use Rattle.law_world_agreement.proofs.Readers.{seen_newest}
 use Rattle.law_logged_changes.specs.Logs.{IsAloneAt}
 
--- ---- Nothing but want of memory, of pages or of levels hinders a step over a store at hand where nobody else is awaited: the record is coded, and
+-- ---- Nothing but want of memory, of pages or of levels hinders a step over a store at hand where nobody is awaited: the record is coded, and
 -- there where it is to be removed.
 
 no_row : (row : Option (List Value)) → row ≡ None → is_some row ≡ true → ⊥
@@ -115,12 +112,12 @@ module _ (chains : Chains) (beside : Said) (state : WorldState) (told : IsTold s
 
 -- ---- a step
 
-module _ (s : ℕ) (chains : Chains) (beside : Said) (old new : WorldState) (was : IsAtHand old) (now : IsAtHand new) (alone : IsAwaitedAlone s old) where
+module _ (s : ℕ) (chains : Chains) (beside : Said) (old new : WorldState) (was : IsAtHand old) (now : IsAtHand new) (nobody : AwaitsNobody old) where
   record_lacks : (change : RecordChange) (schema : Schema) (why : Move) → IsTable change.table schema old → FitsEdit schema change.edit change.key
       → HasRowsAt chains beside change.table change.key old → IsThereToRemove chains change.table change.edit → HindersRecord s change schema old new why
       → IsForWant why
   record_lacks change schema why is fits rows has (inl call) =
-      last_lacks s old new was now alone (clustered_index change.table) why call
+      last_lacks s old new was now nobody (clustered_index change.table) why call
   record_lacks change schema why is fits rows has (inr (inl room)) = room_lacks s old new was now _ why room.0 room.1
   record_lacks change schema why is fits rows has (inr (inr (inl spoiled))) =
       absurd (never_spoiled chains beside old was.told change.table schema change.edit change.key is.there fits rows spoiled)
@@ -134,10 +131,10 @@ hindered_for_want s old new (Record change key after) same why was now may made 
     let is = may.changing.0 in
     let off = made.2 in
     let one = one_found is.schema off.1 is.table.there off.2.there in
-    record_lacks s may.chains may.beside old new was now may.alone change off.1 why off.2
+    record_lacks s may.chains may.beside old new was now may.nobody change off.1 why off.2
     (subst (λ (schema : Schema). FitsEdit schema change.edit change.key) one is.fits) may.changing.1 may.removes off.3
 hindered_for_want s old new (Keys change) same why was now may made =
-    keys_lack s old new was now may.alone change why made.2.1
+    keys_lack s old new was now may.nobody change why made.2.1
 
 -- ---- the newest row of a place is the one that the session sees, where no other has changes of it
 
@@ -164,33 +161,6 @@ module _ (chains : Chains) (state : WorldState) (agrees : Agrees chains state) (
 
 -- ---- the table of a change
 
--- the table is there, and has few keys
-abbrev pub HasTable : ℕ → WorldState → Type 0
-HasTable table state = (schema : Schema) × (slice_get state.schemas table ≡ Some schema) × (length schema.keys < 5)
-
-few_keys : (table : ℕ) (schema : Schema) (state : WorldState) → IsTable table schema state → HasTable table state
-few_keys table schema state is =
-    let few = is.storable.few in
-    let fewer : length schema.keys < 5 = omega arith in
-    (schema, is.there, fewer)
-
-module _ (s : ℕ) (chains : Chains) (beside : Said) where
-  table_there : (state : WorldState) (change : RowChange) → IsChangingRow s chains beside state change → HasTable (table_of change) state
-  table_there state (Record change key after) is = few_keys change.table is.0.schema state is.0.table
-  table_there state (Keys change) is = few_keys change.table is.schema state is.table
-
-  still_changing : (old new : WorldState) (change same : RowChange) (why : Move) → ChangesRow s chains beside old new change (Hindered same why)
-      → IsChangingRow s chains beside new change
-  still_changing old new (Record change key after) same why is = is.1
-  still_changing old new (Keys change) same why is = is.1
-
-  done_table : (old new : WorldState) (change : RowChange) → IsChangingRow s chains beside old change → ChangesRow s chains beside old new change Done
-      → HasTable (table_of change) new
-  done_table old new (Record change key after) is made = absurd made
-  done_table old new (Keys change) is made =
-      let had = table_there old (Keys change) is in
-      (had.0, ap (λ (state : WorldState). slice_get state.schemas change.table) made.0.rest ∙ had.1, had.2)
-
 pub its_rows : {s : ℕ} {state : WorldState} {change : RowChange} → MayGoOn s state change
     → (chains : Chains) × (beside : Said) × IsChangingRow s chains beside state change
 its_rows may = (may.chains, may.beside, may.changing)
@@ -213,27 +183,6 @@ wants_of s old new change same why was now may made is =
     hindered_for_want s old new change same why was now may (subst (ChangesRow s may.chains may.beside old new change) is
     (changed_as s old new change _ made may.chains may.beside may.changing))
 
--- it is there where a change has come so far, and where one is given up
-module _ (s : ℕ) {table : ℕ} (change : RowChange) (table_is : table ≡ table_of change) (old : WorldState)
-    (may : (chains : Chains) × (beside : Said) × IsChangingRow s chains beside old change) where
-  pub table_dropped : HasTable table old
-  table_dropped = subst (λ n. HasTable n old) (sym table_is) (table_there s may.0 may.1 old change may.2)
-
-  module _ (new : WorldState) (came : Reached RowChange)
-      (made : (chains : Chains) (beside : Said) → IsChangingRow s chains beside old change → ChangesRow s chains beside old new change came) where
-    made_as : {reached : Reached RowChange} → came ≡ reached → ChangesRow s may.0 may.1 old new change reached
-    made_as is = subst (ChangesRow s may.0 may.1 old new change) is (made may.0 may.1 may.2)
-
-    pub table_left : {same : RowChange} {why : Move} → came ≡ Hindered same why → HasTable table new
-    table_left {same} {why} is =
-        subst (λ n. HasTable n new) (sym table_is) (table_there s may.0 may.1 new change (still_changing s may.0 may.1 old new change same why (made_as is)))
-
-    pub table_over : came ≡ Done → HasTable table new
-    table_over is = subst (λ n. HasTable n new) (sym table_is) (done_table s may.0 may.1 old new change may.2 (made_as is))
-
-pub gone_by : {s table other : ℕ} {old new : WorldState} → table ≡ other → LeavesTable s table old new → LeavesTable s other old new
-gone_by {s} {old = old} {new = new} same gone = subst (λ n. LeavesTable s n old new) same gone
-
 -- ---- how far a change came
 
 pub answer_over : (change : RowChange) → stepped.Done part.Keys ≡ answer_for change Done
@@ -252,18 +201,14 @@ lies_there (Record change key after) (Keys next) is = ap (doing_now (Record chan
 lies_there (Keys change) (Record next key after) is = ap (doing_now (Keys change) (Record next key after)) is
 lies_there (Keys change) (Keys next) is = ap (doing_now (Keys change) (Keys next)) is
 
-pub step_of : {s : ℕ} (change : RowChange) {old mid new : WorldState} {doing : Doing} {answer : Changed} {came : Reached RowChange}
-    (reached : Reached RowChange) → AwaitsIn s (table_of change) old mid → MovesPlaces s mid new → came ≡ reached
-    → ((chains : Chains) (beside : Said) → IsChangingRow s chains beside old change → ChangesRow s chains beside old mid change came)
-    → LeavesIfOver s (table_of change) mid new reached → IsForWantIfHindered reached → doing ≡ doing_after change reached
-    → answer ≡ answer_for change reached → StepsChange s change old new doing answer
-step_of {s} change {old} {mid} reached awaits left is made gone wants doing_is answer_is = record {
-  mid = mid;
+pub step_of : {s : ℕ} (change : RowChange) {old new : WorldState} {doing : Doing} {answer : Changed} {came : Reached RowChange}
+    (reached : Reached RowChange) → AwaitsNoMore old new → came ≡ reached
+    → ((chains : Chains) (beside : Said) → IsChangingRow s chains beside old change → ChangesRow s chains beside old new change came)
+    → IsForWantIfHindered reached → doing ≡ doing_after change reached → answer ≡ answer_for change reached → StepsChange s change old new doing answer
+step_of {s} change {old} {new} reached awaits is made wants doing_is answer_is = record {
   reached = reached;
-  made = λ chains beside changing. subst (ChangesRow s chains beside old mid change) is (made chains beside changing);
+  made = λ chains beside changing. subst (ChangesRow s chains beside old new change) is (made chains beside changing);
   awaits = awaits;
-  left = left;
-  gone = gone;
   wants = wants;
   doing_is = doing_is;
   answer_is = answer_is;
@@ -355,7 +300,7 @@ module _ (s : ℕ) {store : Store} {lists : Lists} (kept : IsKept store) (view :
       change_kept told is_open =
           let idles = at_rest s kept view idle in
           let there = subst (λ (schema : Schema). slice_get state.schemas table ≡ Some schema) one can.there in
-          kept_beside kept (same_no_more state) s (Changing (begun table edit key)) (rests (desk_at s store.desks) idles (λ undone. refl)) gives
+          kept_beside kept (same_no_more state) s (Changing (begun table edit key)) gives
           (begins kept.held (writer_now s kept view locked) told table found edit key idles (past_here s kept view (IsOpen s) is_open) fits_mine there spelled)
 
       pub change_begins : s < length lists.state.names → Begins s change lists (lists_of (record store { desks = later }))
@@ -385,12 +330,6 @@ pub record ChangesIn (s : ℕ) (old new : Lists) (answer : Changed) : Type 0 whe
 all_of : {s : ℕ} {old new : Lists} {answer : Changed} → Changes s old.state new.state answer → new.settings ≡ old.settings
     → new.rows ≡ old.rows + rows_entered answer (task_of s old.state) → ChangesIn s old new answer
 all_of changes settings rows = record { changes = changes; settings = settings; rows = rows }
-
-not_searching : (change : RowChange) (came : Reached RowChange) → is_searching (doing_after change came) ≡ false
-not_searching change (Went next) = refl
-not_searching change Done = refl
-not_searching (Record change key after) (Hindered same why) = refl
-not_searching (Keys change) (Hindered same why) = refl
 
 no_more : (new old : ℕ) → new ≡ old → new ≡ old + 0
 no_more new old same = omega arith
@@ -427,51 +366,27 @@ module _ {s : ℕ} {store : Store} {new : WorldState} (held : IsHeld store) (min
 module _ (s : ℕ) {store : Store} {new : WorldState} {change : RowChange} {doing : Doing} {answer : Changed}
     (step : StepsChange s change store.world new doing answer) (kept : IsKept store) (mine : store.writer ≡ Some s)
     (at : doing_at s store.desks ≡ Changing change) (was : IsTold store.world) (told : IsTold new) (few : length new.past < 2 ^ 63) where
-  told_mid : IsTold step.mid
-  told_mid =
-      left_told step.mid new (record {
-        schemas = ap (λ (state : WorldState). state.schemas) step.left.rest;
-        pairs = step.left.pairs;
-        versions = step.left.versions;
-      }) told
-
-  is_made : MakesChange s store step.mid change step.reached
-  is_made =
-      change_made kept.held mine at (λ chains. step.made chains (what_is_there chains)) was told_mid
-      (subst (λ (past : List Event). length past < 2 ^ 63) (ap (λ (state : WorldState). state.past) step.left.rest) few)
+  is_made : MakesChange s store new change step.reached
+  is_made = change_made kept.held mine at (λ chains. step.made chains (what_is_there chains)) was told few
 
   within : s < length store.desks
   within = changes_at_a_desk s store.desks at
 
-  abbrev made_mid : Store
-  made_mid = made_to s store step.mid change step.reached
-
   abbrev made : Store
   made = record store { world = new; desks = with_doing s doing store.desks }
 
-  none : is_searching (doing_at s made_mid.desks) ≡ false
-  none = ap is_searching (doing_here s (doing_after change step.reached) store.desks within) ∙ not_searching change step.reached
-
   -- the same of what the step was made to
-  as_made : (P : Store → Type 0) → P (record made_mid { world = new }) → P made
+  as_made : (P : Store → Type 0) → P (made_to s store new change step.reached) → P made
   as_made P holds = subst (λ (d : Doing). P (record store { world = new; desks = with_doing s d store.desks })) (sym step.doing_is) holds
 
-  mine_awaits : AwaitsWriter made
-  mine_awaits =
-      change_awaits s store.world made change mine (only_mine s (table_of change) kept.awaits mine (table_by (desk_at s store.desks) at (λ undone. refl)
-      (λ none. absurd (let same : Changing change ≡ Nothing = none in cc)))) kept.held.chains (what_is_there kept.held.chains)
-      (ap (λ (state : WorldState). state.schemas) step.left.rest ∙ is_made.leaves.schemas) (changing_rows s kept.held mine at).0 doing answer step
-      (doing_here s doing store.desks within) is_made.leaves.schemas
-
   mine_kept : IsKept made
-  mine_kept = record { held = as_made IsHeld (held_left step.left is_made.held none told); awaits = mine_awaits }
+  mine_kept = record { held = as_made IsHeld is_made.held; awaits = nobody_then kept.awaits step.awaits }
 
   mine_shown : ChangesIn s (lists_of store) (lists_of made) answer
   mine_shown =
       as_made (λ now. ChangesIn s (lists_of store) (lists_of now) answer) (subst (λ (a : Changed). ChangesIn s (lists_of store)
-      (lists_of (record made_mid { world = new })) a) (sym step.answer_is) (subst (λ (now : Lists). ChangesIn s (lists_of store) now
-      (answer_for change step.reached)) (sym (left_shown made_mid step.left none told))
-      (came_shown kept.held mine is_made.leaves within change step.reached at step.wants is_made.comes)))
+      (lists_of (made_to s store new change step.reached)) a) (sym step.answer_is)
+      (came_shown kept.held mine is_made.leaves within change step.reached at step.wants is_made.comes))
 
 untold_if : (schemas : List Schema) (left : ℕ) (change : RowChange) {asks : Change} → asked (shown schemas left (Changing change)) ≡ Some asks
     → is_told change ≡ false
@@ -550,7 +465,7 @@ module _ (s : ℕ) {store : Store} {lists : Lists} (kept : IsKept store) (view :
       beside = what_is_there kept.held.chains;
       changing = (changing_rows s kept.held its at).0;
       removes = its_row change at;
-      alone = awaits_alone s kept.awaits its;
+      nobody = kept.awaits;
     }
 
   module _ (changing : is_changing (task_of s lists.state) ≡ true) where

@@ -18,8 +18,8 @@ use Rattle.law_past_agreement.specs.Slots.{writer_without}
 use Rattle.law_held_steps.proofs.Items.{joined_held, started_held, ended_held, acked_held, signal_held, unentered_held, txn_here, txn_elsewhere, viewed_held}
 use Rattle.law_held_steps.proofs.Items.{saved_held, committed_held, rolled_back_held, opened_held, created_held}
 use Rattle.law_held_steps.proofs.{Showing.tasks_same, Showing.now_of, Showing.settings_by, Showing.settings_same, Showing.settings_now, AnyStep.some_same}
-use Rattle.world_lists.proofs.Calls.{kept_on, kept_by, kept_closed, no_more_in, rests, past_here, joined_here, its_session, its_work, its_listed, its_txn}
-use Rattle.world_lists.proofs.Calls.{its_own, at_rest, start_leaves, new_leaves, closed_none, awaits_of_nobody, awaits_none, writer_now}
+use Rattle.world_lists.proofs.Calls.{kept_on, kept_closed, no_more_in, past_here, joined_here, its_session, its_work, its_listed, its_txn}
+use Rattle.world_lists.proofs.Calls.{its_own, at_rest, start_leaves, new_leaves, closed_none, writer_now}
 use Rattle.desks.specs.Desks.{desk_at, with_start, IsNewDesk, Store, doing_at, is_quiet_doing}
 use Rattle.desks.specs.declared.desk.Doing.TheVariants.{Nothing, Searching, Changing, Lagging, Undoing}
 use Rattle.desks.specs.{Shown.lists_of, Shown.shown, Shown.task_at, declared.desk.Desk.Desk, Holding.IsHeld, Undoing.left_in, declared.desk.Doing.Doing}
@@ -27,7 +27,7 @@ use Rattle.row_changes.specs.{Records.IsListed, Records.id_for, Records.txns_wit
 use Rattle.law_past_agreement.specs.Order.{MayCome}
 use Rattle.store_api.specs.declared.answers.Standing.{Standing}
 use Rattle.law_held_steps.specs.Making.{settings_of}
-use Rattle.world_lists.specs.Between.{IsKept, table_at}
+use Rattle.world_lists.specs.Between.{IsKept}
 use Rattle.inno_types.specs.{declared.lock.Level.Level, declared.reply.Item.Item, declared.reply.Reply.Reply, declared.stmt.Stmt.Stmt}
 use Rattle.inno_types.specs.{declared.value.Schema.Schema}
 use Rattle.inno_model.proofs.Commits.{begins_few}
@@ -88,7 +88,7 @@ module _ (s : ℕ) {store : Store} {lists : Lists} (kept : IsKept store) (view :
   pub kept_as : {new target : WorldState} → new ≡ target → target.indexes ≡ old.indexes → target.schemas ≡ old.schemas → IsHeld (in_world target)
       → IsKept (in_world new)
   kept_as {new} {target} is indexes schemas held =
-      kept_on kept (no_more_in old new target is indexes schemas) (subst (λ (w : WorldState). IsHeld (in_world w)) (sym is) held)
+      kept_on kept (no_more_in old new target is indexes) (subst (λ (w : WorldState). IsHeld (in_world w)) (sym is) held)
 
   pub few_by : (e : Event) {new target : WorldState} → new ≡ target → target.past ≡ e ∷ old.past → length new.past < 2 ^ 63 → length old.past + 1 < 2 ^ 63
   few_by e is past few = omega (arith, few, ap length (ap (λ (w : WorldState). w.past) is ∙ past))
@@ -140,9 +140,7 @@ module _ (s : ℕ) {store : Store} {lists : Lists} (kept : IsKept store) (view :
       (made : new ≡ with_joined name old) where
     pub joined_kept : IsTold old → length old.names < 68 → IsKept (record store { world = new; desks = now })
     joined_kept told few =
-        kept_by kept (no_more_in old new (with_joined name old) made refl refl) now
-        (λ u. ap (λ (ds : List Desk). table_at (desk_at u ds)) now_is
-        ∙ new_leaves table_at desk (rests (Some desk) fresh.doing_is (λ undone. refl)) u store.desks)
+        kept_on kept (no_more_in old new (with_joined name old) made refl)
         (subst (λ (w : WorldState). IsHeld (record store { world = w; desks = now })) (sym made) (subst (λ (ds : List Desk). IsHeld (record store
         { world = with_joined name old; desks = ds })) (sym now_is) (joined_held kept.held told name few fresh)))
 
@@ -213,8 +211,7 @@ module _ (s : ℕ) {store : Store} {lists : Lists} (kept : IsKept store) (view :
             → IsKept (record store { world = new; desks = now })
         started_kept idle told none few =
             let j = started s lists.state.past + 1 in
-            kept_by kept (no_more_in old new (item_started s j item mine old) started_is refl refl) now
-            (λ u. ap (λ (ds : List Desk). table_at (desk_at u ds)) now_is ∙ start_leaves table_at (λ desk. refl) s u store.desks)
+            kept_on kept (no_more_in old new (item_started s j item mine old) started_is refl)
             (subst (λ (ds : List Desk). IsHeld (record store { world = new; desks = ds })) (sym now_is) (subst (λ (w : WorldState). IsHeld (record store
             { world = w; desks = with_start s store.desks })) (sym started_is) (started_held kept.held s (at_rest s kept view idle) told mine its j item
             (joined_here s kept view joined) (past_here s kept view (λ h. under_way s h ≡ None) none)
@@ -314,7 +311,7 @@ module _ (s : ℕ) {store : Store} {lists : Lists} (kept : IsKept store) (view :
       closed : {target : WorldState} → new ≡ target → target.indexes ≡ old.indexes → target.schemas ≡ old.schemas
           → IsHeld (record store { world = new; writer = writer_without store.writer s }) → IsKept (record store { world = new; writer = later })
       closed {target} is indexes schemas =
-          kept_closed kept (no_more_in old new target is indexes schemas) s (at_rest s kept view idle) later_is
+          kept_closed kept (no_more_in old new target is indexes) s later_is
 
       pub committed_kept : IsCommitted s old new → IsKept (record store { world = new; writer = later })
       committed_kept ends =
@@ -592,16 +589,13 @@ module _ (s : ℕ) {store : Store} {lists : Lists} (kept : IsKept store) (view :
         same_index : (index : ℕ) → new.indexes index ≡ before_it.indexes index
         same_index index = ap (λ (w : WorldState). w.indexes index) gives.rest ∙ makes.same index
 
-        -- who makes a table is at rest, so nobody is awaited
         pub table_kept : IsTold before_it → IsTold new → IsStorable schema → length new.past < 2 ^ 63 → own s lists.state.past ≡ [] → IsKept made
         table_kept told told_now storable few none = record {
           held = created_held kept.held may_write at_its_rest told told_now (changed_by makes listed gives) refl refl refl same_index
               (ap (λ (w : WorldState). w.versions) gives.rest ∙ ap (λ (w : WorldState). w.versions) makes.rest) (λ which within. ap (λ (w : WorldState).
               w.indexes (index_of (length before_it.schemas) which)) gives.rest ∙ makes.empty which within) storable
               (omega (arith, few, ap length (past_is makes listed gives))) (past_here s kept view (λ h. own s h ≡ []) none);
-          awaits = awaits_of_nobody made
-              (λ index by is. awaits_none s kept.awaits may_write (rests (desk_at s store.desks) at_its_rest (λ undone. refl)) index by
-              (sym (ap (λ (at : Index). at.awaited) (same_index index)) ∙ is));
+          awaits = λ index by is. kept.awaits index by (sym (ap (λ (at : Index). at.awaited) (same_index index)) ∙ is);
         }
 
         all_quiet : (u : ℕ) → is_quiet_doing (doing_at u store.desks) ≡ true

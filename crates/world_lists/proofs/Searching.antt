@@ -38,7 +38,7 @@ use Rattle.row_search.specs.{declared.found.FoundRow.FoundRow, declared.search.R
 use Rattle.desks.specs.{declared.desk.Desk.Desk, declared.desk.Doing.Doing, declared.desk.Doing.TheVariants.Nothing, declared.desk.Doing.TheVariants.Searching}
 use Rattle.desks.specs.{declared.desk.TableSearch.TableSearch, Desks.desk_at, Desks.doing_at, Desks.with_doing, Desks.is_quiet, Desks.Store, Holding.IsHeld}
 use Rattle.desks.specs.{Holding.IsOwnView, Holding.SightHolds, Shown.reading_of, Shown.lists_of, Undoing.left_in, Searching.places_in, Searching.places_of}
-use Rattle.world_lists.proofs.Calls.{kept_on, kept_beside, moves_no_more, same_no_more, at_rest, at_desk, rests, writer_now}
+use Rattle.world_lists.proofs.Calls.{kept_on, kept_beside, moves_no_more, same_no_more, at_rest, at_desk, writer_now}
 
 -- ---- who reads
 
@@ -179,7 +179,7 @@ module _ (s : ℕ) {store : Store} {lists : Lists} (kept : IsKept store) (view :
         pub begun_kept : task_of s lists.state ≡ tasks.Idle → IsTold old → IsKept (record store { desks = after })
         begun_kept idle told =
             let idles = at_rest s kept view idle in
-            kept_beside kept (same_no_more old) s (Searching first) (rests (desk_at s store.desks) idles (λ undone. refl)) at
+            kept_beside kept (same_no_more old) s (Searching first) at
             (begun s kept.held told idles copied fits reads.0 has_begun)
 
         pub begun_seen : s < length lists.state.names
@@ -232,11 +232,10 @@ module _ (s : ℕ) {store : Store} {lists : Lists} (kept : IsKept store) (view :
     is : doing_at s store.desks ≡ Searching on
     is = sym was
 
-    -- who searches is not awaited
     kept_now : {new : WorldState} {after : List Desk} (doing : Doing) → after ≡ with_doing s doing store.desks → MovesPlaces s old new
         → IsHeld (record store { world = new; desks = with_doing s doing store.desks }) → IsKept (record store { world = new; desks = after })
     kept_now {new} doing at moves =
-        kept_beside kept (moves_no_more s old new moves) s doing (rests (desk_at s store.desks) is (λ undone. refl)) at
+        kept_beside kept (moves_no_more s old new moves) s doing at
 
     -- it is over, or given up
     turns_idle : {new : WorldState} {after : List Desk} → after ≡ with_doing s Nothing store.desks → MovesPlaces s old new → IsTold new

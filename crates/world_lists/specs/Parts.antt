@@ -6,14 +6,14 @@ use Rattle.world.specs.State.{WorldState, Session, Work, IsSession, HasWork, sta
 use Rattle.world.specs.{Sessions.undone_added, Undoing.IsCutBack}
 use Rattle.row_changes.specs.{declared.row_change.RowChange.RowChange, declared.row_change.RowChange.TheVariants.Record}
 use Rattle.row_changes.specs.{declared.row_change.RowChange.TheVariants.Keys, Reached.Reached, Rows.IsChangingRow, Rows.ChangesRow}
-use Rattle.row_changes.specs.{Rows.table_of, Awaited.AwaitsIn, Awaited.IsAwaitedAlone, declared.row_edit.RowEdit.RowEdit}
+use Rattle.row_changes.specs.{Awaited.AwaitsNoMore, Awaited.AwaitsNobody, declared.row_edit.RowEdit.RowEdit}
 use Rattle.row_changes.specs.declared.row_edit.RowEdit.TheVariants.{Put, Remove}
 use Rattle.store_api.specs.declared.stepped.Stepped.TheVariants.{Went, Done, Hindered}
 use Rattle.shared_lists.specs.Answers.{Changed}
 use Rattle.shared_lists.specs.declared.answers.ChangePart.TheVariants as part
 use Rattle.desks.specs.{declared.desk.Doing.Doing, declared.desk.Doing.TheVariants.Nothing, declared.desk.Doing.TheVariants.Changing, Desks.doing_at}
 use Rattle.desks.specs.{Desks.with_doing, declared.desk.Desk.Desk}
-use Rattle.law_held_steps.specs.{Making.given_up, Making.doing_after, Leaving.MovesPlaces, Leaving.LeavesTable, Hindering.IsForWant}
+use Rattle.law_held_steps.specs.{Making.given_up, Making.doing_after, Hindering.IsForWant}
 use Rattle.law_held_steps.specs.Hindering.{hindrance_of}
 use Rattle.row_changes.specs.Reached as reached
 
@@ -29,23 +29,16 @@ answer_for change (reached.Went next) = Went
 answer_for change reached.Done = Done part.Keys
 answer_for change (reached.Hindered same why) = Hindered (hindrance_of why)
 
-abbrev pub LeavesIfOver : ℕ → ℕ → WorldState → WorldState → Reached RowChange → Type 0
-LeavesIfOver s table old new (reached.Went next) = Unit {0}
-LeavesIfOver s table old new other = LeavesTable s table old new
-
 -- one that was hindered was so for want of memory, of pages or of levels
 abbrev pub IsForWantIfHindered : Reached RowChange → Type 0
 IsForWantIfHindered (reached.Hindered same why) = IsForWant why
 IsForWantIfHindered other = Unit {0}
 
--- The change has made a step; one that is over, or was hindered, awaits no keys any more.
+-- The change has made a step, which leaves nobody awaited.
 pub record StepsChange (s : ℕ) (change : RowChange) (old new : WorldState) (doing : Doing) (answer : Changed) : Type 0 where
-  pub mid : WorldState
   pub reached : Reached RowChange
-  pub made : (chains : Chains) (beside : Said) → IsChangingRow s chains beside old change → ChangesRow s chains beside old mid change reached
-  pub awaits : AwaitsIn s (table_of change) old mid
-  pub left : MovesPlaces s mid new
-  pub gone : LeavesIfOver s (table_of change) mid new reached
+  pub made : (chains : Chains) (beside : Said) → IsChangingRow s chains beside old change → ChangesRow s chains beside old new change reached
+  pub awaits : AwaitsNoMore old new
   pub wants : IsForWantIfHindered reached
   pub doing_is : doing ≡ doing_after change reached
   pub answer_is : answer ≡ answer_for change reached
@@ -67,14 +60,14 @@ abbrev pub RemovesRow : Chains → RowChange → Type 0
 RemovesRow chains (Record change key after) = IsThereToRemove chains change.table change.edit
 RemovesRow chains (Keys change) = Unit {0}
 
--- The change may make its next step, which over a store at hand nothing but want of memory, of pages or of levels hinders: nobody else is
+-- The change may make its next step, which over a store at hand nothing but want of memory, of pages or of levels hinders: nobody is
 -- awaited, and a row that it removes is there.
 pub record MayGoOn (s : ℕ) (state : WorldState) (change : RowChange) : Type 0 where
   pub chains : Chains
   pub beside : Said
   pub changing : IsChangingRow s chains beside state change
   pub removes : RemovesRow chains change
-  pub alone : IsAwaitedAlone s state
+  pub nobody : AwaitsNobody state
 
 -- The session has a change at its desk that may make a step.
 abbrev pub HasChange : ℕ → WorldState → List Desk → Type 0

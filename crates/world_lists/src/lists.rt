@@ -4,7 +4,7 @@
 ghost use Rattle.std.specs.Prelude.{◌≡◌, ◌<◌, ◌^◌, length, IfOk};
 ghost use Rattle.desks.specs.Holding.{IsFresh};
 ghost use Rattle.shared_lists.specs.State.{IsFirst};
-ghost use Rattle.world_lists.specs.Between.{AwaitsNobody};
+ghost use Rattle.row_changes.specs.Awaited.{AwaitsNobody};
 
 use desks::Desk;
 use std::alloc::Global;

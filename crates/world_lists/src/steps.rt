@@ -269,7 +269,7 @@ impl<W: EngineWorld> SharedLists for WorldLists<W> {
         let Doing::Changing(change) = doing else {
             unreachable!()
         };
-        let doing = drop_change(&mut self.world, session, change);
+        let doing = drop_change(&self.world, session, change);
         give_doing(&mut self.desks, session, doing);
         is_short(&self.world);
     }

@@ -1,8 +1,7 @@
 //! The parts of changes of rows, and of their taking back.
 //! `steps` alone calls these, with the world and the session's desk in its hands.
 
-ghost use Rattle.std.specs.Prelude.{◌≡◌, ◌≢◌, ℕ, ◌-◌, ◌<◌, Option, false, [], length, slice_get, Some, IsTrue, ◌↔◌, IfSome, IfNone};
-ghost use Rattle.inno_types.specs.declared.value.Schema.{Schema};
+ghost use Rattle.std.specs.Prelude.{◌≡◌, ◌≢◌, ℕ, ◌-◌, ◌<◌, Option, false, [], length, IsTrue, ◌↔◌, IfSome, IfNone};
 ghost use Rattle.store_api.specs.declared.stepped.Stepped.TheVariants.{Hindered};
 ghost use Rattle.row_versions.specs.Chains.{Chains};
 ghost use Rattle.law_stored_rows.specs.Tables.{Said};
@@ -10,11 +9,10 @@ ghost use Rattle.world.specs.State.{Session, Work, IsSession, HasWork, standing_
 ghost use Rattle.world.specs.Undoing.{IsCutBack};
 ghost use Rattle.law_past_agreement.specs.Order.{IsOfRow};
 ghost use Rattle.row_changes.specs.Edits.{change_of};
-ghost use Rattle.row_changes.specs.Rows.{IsChangingRow, table_of};
+ghost use Rattle.row_changes.specs.Rows.{IsChangingRow};
 ghost use Rattle.inno_model.specs.Past.{own};
 ghost use Rattle.desks.specs.Desks.{doing_at};
 ghost use Rattle.desks.specs.Shown.{lists_of};
-ghost use Rattle.law_held_steps.specs.Leaving.{MovesPlaces, LeavesTable};
 ghost use Rattle.law_held_steps.specs.Making.{given_up};
 ghost use Rattle.law_held_steps.specs.Hindering.{IsForWant, hindrance_of};
 ghost use Rattle.law_held_steps.specs.Making.{TakesBackIn};
@@ -24,7 +22,7 @@ ghost use Rattle.world_lists.specs.Between.{IsKept, store_of};
 
 use crate::lists::is_short;
 use desks::{Desk, Doing, give_doing};
-use inno_db::{Change, index_number};
+use inno_db::Change;
 use row_changes::{RowChange, RowEdit};
 use shared_lists::{ChangePart, Changed, Hindrance, Undone};
 use std::alloc::Global;
@@ -79,8 +77,7 @@ fn left_after(changed: &Changed, was_told: bool) -> Option<Doing>
     }
 }
 
-/// One step of a change. One that is over, or is given up for want of memory, of pages or of levels, leaves the indexes of its
-/// table, and awaits no keys there. Nothing else hinders it.
+/// One step of a change. It is given up for want of memory, of pages or of levels, and nothing else hinders it.
 fn step_change<W: EngineWorld>(
     alloc: Global,
     world: &mut W,
@@ -91,18 +88,10 @@ fn step_change<W: EngineWorld>(
     ensures { StepsChange session change.old (W.state world.old) (W.state world.new) (doing_now change.old change.new result) result }
 {
     let is_told = is_told(change);
-    let table = table_of(change);
     match change.advance(alloc, world, session) {
         Stepped::Went => answer_for(is_told, change),
-        Stepped::Done(()) => {
-            leave_table(world, session, table);
-            Stepped::Done(ChangePart::Keys)
-        }
-        Stepped::Hindered(why) => {
-            let hindrance = hindrance_of(why);
-            leave_table(world, session, table);
-            Stepped::Hindered(hindrance)
-        }
+        Stepped::Done(()) => Stepped::Done(ChangePart::Keys),
+        Stepped::Hindered(why) => Stepped::Hindered(hindrance_of(why)),
     }
 }
 
@@ -119,15 +108,13 @@ fn hindrance_of(why: Move) -> Hindrance
     }
 }
 
-/// Gives a change up, as one is that finds no memory. It leaves the indexes of its table.
-pub fn drop_change<W: EngineWorld>(world: &mut W, session: u32, change: RowChange) -> Doing
-    requires changing { (chains : Chains) × (beside : Said) × IsChangingRow session chains beside (W.state world.old) change }
+/// Gives a change up, as one is that finds no memory.
+pub fn drop_change<W: EngineWorld>(world: &W, session: u32, change: RowChange) -> Doing
+    requires changing { (chains : Chains) × (beside : Said) × IsChangingRow session chains beside (W.state world.now) change }
     requires untold { is_told change ≡ false }
-    ensures { StepsChange session change (W.state world.old) (W.state world.new) result (Hindered Hindrance.NoMemory) }
+    ensures { StepsChange session change (W.state world.now) (W.state world.now) result (Hindered Hindrance.NoMemory) }
 {
-    let table = table_of(&change);
     drop(change);
-    leave_table(world, session, table);
     Doing::Nothing
 }
 
@@ -160,27 +147,6 @@ fn given_up(was_told: bool) -> Doing
     }
 }
 
-fn table_of(change: &RowChange) -> u8
-    ensures { result ≡ table_of change.now }
-{
-    match change {
-        RowChange::Record(record, _, _) => record.table,
-        RowChange::Keys(keys) => keys.table,
-    }
-}
-
-/// Leaves all indexes of a table.
-fn leave_table<W: EngineWorld>(world: &mut W, session: u32, table: u8)
-    requires { (schema : Schema) × (slice_get (W.state world.old).schemas table ≡ Some schema) × (length schema.keys < 5) }
-    ensures leaves { MovesPlaces session (W.state world.old) (W.state world.new) }
-    ensures gone { LeavesTable session table (W.state world.old) (W.state world.new) }
-{
-    let keys = world.tables().as_slice()[table as usize].keys.len() as u8;
-    for which in 0..keys + 1 {
-        world.leave(index_number(table, which), session);
-    }
-}
-
 /// The row that a change puts or removes.
 pub fn edit_of(change: Change) -> Option<(u8, RowEdit)>
     ensures some { IfSome result (λ found. change_of found.0 found.1 ≡ change) }
@@ -210,7 +176,7 @@ fn drop_newest<W: EngineWorld>(world: &mut W, session: u32)
 }
 
 /// Makes one step by which the session's newest change is taken back. After the last one the history tells it, and one older
-/// version more was dropped. Nothing hinders it: the session's buffers have room, and nobody else is awaited.
+/// version more was dropped. Nothing hinders it: the session's buffers have room, and nobody is awaited.
 pub fn take_newest_back<W: EngineWorld>(
     world: &mut W,
     session: u32,
@@ -228,13 +194,11 @@ pub fn take_newest_back<W: EngineWorld>(
         (lists_of (store_of (W.state world.new) writer desks.new.items cuts.new)) result }
 {
     let desk = &mut desks[session as usize];
-    let table = desk.undo.table;
     match record.put_back(world, session, &desk.undo, &mut desk.room) {
         Move::Done => {
             drop_newest(world, session);
             give_doing(desks, session, Doing::Nothing);
             is_short(world);
-            leave_table(world, session, table);
             *cuts += 1;
             Stepped::Done(())
         }

@@ -2,9 +2,9 @@ use Rattle.std.proofs.Common.{ℕ, ap, subst, sym}
 use Rattle.law_stored_rows.specs.Tables.{what_is_there}
 use Rattle.list_world.specs.Parts.{world_of}
 use Rattle.list_world.specs.Memory.{at_hand, no_page_of_index}
-use Rattle.row_changes.specs.{Keys.IsChangingKeys, Keys.ChangesKeys, Awaited.AwaitsIn, declared.keys_change.KeysChange.KeysChange, InPlace.reached_at}
+use Rattle.row_changes.specs.{Keys.IsChangingKeys, Keys.ChangesKeys, declared.keys_change.KeysChange.KeysChange, InPlace.reached_at}
 use Rattle.row_changes.specs.{Reached.Done}
-use Rattle.engine.proofs.Taking.{Steps, taking_next, taking_lacks, taken_rows, same_table, taken_rest, taken_later}
+use Rattle.engine.proofs.Taking.{Steps, taking_next, taking_lacks, taken_rows, taken_awaits, taken_rest, taken_later}
 use Rattle.engine.proofs.keys.take_over.Goals as goal
 
 pub advance-requires : goal.advance-requires
@@ -29,8 +29,7 @@ returns-then-branch c =
     λ table key row is. record {
       rows = λ chains starts. taken_rows _ (world_of c.args.world.now) mid new c.loop.change c.loop.invariant steps chains
           (subst (IsChangingKeys chains (what_is_there chains) (world_of c.args.world.now)) (sym is) starts);
-      awaits = subst (λ (table : ℕ). AwaitsIn 0 table (world_of c.args.world.now) new) (ap (λ (start : KeysChange). start.table) is)
-          (same_table _ (world_of c.args.world.now) mid new c.loop.change c.loop.invariant c.advance.ensures.awaits);
+      awaits = taken_awaits _ (world_of c.args.world.now) mid new c.loop.change c.loop.invariant c.advance.ensures.awaits;
       rest = taken_rest _ (world_of c.args.world.now) mid new c.loop.change c.loop.invariant steps;
       later = taken_later _ (world_of c.args.world.now) mid new c.loop.change c.loop.invariant steps;
     }

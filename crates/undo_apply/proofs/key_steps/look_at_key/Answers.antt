@@ -1,17 +1,12 @@
 use Rattle.std.proofs.Common.{◌∙◌, refl, sym, arith}
 use Rattle.undo_apply.proofs.{Columns.has_key_at}
-use Rattle.undo_apply.proofs.Goes.{Leaves, written_leaves, room_leaves, within_key, look_new, look_kept, look_gone, look_same, look_on}
+use Rattle.undo_apply.proofs.Goes.{Leaves, written_leaves, room_leaves, within_key, look_kept, look_gone, look_same, look_on}
 use Rattle.undo_apply.proofs.key_steps.look_at_key.Goals.{else-had_row-via-then-had_row+else-have_one_entry, else-had_row-via-else-had_row}
 use Rattle.undo_apply.proofs.key_steps.look_at_key.Goals as goal
 
-pub returns-then-undo : goal.returns-then-undo
-returns-then-undo g c = λ chains beside place actor is.
-    rw (c.go_to.ensures.step, c.go_to.ensures.room) (look_new actor is c.args.which c.requires.stage c.number_of_keys.ensures
-    (omega (arith, c.if-from-number_of_keys.true, c.from.ensures)) c.if-undo.true)
-
 pub returns-then-from-number_of_keys : goal.returns-then-from-number_of_keys
 returns-then-from-number_of_keys g c = λ chains beside place actor is.
-    let to = c.go_to-then-from-number_of_keys.ensures in
+    let to = c.go_to.ensures in
     rw (to.step, to.room) (look_kept actor is c.args.which c.requires.stage c.number_of_keys.ensures
     (omega (arith, c.if-from-number_of_keys.true, c.from.ensures)))
 

@@ -16,9 +16,5 @@ returns-then-not-write_entry-clause-puts g c = λ chains beside place is.
 
 pub returns-clause-awaits : goal.returns-clause-awaits
 returns-clause-awaits g c =
-    let old = g.W.World.state c.args.world.now in
-    let new = g.W.World.state c.replace-answer.new.self in
-    let index = c.entries_of.result in
-    rw (← c.entries_of.ensures) (awaits_at c.args.actor index _ old new c.replace-answer.ensures.index_is
-    (replace_with_here None c.args.actor c.entry.result.now c.args.room.now.unmarked (old.indexes index) (new.indexes index) c.replace-answer.result
-    c.replace-answer.ensures.index_is.here))
+    awaits_at _ _ _ _ c.replace-answer.ensures.index_is
+    (replace_with_here None c.args.actor c.entry.result.now c.args.room.now.unmarked _ _ c.replace-answer.result c.replace-answer.ensures.index_is.here)

@@ -1,4 +1,4 @@
-use Rattle.world_lists.proofs.TakingBack.{asks, is_made, step_kept, step_shown, is_logged, is_session, has_changes, has_still, has_table, done_kept, done_shown}
+use Rattle.world_lists.proofs.TakingBack.{asks, is_made, step_kept, step_shown, is_logged, is_session, has_changes, has_still, done_kept, done_shown}
 use Rattle.world_lists.proofs.undoing.take_newest_back.Goals as goal
 
 pub put_back-requires-clause-under_way : goal.put_back-requires-clause-under_way
@@ -35,12 +35,6 @@ drop_newest-requires-clause-still g c =
     c.index_mut-desk.ensures.value
     (g.W.World.state c.put_back.new.world) c.put_back.new.room c.in-Done.ensures.puts
 
-pub leave_table-requires : goal.leave_table-requires
-leave_table-requires g c =
-    has_table c.args.session c.requires.kept.1 c.requires.joined c.requires.busy (g.met.W.EngineWorld.never_delays c.args.world.now)
-    c.index_mut-desk.ensures.value
-    (g.W.World.state c.put_back.new.world) c.put_back.new.room c.in-Done.ensures.puts (g.W.World.state c.drop_newest.new.world) c.drop_newest.ensures
-
 pub unreachable-requires : goal.unreachable-requires
 unreachable-requires g c =
     is_made c.args.session c.requires.kept.1 c.requires.joined c.requires.busy (g.met.W.EngineWorld.never_delays c.args.world.now)
@@ -53,16 +47,14 @@ returns-in-Done-clause-kept g c =
     λ writer kept. done_kept c.args.session kept c.requires.joined c.requires.busy (g.met.W.EngineWorld.never_delays c.args.world.now)
     c.index_mut-desk.ensures.value
     (g.W.World.state c.put_back.new.world) c.put_back.new.room c.in-Done.ensures.puts (g.W.World.state c.drop_newest.new.world) c.drop_newest.ensures
-    c.leave_table.ensures.leaves (g.met.W.EngineWorld.never_delays c.leave_table.new.world) c.give_doing.ensures c.is_short.ensures.few
-    c.put_back.ensures.awaits
-    c.leave_table.ensures.gone
+    (g.met.W.EngineWorld.never_delays c.drop_newest.new.world) c.give_doing.ensures c.is_short.ensures.few c.put_back.ensures.awaits
 
 pub returns-in-Done-clause-takes : goal.returns-in-Done-clause-takes
 returns-in-Done-clause-takes g c =
     λ writer kept. done_shown c.args.session kept c.requires.joined c.requires.busy (g.met.W.EngineWorld.never_delays c.args.world.now)
     c.index_mut-desk.ensures.value
     (g.W.World.state c.put_back.new.world) c.put_back.new.room c.in-Done.ensures.puts (g.W.World.state c.drop_newest.new.world) c.drop_newest.ensures
-    c.leave_table.ensures.leaves (g.met.W.EngineWorld.never_delays c.leave_table.new.world) c.give_doing.ensures
+    (g.met.W.EngineWorld.never_delays c.drop_newest.new.world) c.give_doing.ensures
 
 pub returns-in-Step-clause-kept : goal.returns-in-Step-clause-kept
 returns-in-Step-clause-kept g c =

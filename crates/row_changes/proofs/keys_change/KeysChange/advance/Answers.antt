@@ -1,4 +1,4 @@
-use Rattle.row_changes.proofs.{Keying.put_went, Keying.put_done, Keying.put_waits, Awaited.put_awaits}
+use Rattle.row_changes.proofs.{Keying.put_went, Keying.put_done, Keying.put_waits}
 use Rattle.row_changes.proofs.keys_change.KeysChange.advance.Goals as goal
 
 abbrev pub returns-in-Went-clause-changes : goal.returns-in-Went-clause-changes
@@ -9,12 +9,3 @@ returns-in-Done-clause-changes g c = λ chains beside p. put_done _ _ _ _ _ p _ 
 
 abbrev pub returns-in-Hindered-clause-changes : goal.returns-in-Hindered-clause-changes
 returns-in-Hindered-clause-changes g c = λ chains beside p. put_waits _ _ _ _ _ p _ c.in-Some.is c.args.actor _ c.in-Hindered.why c.in-Hindered.ensures.puts
-
-pub returns-in-Went-clause-awaits : goal.returns-in-Went-clause-awaits
-returns-in-Went-clause-awaits g c = put_awaits _ _ _ _ _ _ _ c.in-Some.is c.requires.2 c.in-Went.ensures.awaits
-
-pub returns-in-Done-clause-awaits : goal.returns-in-Done-clause-awaits
-returns-in-Done-clause-awaits g c = put_awaits _ _ _ _ _ _ _ c.in-Some.is c.requires.2 c.in-Done.ensures.awaits
-
-pub returns-in-Hindered-clause-awaits : goal.returns-in-Hindered-clause-awaits
-returns-in-Hindered-clause-awaits g c = put_awaits _ _ _ _ _ _ _ c.in-Some.is c.requires.2 c.in-Hindered.ensures.awaits

@@ -1,5 +1,5 @@
 use Rattle.std.proofs.Common.{refl, Some}
-use Rattle.row_changes.proofs.{Keying.marked_on, Keying.mark_hindered, Awaited.key_awaits}
+use Rattle.row_changes.proofs.{Keying.marked_on, Keying.mark_hindered}
 use Rattle.row_changes.proofs.keys_change.KeysChange.mark.Goals as goal
 
 abbrev pub returns-in-Ok-clause-changes : goal.returns-in-Ok-clause-changes
@@ -13,8 +13,3 @@ returns-clause-changes g c = λ chains beside p.
     let h = c.in-Err.ensures.marks in
     mark_hindered _ _ _ _ _ p (record { which = c.args.which; old = Some c.args.mark.entry; new = c.args.new }) c.args.mark.entry c.requires.none
     (c.requires.entries p.schema p.table.there) refl _ _ _ c.requires.index h.0 h.2
-
-pub returns-clause-awaits : goal.returns-clause-awaits
-returns-clause-awaits g c =
-    let p = c.requires.changing.2 in
-    key_awaits _ _ _ _ _ _ _ _ p (c.requires.entries p.schema p.table.there).within c.requires.index c.step.ensures.awaits

@@ -12,4 +12,4 @@ returns-in-Ok-clause-changes g c =
 pub returns-in-Ok-clause-awaits : goal.returns-in-Ok-clause-awaits
 returns-in-Ok-clause-awaits g c =
     let p = c.requires.changing in
-    awaits_same _ _ _ _ (ap (λ (state : WorldState). state.indexes) (c.in-Ok.ensures.ok p.session p.has_work.session_is))
+    awaits_same _ _ (ap (λ (state : WorldState). state.indexes) (c.in-Ok.ensures.ok p.session p.has_work.session_is))

@@ -26,7 +26,7 @@ missed-requires g c =
 pub returns-in-End-clause-awaits : goal.returns-in-End-clause-awaits
 returns-in-End-clause-awaits g c =
     let answer = (rw c.index.ensures at (rw c.in-End.is at c.fetch.ensures.answer)).index_is in
-    awaits_then (awaits_at c.args.s (clustered_index c.args.self.now.table) _ _ _ answer (as_before c.args.s _ _ answer.here.1).1) c.missed.ensures.awaits
+    awaits_then (awaits_at (clustered_index c.args.self.now.table) _ _ _ answer (as_before _ _ answer.here.1).1) c.missed.ensures.awaits
 
 abbrev pub returns-in_default-fetch-clause-changes : goal.returns-in_default-fetch-clause-changes
 returns-in_default-fetch-clause-changes g c =

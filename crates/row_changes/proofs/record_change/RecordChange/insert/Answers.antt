@@ -2,7 +2,7 @@ use Rattle.std.proofs.Common.{ap, Some, refl}
 use Rattle.row_changes.specs.Records.{row_found}
 use Rattle.row_changes.proofs.Awaited.{entered_awaits, insert_with_here}
 use Rattle.row_changes.proofs.Changing.{changing_still, has_room, rows_index, key_short, value_short, version_made, may_put, may_log_new, may_enter}
-use Rattle.row_changes.proofs.Changing.{inserted, insert_hindered, absent_still, lacks_memory_then}
+use Rattle.row_changes.proofs.Changing.{inserted, insert_hindered, lacks_memory_then}
 use Rattle.law_stored_rows.specs.Edits.{clustered_index}
 use Rattle.row_changes.proofs.record_change.RecordChange.insert.Goals as goal
 
@@ -49,7 +49,7 @@ returns-in-Done-clause-awaits g c =
     let may = may_enter (changing_still missing) _ _ (has_room missing) (rw c.in-Done.is at c.insert-answer.ensures).beside in
     let call = (rw c.index.ensures at c.insert-answer.ensures).index_is in
     entered_awaits c.args.s (clustered_index c.args.self.now.table) _ (g.W.World.state c.args.world.now) _ _ _ _ may.0 may.1 call
-    (insert_with_here (Some c.in-Ok-undo_of_new.undo) c.args.s c.args.self.now.key _ _ _ c.insert-answer.result (absent_still missing) call.here)
+    (insert_with_here (Some c.in-Ok-undo_of_new.undo) c.args.s c.args.self.now.key _ _ _ c.insert-answer.result call.here)
     ((rw c.take_edit.ensures at c.enter.ensures) may.0 may.1 may.2)
 
 abbrev pub returns-in_default-clause-changes : goal.returns-in_default-clause-changes

@@ -1,4 +1,4 @@
-use Rattle.row_changes.proofs.{Pushed.record_went, Pushed.record_recorded, Pushed.record_waits, Awaited.record_awaits_at}
+use Rattle.row_changes.proofs.{Pushed.record_went, Pushed.record_recorded, Pushed.record_waits}
 use Rattle.row_changes.proofs.row_change.RowChange.advance.Goals as goal
 
 abbrev pub returns-in-Went-clause-makes : goal.returns-in-Went-clause-makes
@@ -10,14 +10,6 @@ returns-in-Done-clause-makes g c = λ chains beside p.
     rw c.replace.ensures.after
     (record_recorded c.args.s chains beside _ c.in-Record.is p c.in-Done.before c.keys_of-next.result c.keys_of-next.ensures c.in-Done.ensures.changes)
 
-pub returns-in-Done-clause-awaits : goal.returns-in-Done-clause-awaits
-returns-in-Done-clause-awaits g c =
-    record_awaits_at _ _ _ _ _ _ _ _ _ c.in-Record.is c.requires.2 c.in-Done.ensures.awaits
-
 abbrev pub returns-in-Hindered-clause-makes : goal.returns-in-Hindered-clause-makes
 returns-in-Hindered-clause-makes g c =
     λ chains beside p. record_waits c.args.s chains beside _ c.in-Record.is p c.step.new.self c.in-Hindered.why c.in-Hindered.ensures.changes
-
-pub returns-in-Hindered-clause-awaits : goal.returns-in-Hindered-clause-awaits
-returns-in-Hindered-clause-awaits g c =
-    record_awaits_at _ _ _ _ _ _ _ _ _ c.in-Record.is c.requires.2 c.in-Hindered.ensures.awaits

@@ -1,7 +1,6 @@
 use Rattle.std.proofs.Common.{List, None, refl, sym, ap, subst}
 use Rattle.law_held_steps.proofs.Items.{first_held}
 use Rattle.world_lists.specs.Between.{store_of}
-use Rattle.world_lists.proofs.Calls.{awaits_of_nobody}
 use Rattle.law_held_steps.specs.Making.{settings_of}
 use Rattle.world_lists.proofs.lists.WorldLists.new.Goals as goal
 use Rattle.desks.specs.{declared.desk.Desk.Desk, Holding.IsHeld}
@@ -11,7 +10,7 @@ invariant_of-result g c =
     record {
       held = subst (λ (desks : List Desk). IsHeld (store_of (g.W.World.state c.args.world) None desks 0)) (sym c.new.ensures.items)
           (first_held (g.W.World.state c.args.world) (g.met.W.EngineWorld.never_delays c.args.world).told c.requires.fresh);
-      awaits = awaits_of_nobody _ c.requires.nobody;
+      awaits = c.requires.nobody;
     }
 
 pub returns-clause-first : goal.returns-clause-first

@@ -15,3 +15,6 @@ returns g c =
     subst (λ (was : Lists). TakesBackIn c.args.session (length (own c.args.session was.state.past) - 1) was (lists_of (store_of
     (g.W.World.state c.take_newest_back.new.world) c.self.inside.writer c.take_newest_back.new.desks.items c.take_newest_back.new.cuts))
     c.take_newest_back.result) c.self.view_is (c.take_newest_back.ensures.takes c.self.inside.writer c.self.invariant)
+
+pub invariant_of-self : goal.invariant_of-self
+invariant_of-self g c = c.take_newest_back.ensures.kept c.self.inside.writer c.self.invariant

@@ -18,18 +18,17 @@ give_doing-requires g c = still_there c.args.session c.self.invariant c.self.vie
 pub invariant_of-self : goal.invariant_of-self
 invariant_of-self g c =
     step_kept c.args.session c.self.invariant c.self.view_is c.requires.locked (g.met.W.EngineWorld.never_delays c.self.inside.world).told
-    (g.met.W.EngineWorld.never_delays
-    c.drop_change-doing.new.world).told c.is_short.ensures.few (sym c.take_doing-doing.ensures.was ∙ c.in-Changing.is) c.drop_change-doing.ensures
+    (g.met.W.EngineWorld.never_delays c.self.inside.world).told c.is_short.ensures.few (sym c.take_doing-doing.ensures.was ∙ c.in-Changing.is) c.drop_change-doing.ensures
     (desks_given c.args.session c.drop_change-doing.result _ _ _ c.take_doing-doing.ensures.is c.give_doing.ensures)
 
 pub returns : goal.returns
 returns g c =
     let changes = step_shown c.args.session c.self.invariant c.self.view_is c.requires.locked (g.met.W.EngineWorld.never_delays c.self.inside.world).told
-    (g.met.W.EngineWorld.never_delays c.drop_change-doing.new.world).told c.is_short.ensures.few (sym c.take_doing-doing.ensures.was ∙ c.in-Changing.is)
+    (g.met.W.EngineWorld.never_delays c.self.inside.world).told c.is_short.ensures.few (sym c.take_doing-doing.ensures.was ∙ c.in-Changing.is)
     c.drop_change-doing.ensures (desks_given c.args.session c.drop_change-doing.result _ _ _ c.take_doing-doing.ensures.is c.give_doing.ensures) in
     record {
       stops = step_stops c.args.session c.self.invariant c.self.view_is c.requires.locked (g.met.W.EngineWorld.never_delays c.self.inside.world).told
-          (g.met.W.EngineWorld.never_delays c.drop_change-doing.new.world).told c.is_short.ensures.few (sym c.take_doing-doing.ensures.was ∙ c.in-Changing.is)
+          (g.met.W.EngineWorld.never_delays c.self.inside.world).told c.is_short.ensures.few (sym c.take_doing-doing.ensures.was ∙ c.in-Changing.is)
           c.drop_change-doing.ensures (desks_given c.args.session c.drop_change-doing.result _ _ _ c.take_doing-doing.ensures.is c.give_doing.ensures)
           c.requires.asked.0 c.requires.asked.1 refl;
       settings = changes.settings;
