@@ -1,5 +1,5 @@
 //! An index in memory: an ordered map, the place of each actor, and who is awaited.
-//! `list_world` keeps one for each number of an index. It knows nothing of rows, locks or the disk.
+//! `list_store` keeps one for each number of an index. It knows nothing of rows, locks or the disk.
 
 ghost use Rattle.std.specs.Prelude.{◌≡◌, IfOk, IsOk, MatchOption, MatchResult, option_map};
 ghost use Rattle.std.specs.Map.Iter.{deref_pair};

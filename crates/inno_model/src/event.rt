@@ -1,5 +1,5 @@
 //! The entries of a history. The engine adds them; everything that is promised of it is read off them.
-//! In an engine `list_world` adds them, and `durable_engine` does once the engine has stopped.
+//! In an engine `parts_world` adds them, and `durable_engine` does once the engine has stopped.
 
 use inno_db::{Change, Db};
 use inno_types::{Bytes, Cause, Edges, Item, Level, Lock, Reply};

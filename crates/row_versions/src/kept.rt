@@ -1,5 +1,5 @@
 //! A version as it is kept, beside its encoded bytes and the key of its row.
-//! `world_parts` alone makes one, of an undo record that keeps a version, and its slots keep it.
+//! `list_store` alone makes one, of an undo record that keeps a version, and its slots keep it.
 
 use inno_types::Bytes;
 use store_api::Version;

@@ -1,5 +1,5 @@
 //! The calls of a world that the engine alone makes. Such a world tells all that it holds, and puts no call off.
-//! `world_lists` alone makes them, and `ListWorld` alone answers them.
+//! `world_lists` alone makes them, and `PartsWorld` alone answers them.
 
 ghost use Rattle.std.specs.Prelude.{◌≡◌, ◌+◌, ◌<◌, ◌≤◌, ◌^◌, true, is_some, length, OnOk, OnErr, IfOk};
 ghost use Rattle.inno_db.specs.declared.limits.TheConstants.{MOST_KEYS};

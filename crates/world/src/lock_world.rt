@@ -1,5 +1,5 @@
 //! The calls of a world by which sessions lock records and gaps, wait for one another, and are freed of a cycle.
-//! No statement makes them yet: while one session alone writes, nobody has to wait. `ListWorld` alone answers them.
+//! No statement makes them yet: while one session alone writes, nobody has to wait. `PartsWorld` alone answers them.
 
 ghost use Rattle.std.specs.Prelude.{◌≡◌, ℕ, ◌+◌, ◌∷◌, [], true, false, not, is_some, length, OnOk, OnErr, IfSome, IfNone, if◌then◌else◌, ◌-◌};
 ghost use Rattle.deadlock.specs.Cycles.{AreCopies, IsCycleThrough, HasNoCycle, IsDepthFirst};

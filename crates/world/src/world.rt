@@ -1,6 +1,6 @@
 //! The calls of every world. Each is one short step of an actor, a session's by its number.
-//! Searches, changes of rows, rollback and `world_lists` make them, and an opening some; `ListWorld` alone answers so
-//! far.
+//! Searches, changes of rows, rollback and `world_lists` make them, and an opening some; `PartsWorld` alone answers
+//! them.
 
 ghost use Rattle.std.specs.Prelude.{◌≡◌, ◌≢◌, ℕ, ◌+◌, ◌-◌, ◌≤◌, ◌<◌, ◌^◌, [], false, true, length, slice_get, option_copied, OnOk, OnErr, IfOk, IfSome, IfNone, IsOk, IsSome, Some, None, vec_capacity};
 ghost use Rattle.inno_db.specs.declared.change.Change.TheVariants.{Put, Remove};
