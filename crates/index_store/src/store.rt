@@ -7,6 +7,7 @@ ghost use Rattle.entries.specs.Calls.{is_done, Seeks, Follows, Fetches, NextKeys
 ghost use Rattle.row_versions.specs.Versions.{IsPointer};
 ghost use Rattle.row_versions.specs.Calls.{ShowsVersion, ShowsBytes, has_read};
 ghost use Rattle.world.specs.State.{IsIndex};
+ghost use Rattle.world.specs.Widths.{HasKeyLen, HasValueLen};
 ghost use Rattle.world.specs.Indexes.{InsertsWith, ReplacesWith};
 ghost use Rattle.index_store.specs.State.{StoreState};
 ghost use Rattle.index_store.specs.AtHand.{IsStoreAtHand};
@@ -56,8 +57,8 @@ pub trait IndexStore: Drop {
         ensures untouched { is_done result ≡ false → into.new.items ≡ into.old.items }
         ensures room { vec_capacity into.old ≤ vec_capacity into.new };
 
-    /// Adds a pair, or answers `At` with the key's pair, which stays. The actor's undo record, for which there is room, and
-    /// the version that it keeps come with the pair.
+    /// Adds a pair, or answers `At` with the key's pair, which stays. In an index all keys are equally long, and all values
+    /// are. The actor's undo record, for which there is room, and the version that it keeps come with the pair.
     fn insert(
         &mut self,
         index: u32,
@@ -69,6 +70,8 @@ pub trait IndexStore: Drop {
         requires index { IsIndex (store self.old).schemas index }
         requires key { length key.now ≤ 67 }
         requires value { length value.now ≤ 1024 }
+        requires key_len { HasKeyLen (store self.old).schemas index key.now }
+        requires value_len { HasValueLen (store self.old).schemas index value.now }
         requires undo { MayBring actor (option_copied undo) (store self.old) }
         ensures { Changes index actor (option_copied undo.entry) (λ before after answer. InsertsWith (option_copied undo.entry) actor key.now value.now before after answer) (store self.old) (store self.new) result };
 
@@ -83,6 +86,7 @@ pub trait IndexStore: Drop {
     ) -> Move
         requires index { IsIndex (store self.old).schemas index }
         requires value { length value.now ≤ 1024 }
+        requires value_len { HasValueLen (store self.old).schemas index value.now }
         requires undo { MayBring actor (option_copied undo) (store self.old) }
         ensures { Changes index actor (option_copied undo.entry) (λ before after answer. ReplacesWith (option_copied undo.entry) actor key.now value.now before after answer) (store self.old) (store self.new) result };
 

@@ -3,9 +3,11 @@ use Rattle.row_changes.specs.declared.entry_put.PutPhase.TheVariants as puts
 use Rattle.law_logged_changes.specs.Logs.{RecordsAt, LogStands, records_of, IsLogOf, LogsAgree, LogsAgreeBut, IsElsewhere}
 use Rattle.law_logged_changes.specs.Steps.{LeavesRecords, LeavesLog, HasNoLog, LeavesLogs, LeavesOtherRows, OfAll, HasCut, ChangesPairsAlone}
 use Rattle.std.proofs.Common.{Some, ◌≡◌, ◌≢◌, ◌⊎◌, inl, inr, ⊎_elim, ℕ, zero, suc, ◌<◌, List, [], ◌∷◌, ◌++◌, Option, refl, sym, ap, ◌∙◌, slice_get}
-use Rattle.std.proofs.Common.{arith, true, false, None}
+use Rattle.std.proofs.Common.{arith, subst, true, false, None}
 use Rattle.std.proofs.{lemmas.Bool.cases_eq}
 use Rattle.world.specs.{State.WorldState, State.Session, State.Work, State.Logged, State.HasWork, Told.pairs_of, Told.IsTold, Told.LeavesRows}
+use Rattle.world.specs.Widths.{HasKeyLen, HasValueLen}
+use Rattle.row_changes.specs.Entries.{unmarked}
 use Rattle.row_changes.proofs.Telling.{went, put_told, told_if, rows_if}
 use Rattle.row_changes.proofs.{Ids.one_work, Changing.stage_kept, Changing.told_kept, Pushed.table_kept, Keying.changing_next}
 use Rattle.law_logged_changes.proofs.{Logs.all_of, Logs.log_on, Listed.listed_of}
@@ -247,6 +249,8 @@ module _ (old new : WorldState) (leaves : LeavesRows old new) where
     putting = record {
       index_is = rw leaves.schemas p.putting.index_is;
       short = p.putting.short;
+      key_len = subst (λ (schemas : List Schema). HasKeyLen schemas put.index put.entry) (sym leaves.schemas) p.putting.key_len;
+      value_len = subst (λ (schemas : List Schema). HasValueLen schemas put.index unmarked) (sym leaves.schemas) p.putting.value_len;
       phase = phase_kept put.phase put.entry (old.indexes put.index) (new.indexes put.index) (leaves.pairs put.index) p.putting.phase;
     };
   }

@@ -8,7 +8,8 @@ use Rattle.entries.specs.Index.{Told}
 use Rattle.row_versions.specs.{declared.place.Place.Place, declared.version.Version.Version, Chains.Chains}
 use Rattle.law_stored_rows.specs.{Edits.key_index, Tables.Said, Tables.SayTheSameBut}
 use Rattle.world.specs.{State.WorldState, Told.IsTold, Told.pairs_in, Told.pairs_of}
-use Rattle.row_changes.specs.{Edits.IsRowFor, Edits.IsKeyAt, Entries.PutPhaseHolds, Entries.IsThere}
+use Rattle.world.specs.Widths.{HasKeyLen, HasValueLen}
+use Rattle.row_changes.specs.{Edits.IsRowFor, Edits.IsKeyAt, Entries.PutPhaseHolds, Entries.IsThere, Entries.unmarked}
 use Rattle.row_changes.specs.Keys.{IsChangingKeys, IsEntering, IsEntryIn, HasRowsSoFar, said_next}
 use Rattle.row_changes.specs.{declared.keys_change.KeysChange.KeysChange, declared.entry_put.EntryPut.EntryPut, declared.entry_put.PutPhase.PutPhase}
 use Rattle.row_changes.specs.declared.entry_put.PutPhase.TheVariants.{Look, Unmark}
@@ -75,6 +76,8 @@ entering_left {old = old} {new = new} schema table which value (Some row) primar
   putting = record {
     index_is = rw leaves.schemas is.putting.index_is;
     short = is.putting.short;
+    key_len = subst (λ (schemas : List Schema). HasKeyLen schemas put.index put.entry) (sym leaves.schemas) is.putting.key_len;
+    value_len = subst (λ (schemas : List Schema). HasValueLen schemas put.index unmarked) (sym leaves.schemas) is.putting.value_len;
     phase = phase_left leaves put.phase put.entry put.index
         (subst (λ (i : ℕ). value_of put.entry (pairs_of new i) ≡ value_of put.entry (pairs_of old i)) (sym is.index_is)
         (entry_left leaves schema which row primary put.entry there at_key fits is.entry_is)) is.putting.phase;

@@ -4,6 +4,7 @@
 ghost use Rattle.std.specs.Prelude.{◌≡◌, ◌≤◌, ◌<◌, length, Some};
 ghost use Rattle.world.specs.Undoing.{MakesRoom};
 ghost use Rattle.world.specs.State.{IsIndex};
+ghost use Rattle.world.specs.Widths.{HasKeyLen, HasValueLen};
 ghost use Rattle.world.specs.Indexes.{Changes, MayLog, InsertsWith, ReplacesWith};
 ghost use Rattle.parts_world.specs.Parts.{world_of};
 
@@ -44,6 +45,8 @@ impl<I: IndexStore> PartsWorld<I> {
         requires index { IsIndex (world_of (I.store self.old.store) self.old).schemas index }
         requires key { length key.now ≤ 67 }
         requires value { length value.now ≤ 1024 }
+        requires key_len { HasKeyLen (world_of (I.store self.old.store) self.old).schemas index key.now }
+        requires value_len { HasValueLen (world_of (I.store self.old.store) self.old).schemas index value.now }
         requires undo { MayLog actor undo.now (world_of (I.store self.old.store) self.old) }
         ensures { Changes index actor (Some undo.now) (λ before after answer. InsertsWith (Some undo.now) actor key.now value.now before after answer) (world_of (I.store self.old.store) self.old) (world_of (I.store self.new.store) self.new) result }
     {
@@ -71,6 +74,7 @@ impl<I: IndexStore> PartsWorld<I> {
     ) -> Move
         requires index { IsIndex (world_of (I.store self.old.store) self.old).schemas index }
         requires value { length value.now ≤ 1024 }
+        requires value_len { HasValueLen (world_of (I.store self.old.store) self.old).schemas index value.now }
         requires undo { MayLog actor undo.now (world_of (I.store self.old.store) self.old) }
         ensures { Changes index actor (Some undo.now) (λ before after answer. ReplacesWith (Some undo.now) actor key.now value.now before after answer) (world_of (I.store self.old.store) self.old) (world_of (I.store self.new.store) self.new) result }
     {

@@ -11,12 +11,15 @@ use Rattle.law_stored_rows.specs.{Edits.clustered_index, Edits.with_value, Recor
 use Rattle.world.specs.{Stores.StoreGoes, Undoing.IsReady, Undoing.IsUnchanged, Undoing.MakesRoom, Sessions.with_room, AtHand.IsAtHand}
 use Rattle.world.specs.State.{WorldState, Session, Work, with_session, IsIndex, HasWork}
 use Rattle.world.specs.Indexes.{InIndex, KeepsAsSaid, Calls, MayLog, IsLogged, KeepsIf, Changes, Brings, StaysBeside, InsertsWith, ReplacesWith}
-use Rattle.world.proofs.Stores.{store_stays, store_goes_on}
+use Rattle.world.specs.Widths.{width_if, key_len, HasKeyLen, HasValueLen}
+use Rattle.world.proofs.{Stores.store_stays, Stores.store_goes_on}
+use Rattle.world.proofs.Widths.{record_key_len, record_value_len, has_key_len, has_value_len}
 use Rattle.txn_table.specs.Txns.{Txns}
 use Rattle.row_versions.specs.Versions.{Versions, Stays}
 use Rattle.inno_model.specs.declared.event.Event.TheVariants.{Changed}
 use Rattle.row_changes.specs.{declared.record_change.RecordChange.RecordChange, declared.record_change.RecordStage.RecordStage, Entries.IsPutting}
-use Rattle.row_changes.specs.{declared.row_edit.RowEdit.RowEdit, Entering.Enters, Entries.IsThere, Entries.PutsEntry, Asides.IsReadied, Asides.StepsAside}
+use Rattle.row_changes.specs.{declared.row_edit.RowEdit.RowEdit, Entering.Enters, Entries.IsThere, Entries.PutsEntry, Entries.unmarked}
+use Rattle.row_changes.specs.{Asides.IsReadied, Asides.StepsAside}
 use Rattle.row_changes.specs.{declared.entry_put.EntryPut.EntryPut, declared.row_edit.RowEdit.TheVariants.Put, declared.row_edit.RowEdit.TheVariants.Remove}
 use Rattle.row_changes.specs.{Pairs.RowsStay, Pairs.Hinders, Pairs.HindersBehind, Pairs.IsReached, RecordReached.Went}
 use Rattle.row_changes.specs.{RecordReached.Hindered, RecordReached.Recorded}
@@ -377,6 +380,12 @@ key_fits schema (Remove value) key storable fits =
     let width = ap (λ (c : Column). key_width c.kind) (one_found fits.column storable.column fits.primary storable.primary) in
     omega (arith, ap length fits.spelled ∙ length-key_code fits.column.kind value fits.has_key.0, width, storable.short)
 
+-- and as long as the keys of the table's records
+key_long : (schema : Schema) (edit : RowEdit) (key : List ℕ) → FitsEdit schema edit key → length key ≡ key_len schema 0
+key_long schema (Put row) key fits = record_key_len schema row key fits.key_is
+key_long schema (Remove value) key fits =
+    ap length fits.spelled ∙ length-key_code fits.column.kind value fits.has_key.0 ∙ sym (ap width_if fits.primary)
+
 pub may_put : (edit : RowEdit) (stage : RecordStage) → IsPut edit → MayMake edit stage
 may_put (Put row) stage puts = record {}
 may_put (Remove value) stage puts = absurd puts
@@ -408,6 +417,17 @@ module _ {s : ℕ} {old : WorldState} {change : RecordChange} (p : IsChangingRec
   pub rows_index : (number : ℕ) → number ≡ index → IsIndex old.schemas number
   rows_index number is =
       record { table = change.table; which = 0; number = omega (arith, is); schema = p.schema; there = p.table.there; key = omega arith; few = omega arith }
+
+  pub rows_key_len : (number : ℕ) → number ≡ index → HasKeyLen old.schemas number change.key
+  rows_key_len number is =
+      has_key_len change.table 0 p.schema (omega (arith, is)) (omega arith) p.table.there change.key (key_long p.schema change.edit change.key p.fits)
+
+  pub rows_value_len : (number : ℕ) → number ≡ index → (version : Version) (value : List ℕ)
+      → IsRowOf p.schema.columns version.row × IsKeyOf p.schema version.row change.key → value ≡ version_code p.schema version
+      → HasValueLen old.schemas number value
+  rows_value_len number is version value fits value_is =
+      has_value_len change.table 0 p.schema (omega (arith, is)) (omega arith) p.table.there value
+      (record_value_len p.schema version value fits.0 value_is)
 
   -- the log has room for the undo record that the call brings
   may_log : (undo : Undo) → HasRoom p.session → KeepsAsSaid old.schemas undo → undo.key ≡ change.key → length undo.value ≤ 1024 → MayLog s undo old
@@ -628,6 +648,9 @@ putting_kept : {old new : WorldState} {put : EntryPut} → IsPutting old put →
 putting_kept {old} {new} {put} is stay = record {
   index_is = rw (ap (λ (w : WorldState). w.schemas) stay.rest) is.index_is;
   short = is.short;
+  key_len = subst (λ (schemas : List Schema). HasKeyLen schemas put.index put.entry) (sym (ap (λ (w : WorldState). w.schemas) stay.rest)) is.key_len;
+  value_len =
+      subst (λ (schemas : List Schema). HasValueLen schemas put.index unmarked) (sym (ap (λ (w : WorldState). w.schemas) stay.rest)) is.value_len;
   phase = phase_kept put.phase put.entry (old.indexes put.index) (new.indexes put.index) (stay.pairs put.index) is.phase;
 }
 

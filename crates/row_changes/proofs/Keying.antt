@@ -4,6 +4,7 @@ use Rattle.std.proofs.Common.{Option, None, Some, slice_get, arith, rules, ◌-�
 use Rattle.std.specs.Prelude.{◌&&◌, IfSome, is_some}
 use Rattle.std.proofs.lemmas.{Bool.cases_eq, Bool.eqb-true, Option.slice_get_within, Option.slice_get_cases, Option.get_or_from_slice_get}
 use Rattle.key_codec.specs.Keys.{HasKey, Has64Bits, key_code, entry_code}
+use Rattle.key_codec.proofs.Lengths.{length-entry_code}
 use Rattle.inno_types.specs.{declared.value.Value.Value, declared.value.Value.TheVariants.Null, declared.value.Column.Column, declared.value.Key.Key}
 use Rattle.inno_types.specs.declared.value.Schema.{Schema}
 use Rattle.inno_db.specs.Database.{key_of}
@@ -23,7 +24,8 @@ use Rattle.row_changes.specs.{declared.entry_put.EntryPut.EntryPut, declared.key
 use Rattle.row_changes.specs.{Reached.Hindered, Pairs.HindersBehind, Pairs.RowsStay, Pairs.PutsPair}
 use Rattle.row_changes.specs.Keys.{StaysBesideKeys, gone, SaySoFar, said_next, keys_next, without_row, keys_steps, HasRowsSoFar, ChangesKeys, IsEntering}
 use Rattle.row_changes.specs.Keys.{IsChangingKeys, GoesOnWithKeys, value_stays, AreEntries, StayBetween, IsEntryIn, IsEntryFor, IsEntryAt, ChangesItsEntry}
-use Rattle.row_changes.specs.Entries.{marked, unmarked, PutsEntry, GoesOnPutting, HindersEntry, put_steps}
+use Rattle.row_changes.specs.Entries.{marked, unmarked, PutsEntry, GoesOnPutting, HindersEntry, IsMarking, put_steps}
+use Rattle.row_changes.specs.declared.entry_mark.EntryMark.{EntryMark}
 use Rattle.law_stored_rows.proofs.{Pairs.no_key, Values.same_place, Values.place_itself, Values.same_value, Values.value_itself, Values.entry_there}
 use Rattle.law_stored_rows.proofs.{Coding.short_entries, FittingValues.at_or}
 use Rattle.law_stored_rows.proofs.Steps.{old_marked, new_put, first_put}
@@ -31,7 +33,8 @@ use Rattle.law_stored_rows.proofs.{Coding.value_in-kind, Keys.now_says, Keys.oth
 use Rattle.law_stored_rows.proofs.Entries.{holds_said, is_unmarked, value_again, without_row as tells_no_row}
 use Rattle.row_changes.proofs.{Changing.at_once, Changing.same_rows, Sessions.one_found, Pushed.at_primary, Pushed.plain, Pushed.code_of, Pushed.table_kept}
 use Rattle.row_changes.proofs.Telling.{tells, stays_told, rows_again, rows_at, coded_again, put_told, put_pairs}
-use Rattle.world.specs.{State.IsIndex, State.WorldState, Told.pairs_of, Told.IsTold}
+use Rattle.world.specs.{State.IsIndex, State.WorldState, Told.pairs_of, Told.IsTold, Widths.width_if, Widths.key_len}
+use Rattle.world.proofs.Widths.{record_key_len, entry_key_len, entry_value_len, has_key_len, has_value_len}
 use Rattle.store_api.specs.declared.moves.Move.TheVariants as moves
 
 -- what is said once one key says something else of one place
@@ -155,6 +158,16 @@ short_entry schema which (Some row) primary entry storable fits is =
       primary_is = fits.key_is;
       spelled = is.spelled;
     })
+
+-- and as long as those of its key
+long_entry : (schema : Schema) (which : ℕ) (row : Option (List Value)) (primary entry : List ℕ) → IfSome row (λ r. IsRowFor schema r primary)
+    → IsEntryFor schema which row primary (Some entry) → length entry ≡ key_len schema (1 + which)
+long_entry schema which None primary entry fits is = absurd is
+long_entry schema which (Some row) primary entry fits is =
+    let own = value_in-kind schema.columns row is.key.column is.indexed fits.fits.columns is.indexed_is in
+    let long = ap length is.spelled ∙ length-entry_code is.indexed.kind (value_in is.key.column row) primary own in
+    let width = ap width_if is.indexed_is in
+    omega (arith, long, width, record_key_len schema row primary fits.key_is, entry_key_len schema which is.key is.key_is)
 
 -- the entry of a row
 pub at_entry : (schema : Schema) (which : ℕ) (row : List Value) (primary entry : List ℕ) → IsRowFor schema row primary
@@ -366,6 +379,25 @@ module _ (chains : Chains) (beside : Said) (old new : WorldState) (change : Keys
             ap (λ (k : List ℕ). value_of k (pairs_of old (key_index change.table entries.which))) code
             ∙ holds_said (keyed.marks p.value value (subst (λ (c : Column). HasKey c.kind p.value) primary p.at.has_key) has) (ap is_some said) ∙ said
 
+    -- it may be marked
+    pub may_mark : (mark : EntryMark) → mark.index ≡ key_index change.table entries.which → IsMarking old mark
+    may_mark mark is =
+        let within : 1 + entries.which < 8 = (let f = few entries.which all.within in omega arith) in
+        record {
+          index_is =
+              record {
+                table = change.table;
+                which = 1 + entries.which;
+                number = is;
+                schema = p.schema;
+                there = p.table.there;
+                key = (let w = all.within in omega arith);
+                few = within;
+              };
+          value_len =
+              has_value_len change.table (1 + entries.which) p.schema is within p.table.there marked (sym (entry_value_len p.schema entries.which));
+        }
+
     mark_cause : (actor : ℕ) (why : Move) → RowsStay old new → HindersEntry actor entry (old.indexes (key_index change.table entries.which)) (new.indexes
         (key_index change.table entries.which)) why → HindersBehind actor (old.indexes (key_index change.table entries.which))
         (new.indexes (key_index change.table entries.which)) why ⊎ ((why ≡ moves.End) × (IsTold old → ⊥))
@@ -419,6 +451,12 @@ module _ (chains : Chains) (beside : Said) (old new : WorldState) (change : Keys
             record {
               index_is = number;
               short = short_entry p.schema entries.which change.after change.key entry p.table.storable p.after new_entry;
+              key_len =
+                  has_key_len change.table (1 + entries.which) p.schema refl number.few number.there entry
+                  (long_entry p.schema entries.which change.after change.key entry p.after new_entry);
+              value_len =
+                  has_value_len change.table (1 + entries.which) p.schema refl number.few number.there unmarked
+                  (sym (entry_value_len p.schema entries.which));
               phase = record {};
             };
       }) rows (omega (arith, waits, within, from))

@@ -2,7 +2,7 @@
 use Rattle.std.specs.Prelude.{◌≡◌, ℕ, ◌<◌, ◌≤◌, Bool, true, List, [], ◌∷◌, length, None, Some, is_some, Result, Ok, Err}
 use Rattle.store_api.specs.{declared.moves.Move.Move, declared.moves.Move.TheVariants.End}
 use Rattle.entries.specs.{Pairs.value_of, Index.Index, Index.Told}
-use Rattle.world.specs.State.{WorldState, IsIndex}
+use Rattle.world.specs.{State.WorldState, State.IsIndex, Widths.HasKeyLen, Widths.HasValueLen}
 use Rattle.row_changes.specs.{Reached.Reached, declared.entry_put.EntryPut.EntryPut, declared.entry_put.PutPhase.PutPhase}
 use Rattle.row_changes.specs.{declared.entry_mark.EntryMark.EntryMark, Pairs.RowsStay, Pairs.PutsPair, Pairs.Hinders, Pairs.HindersBehind, Pairs.IsReached}
 use Rattle.row_changes.specs.Reached.{Went, Done, Hindered}
@@ -26,6 +26,8 @@ PutPhaseHolds Unmark entry index = IsThere true entry index
 pub record IsPutting (state : WorldState) (put : EntryPut) : Type 0 where
   pub index_is : IsIndex state.schemas put.index
   pub short : length put.entry ≤ 67
+  pub key_len : HasKeyLen state.schemas put.index put.entry
+  pub value_len : HasValueLen state.schemas put.index unmarked
   pub phase : PutPhaseHolds put.phase put.entry (state.indexes put.index)
 
 -- how many steps are left at most
@@ -64,6 +66,7 @@ HindersEntry actor entry old new other = Hinders actor old new other
 
 pub record IsMarking (state : WorldState) (mark : EntryMark) : Type 0 where
   pub index_is : IsIndex state.schemas mark.index
+  pub value_len : HasValueLen state.schemas mark.index marked
 
 abbrev pub MarksEntry : ℕ → WorldState → WorldState → EntryMark → Result (Unit {0}) Move → Type 0
 MarksEntry actor old new mark (Ok done) = PutsPair mark.index mark.entry (Some marked) old new

@@ -4,3 +4,4 @@ pub mod Taken
 pub mod Goes
 pub mod Removed
 pub mod Hindrances
+pub mod Widths

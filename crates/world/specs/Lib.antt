@@ -8,3 +8,4 @@ pub mod Endings
 pub mod Told
 pub mod EngineCalls
 pub mod AtHand
+pub mod Widths

@@ -11,6 +11,7 @@ ghost use Rattle.txn_table.specs.Txns.{ids_of, id_at, is_there};
 ghost use Rattle.sql_history.specs.Settings.{made_at};
 ghost use Rattle.world.specs.State.{WorldState, Session, Work, IsIndex, IsSession, HasWork, standing_of};
 ghost use Rattle.world.specs.Indexes.{Calls, Changes, MayBring, InsertsWith, ReplacesWith};
+ghost use Rattle.world.specs.Widths.{HasKeyLen, HasValueLen};
 ghost use Rattle.world.specs.Undoing.{IsUnchanged, MakesRoom, HoldsRecord, read_into, ReadsLast, CutsBack};
 ghost use Rattle.world.specs.Sessions.{IsShown, begun, identified, with_save, back_at_save, with_room, begin_added, view_added, change_added, undone_added};
 ghost use Rattle.world.specs.Endings.{Commits, RollsBack, FreesLog};
@@ -57,7 +58,8 @@ pub trait World {
         ensures untouched { is_done result ≡ false → into.new.items ≡ into.old.items }
         ensures room { vec_capacity into.old ≤ vec_capacity into.new };
 
-    /// Adds a pair, or answers `At` with the key's pair, which stays. The undo record comes with the pair.
+    /// Adds a pair, or answers `At` with the key's pair, which stays. In an index all keys are equally long, and all values
+    /// are. The undo record comes with the pair.
     fn insert(
         &mut self,
         index: u32,
@@ -69,6 +71,8 @@ pub trait World {
         requires index { IsIndex (state self.old).schemas index }
         requires key { length key.now ≤ 67 }
         requires value { length value.now ≤ 1024 }
+        requires key_len { HasKeyLen (state self.old).schemas index key.now }
+        requires value_len { HasValueLen (state self.old).schemas index value.now }
         requires undo { MayBring actor (option_copied undo) (state self.old) }
         ensures { Changes index actor (option_copied undo.entry) (λ before after answer. InsertsWith (option_copied undo.entry) actor key.now value.now before after answer) (state self.old) (state self.new) result };
 
@@ -83,6 +87,7 @@ pub trait World {
     ) -> Move
         requires index { IsIndex (state self.old).schemas index }
         requires value { length value.now ≤ 1024 }
+        requires value_len { HasValueLen (state self.old).schemas index value.now }
         requires undo { MayBring actor (option_copied undo) (state self.old) }
         ensures { Changes index actor (option_copied undo.entry) (λ before after answer. ReplacesWith (option_copied undo.entry) actor key.now value.now before after answer) (state self.old) (state self.new) result };
 

@@ -1,5 +1,9 @@
 use Rattle.undo_apply.proofs.Goes.{mark_step, mark_unwritten}
+use Rattle.undo_apply.proofs.Widths.{marked_len}
 use Rattle.undo_apply.proofs.key_steps.mark.Goals as goal
+
+pub replace-answer-requires-clause-value_len : goal.replace-answer-requires-clause-value_len
+replace-answer-requires-clause-value_len g c = marked_len c.requires.under_way.3 c.args.which c.requires.stage _ c.entries_of.ensures
 
 pub returns-clause-puts : goal.returns-clause-puts
 returns-clause-puts g c = λ chains beside place is.

@@ -1,7 +1,11 @@
 use Rattle.std.proofs.Common.{None}
 use Rattle.row_changes.proofs.Awaited.{awaits_at, replace_with_here}
 use Rattle.undo_apply.proofs.Goes.{unmark_step, unmark_unwritten}
+use Rattle.undo_apply.proofs.Widths.{unmarked_len}
 use Rattle.undo_apply.proofs.key_steps.unmark.Goals as goal
+
+pub replace-answer-requires-clause-value_len : goal.replace-answer-requires-clause-value_len
+replace-answer-requires-clause-value_len g c = unmarked_len c.requires.under_way.3 c.args.which c.requires.stage _ c.entries_of.ensures
 
 pub returns-clause-puts : goal.returns-clause-puts
 returns-clause-puts g c = λ chains beside place is.

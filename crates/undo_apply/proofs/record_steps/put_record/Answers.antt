@@ -1,6 +1,7 @@
 use Rattle.std.proofs.Common.{arith}
 use Rattle.std.proofs.lemmas.Grind.{common_steps}
 use Rattle.undo_apply.proofs.Goes.{remove_record, replace_record, nexted_leaves, room_leaves}
+use Rattle.undo_apply.proofs.Widths.{before_len}
 use Rattle.undo_apply.proofs.record_steps.put_record.Goals as goal
 
 pub replace-answer-requires-clause-index : goal.replace-answer-requires-clause-index
@@ -9,6 +10,9 @@ replace-answer-requires-clause-index g c =
     let table = c.args.undo.now.table in
     rw c.records_of-2.ensures
     (record { table = table; which = 0; number = omega arith; schema = is.schema; there = is.tells.there; key = omega arith; few = omega arith })
+
+pub replace-answer-requires-clause-value_len : goal.replace-answer-requires-clause-value_len
+replace-answer-requires-clause-value_len g c = before_len c.requires.under_way.3 c.if-undo.false _ c.records_of-2.ensures
 
 pub returns-then-undo-clause-puts : goal.returns-then-undo-clause-puts
 returns-then-undo-clause-puts g c = λ chains beside place is.

@@ -2,6 +2,7 @@ use Rattle.std.proofs.Common.{ap, Some, refl}
 use Rattle.row_changes.specs.Records.{row_found}
 use Rattle.row_changes.proofs.Awaited.{entered_awaits, insert_with_here}
 use Rattle.row_changes.proofs.Changing.{changing_still, has_room, rows_index, key_short, value_short, version_made, may_put, may_log_new, may_enter}
+use Rattle.row_changes.proofs.Changing.{rows_key_len, rows_value_len}
 use Rattle.row_changes.proofs.Changing.{inserted, insert_hindered, lacks_memory_then}
 use Rattle.law_stored_rows.specs.Edits.{clustered_index}
 use Rattle.row_changes.proofs.record_change.RecordChange.insert.Goals as goal
@@ -23,6 +24,15 @@ insert-answer-requires-clause-value g c =
     let p = changing_still c.requires.missing.1 in
     let value = c.in-Ok.ensures p.schema p.session p.work p.table.there p.has_work in
     value_short p.schema _ _ _ p.table.storable (version_made _ _ _ _ _ _ p.fits p.stage (may_put c.args.self.now.edit _ c.requires.put) _ _ _ refl) value
+
+abbrev pub insert-answer-requires-clause-key_len : goal.insert-answer-requires-clause-key_len
+insert-answer-requires-clause-key_len g c = rows_key_len (changing_still c.requires.missing.1) _ c.index.ensures
+
+abbrev pub insert-answer-requires-clause-value_len : goal.insert-answer-requires-clause-value_len
+insert-answer-requires-clause-value_len g c =
+    let p = changing_still c.requires.missing.1 in
+    let value = c.in-Ok.ensures p.schema p.session p.work p.table.there p.has_work in
+    rows_value_len p _ c.index.ensures _ _ (version_made _ _ _ _ _ _ p.fits p.stage (may_put c.args.self.now.edit _ c.requires.put) _ _ _ refl) value
 
 abbrev pub insert-answer-requires-clause-undo : goal.insert-answer-requires-clause-undo
 insert-answer-requires-clause-undo g c =

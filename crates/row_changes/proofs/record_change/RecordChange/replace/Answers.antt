@@ -2,7 +2,7 @@ use Rattle.std.proofs.Common.{ap, ◌<◌, ◌^◌, Some, arith, refl}
 use Rattle.std.proofs.lemmas.Option.{slice_get_within}
 use Rattle.row_changes.proofs.Awaited.{entered_awaits, replace_with_here}
 use Rattle.row_changes.proofs.Changing.{stage_at, lacks_memory, rows_index, value_short, version_made, may_replace, may_log_former, may_enter, replaced}
-use Rattle.row_changes.proofs.Changing.{replace_hindered}
+use Rattle.row_changes.proofs.Changing.{replace_hindered, rows_value_len}
 use Rattle.row_changes.specs.Records.{row_found}
 use Rattle.law_stored_rows.specs.Edits.{clustered_index}
 use Rattle.row_changes.proofs.record_change.RecordChange.replace.Goals as goal
@@ -19,6 +19,13 @@ replace-answer-requires-clause-value g c =
     let value = c.in-Ok.ensures p.schema p.session p.work p.table.there p.has_work in
     value_short p.schema _ _ _ p.table.storable (version_made _ _ _ _ _ _ p.fits p.stage
     (may_replace c.args.self.now.edit _ _ _ c.requires.stage.2) _ _ _ refl) value
+
+abbrev pub replace-answer-requires-clause-value_len : goal.replace-answer-requires-clause-value_len
+replace-answer-requires-clause-value_len g c =
+    let p = c.requires.changing in
+    let value = c.in-Ok.ensures p.schema p.session p.work p.table.there p.has_work in
+    rows_value_len p _ c.index.ensures _ _
+    (version_made _ _ _ _ _ _ p.fits p.stage (may_replace c.args.self.now.edit _ _ _ c.requires.stage.2) _ _ _ refl) value
 
 abbrev pub replace-answer-requires-clause-undo : goal.replace-answer-requires-clause-undo
 replace-answer-requires-clause-undo g c =
