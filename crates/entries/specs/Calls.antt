@@ -31,7 +31,7 @@ Delays actor old new other = ⊥
 
 -- A call that asks for pages may answer so, too: fewer are free than it needs, or the tree would have a ninth level.
 abbrev pub LacksPages : Index → Index → Move → Type 0
-LacksPages old new (Full need free) = IsPutOff (λ before now. (free ≡ before.free) × (free < need)) old new
+LacksPages old new (Full need free) = IsPutOff (λ before now. free < need) old new
 LacksPages old new TooDeep = IsPutOff (λ before now. before.levels ≡ 8) old new
 LacksPages old new other = ⊥
 

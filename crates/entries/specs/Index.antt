@@ -2,12 +2,11 @@
 use Rattle.std.specs.Prelude.{◌≡◌, ◌≢◌, ℕ, ◌≤◌, Bool, List, length, Option, None, Some, IfSome}
 use Rattle.entries.specs.Pairs.{Pair}
 
--- What an index shows that is kept in pages: what its answers about pages rest on.
+-- What an index shows that is kept in pages: what its answers about pages rest on. How many pages are free is known of the
+-- whole file alone.
 pub record Paged : Type 0 where
   -- how often the disk has failed
   pub faults : ℕ
-  -- how many pages are free
-  pub free : ℕ
   -- how many levels the tree has
   pub levels : ℕ
   -- how long each key is, and how long each value
@@ -64,10 +63,10 @@ pub record HasGone (step : List Pair → List Pair → Type 0) (holder : Option 
   pub place : new.place ≡ old.place
   pub awaited : new.awaited ≡ holder
 
--- Of an index in pages, before and after a call. It says that the index is in pages.
-abbrev pub InPages : (Paged → Paged → Type 0) → Option Paged → Option Paged → Type 0
-InPages P (Some old) (Some new) = P old new
-InPages P old new = ⊥
+-- Of an index in pages, or of a whole store, before and after a call. It says that it is in pages.
+abbrev pub InPages : {P : Type 0} → (P → P → Type 0) → Option P → Option P → Type 0
+InPages why (Some old) (Some new) = why old new
+InPages why old new = ⊥
 
 -- The disk's faults are never fewer, and keys and values are as long as before.
 pub record IsLater (old new : Paged) : Type 0 where

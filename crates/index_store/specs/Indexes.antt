@@ -7,7 +7,7 @@ use Rattle.entries.specs.Index.{Index, Told, IsAsBefore, GoesOn}
 use Rattle.entries.specs.Calls.{is_done}
 use Rattle.row_versions.specs.Versions.{Stays}
 use Rattle.world.specs.Indexes.{IsUndo, undo_bytes, KeepsIf}
-use Rattle.world.specs.Stores.{StoreGoes}
+use Rattle.world.specs.Stores.{StoreGoes, CountsFree}
 use Rattle.index_store.specs.State.{StoreState}
 
 -- One index has gone on by a step; the others are as they were.
@@ -57,3 +57,4 @@ Brings s undo done old new = StaysBeside old new
 pub record Changes (index s : ℕ) (undo : Option Undo) (call : Index → Index → Move → Type 0) (old new : StoreState) (answer : Move) : Type 0 where
   pub index_is : InIndex index (λ before after. call before after answer) old new
   pub beside : Brings s undo (is_done answer) old new
+  pub counted : CountsFree answer old.paged

@@ -6,9 +6,9 @@ use Rattle.inno_db.specs.Indexes.{index_of}
 use Rattle.store_api.specs.Causes.{Rose}
 use Rattle.store_api.specs.declared.moves.Move.{Move}
 use Rattle.store_api.specs.declared.moves.Move.TheVariants.{Done, Step, Latch, Again, Full, Failed, Bad, NoMemory}
-use Rattle.entries.specs.Index.{Paged, IsAsBefore, InPages}
+use Rattle.entries.specs.Index.{IsAsBefore, InPages}
 use Rattle.entries.specs.Lists.{empty_index}
-use Rattle.world.specs.Stores.{StoreGoes}
+use Rattle.world.specs.Stores.{Pages, StoreGoes}
 use Rattle.index_store.specs.State.{StoreState}
 use Rattle.index_store.specs.Indexes.{StaysBeside}
 
@@ -18,7 +18,7 @@ pub record IsUnchanged (old new : StoreState) : Type 0 where
   pub beside : StaysBeside old new
 
 -- The call has not ended, by a cause that only a store in pages has.
-pub record IsPutOff (why : Paged → Paged → Type 0) (old new : StoreState) : Type 0 where
+pub record IsPutOff (why : Pages → Pages → Type 0) (old new : StoreState) : Type 0 where
   pub all : IsUnchanged old new
   pub cause : InPages why old.paged new.paged
 

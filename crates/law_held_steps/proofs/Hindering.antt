@@ -7,7 +7,7 @@ use Rattle.store_api.specs.declared.moves.Move.{Move}
 use Rattle.entries.specs.{Pairs.Pair, Index.Index, Index.AreKept}
 use Rattle.law_stored_rows.specs.Edits.{key_index}
 use Rattle.world.specs.{State.WorldState, AtHand.IsAtHand, AtHand.IsIndexAtHand, Undoing.MakesRoom}
-use Rattle.world.proofs.AtHand.{not_delayed, index_not_delayed, never_unseen, free_are_few}
+use Rattle.world.proofs.AtHand.{not_delayed, index_not_delayed, never_unseen, free_are_few, counted_are_few}
 use Rattle.row_changes.specs.{Awaited.AwaitsNobody, Pairs.Hinders, Pairs.HindersBehind, Keys.HindersKeys, declared.keys_change.KeysChange.KeysChange}
 use Rattle.row_search.specs.{declared.scan.Scan.Scan, declared.phase.Phase.Phase, Steps.MayWait, Steps.MayBeUnseen, Steps.PhaseWaits}
 use Rattle.row_search.specs.declared.phase.Phase.TheVariants.{Seek, Follow, Fetch, Walk}
@@ -54,7 +54,7 @@ module _ (s : ℕ) (old new : WorldState) (was : IsAtHand old) (is : IsAtHand ne
   -- room for an undo record
   pub room_lacks : (bytes : ℕ) (why : Move) → why ≢ Done → MakesRoom s bytes old new why → IsForWant why
   room_lacks bytes NoMemory hindered same = record {}
-  room_lacks bytes (Full need free) hindered off = free_are_few need free old.paged new.paged off.cause
+  room_lacks bytes (Full need free) hindered off = counted_are_few need free old.paged new.paged off.cause
   room_lacks bytes Done hindered made = hindered refl
   room_lacks bytes TooDeep hindered off = record {}
   room_lacks bytes other hindered off = not_delayed s old new was is other off

@@ -5,7 +5,7 @@ use Rattle.inno_model.specs.{declared.event.Event.TheVariants.Committed, declare
 use Rattle.inno_model.specs.{Past.txn, Past.IsOpen}
 use Rattle.row_versions.specs.{Chains.Chains}
 use Rattle.sql_history.specs.Settings.{at_end}
-use Rattle.entries.specs.Index.{Paged}
+use Rattle.world.specs.Stores.{Pages}
 use Rattle.txn_table.specs.Txns.{without}
 use Rattle.law_past_agreement.specs.{Ids.opens, Ids.txns_of, Rows.place_in, Rows.is_at, Rows.row_opened, Agreement.IsWorkOf}
 use Rattle.law_past_agreement.proofs.{Ids.ids_of, Rows.rows_stay, Rows.rows_committed}
@@ -41,7 +41,7 @@ module _ (chains : Chains) (old : WorldState) (s : ℕ) (session : Session) (wor
       ≡ record (txns_of old.past) { open_txns = without (txn s old.past) (opens old.past) }
   txns_now = rw (mine.txn_is, agrees.lists.txns_are) refl
 
-  commits : (paged : Option Paged) → Agrees chains (record (committed s session work old) { paged = paged })
+  commits : (paged : Option Pages) → Agrees chains (record (committed s session work old) { paged = paged })
   commits paged =
       let x : Session = record session { can_ack = true; setting = at_end session.setting; work = None } in
       after agrees (Committed s) s (mine_tells s) was_open few (joined_of agrees has.session_is) (replaced x refl refl refl) agrees.lists.tables txns_now
@@ -49,7 +49,7 @@ module _ (chains : Chains) (old : WorldState) (s : ℕ) (session : Session) (wor
       (λ place. rows_committed (row_opened old.past place) (is_at old.schemas place) s old.past was_open (ids_of old.past agrees.lists.ordered)
       (agrees.lists.rows place))
 
-  rolls_back : own s old.past ≡ [] → (paged : Option Paged)
+  rolls_back : own s old.past ≡ [] → (paged : Option Pages)
       → Agrees chains (record (rolled_back s session work old) { paged = paged })
   rolls_back none paged =
       let x : Session = record session { setting = at_end session.setting; work = None } in

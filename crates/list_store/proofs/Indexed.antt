@@ -12,7 +12,7 @@ use Rattle.entries.specs.Index.{Index, Told, IsAsBefore}
 use Rattle.entries.specs.Calls.{is_done, released, Tidies, Inserts, Replaces, Leaves}
 use Rattle.entries.specs.Lists.{shown}
 use Rattle.row_versions.specs.declared.kept.Kept.{Kept}
-use Rattle.world.specs.State.{IsIndex}
+use Rattle.world.specs.{State.IsIndex, Stores.CountsFree}
 use Rattle.world.specs.Indexes.{InsertsWith, ReplacesWith, KeepsIf}
 use Rattle.index_store.specs.State.{StoreState}
 use Rattle.index_store.specs.Indexes.{InIndex, StaysBeside, Calls, Changes, Brings, IsLogged}
@@ -119,6 +119,20 @@ brings_none actor undo old new End other h = h
 brings_none actor undo old new (Full need free) other h = h
 brings_none actor undo old new TooDeep other h = h
 
+-- a store in memory has no pages that could be counted
+pub counts_none : (answer : Move) → CountsFree answer None
+counts_none (Full need free) = tt
+counts_none Done = tt
+counts_none NoMemory = tt
+counts_none Step = tt
+counts_none (Latch by) = tt
+counts_none Again = tt
+counts_none Failed = tt
+counts_none (Bad page rule) = tt
+counts_none (At found kept) = tt
+counts_none End = tt
+counts_none TooDeep = tt
+
 pub changes_none : (p : ListParts) (index actor : ℕ) (undo : Undo) (old new : ListIndex) (call : Index → Index → Move → Type 0) (answer : Move)
     → slice_get p.indexes index ≡ Some old
     → answer ≢ Done → call (shown old) (shown new) answer → Told AreSound (shown new)
@@ -129,6 +143,7 @@ changes_none p index actor undo old new call answer there other called sound =
       index_is = one.index_is;
       beside = brings_none actor undo (store_of p) (store_of (record p { indexes = slice_set p.indexes index new })) answer
           other one.beside;
+      counted = counts_none answer;
     }
 
 -- the index has changed, and then the record was logged
@@ -140,6 +155,7 @@ pub changes_logged : (p q : ListParts) (index actor : ℕ) (undo : Undo) (old ne
 changes_logged p q index actor undo old new call there called sound is logged = record {
   index_is = in_index p.indexes p q index old new (λ before after. call before after Done) there is called sound;
   beside = record { schemas = logged.schemas; kept = logged.kept; others = logged.others; later = logged.later };
+  counted = tt;
 }
 
 -- what is kept where a record is logged

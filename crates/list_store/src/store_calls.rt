@@ -35,6 +35,7 @@ impl IndexStore for ListStore {
         self.indexes[index as usize].next_key(actor, key, into)
     }
 
+    #[tactic(auto, using(crate::proofs::Indexed::counts_none))]
     fn insert(
         &mut self,
         index: u32,
@@ -49,6 +50,7 @@ impl IndexStore for ListStore {
         }
     }
 
+    #[tactic(auto, using(crate::proofs::Indexed::counts_none))]
     fn replace(
         &mut self,
         index: u32,

@@ -7,9 +7,10 @@ use Rattle.inno_model.specs.declared.event.Event.TheVariants.{Changed}
 use Rattle.store_api.specs.declared.answers.Undo.{Undo}
 use Rattle.store_api.specs.declared.moves.Move.{Move}
 use Rattle.store_api.specs.declared.moves.Move.TheVariants.{At, End, Done, Step, Latch, Again, Full, TooDeep, Failed, Bad, NoMemory}
-use Rattle.entries.specs.Index.{Index, Paged}
+use Rattle.entries.specs.Index.{Index}
 use Rattle.entries.specs.Calls.{is_done}
 use Rattle.world.specs.State.{WorldState, Session, Work, Logged, HasWork}
+use Rattle.world.specs.Stores.{Pages}
 use Rattle.world.specs.Indexes as world
 use Rattle.world.specs.Undoing as undoing
 use Rattle.world.specs.EngineCalls as engine
@@ -46,6 +47,7 @@ pub changed : {S : Type 0} (p : Parts S) (store : S) (index actor : ℕ) (call :
 changed p store index actor call old new answer is = record {
   index_is = in_index p (record p { store = store }) index (λ before after. call before after answer) old new is.index_is;
   beside = beside p store old new is.beside;
+  counted = is.counted;
 }
 
 -- a call that has not changed its index brings nothing
@@ -70,6 +72,7 @@ pub unlogged : {S : Type 0} (p : Parts S) (store : S) (index actor : ℕ) (undo 
 unlogged p store index actor undo call old new answer other is = record {
   index_is = in_index p (record p { store = store }) index (λ before after. call before after answer) old new is.index_is;
   beside = brings_none p store actor undo old new answer other is.beside;
+  counted = is.counted;
 }
 
 -- the session's log has the record now
@@ -95,6 +98,7 @@ logged p store index actor undo call old new session work has pointer is = recor
     rest = rw is.beside.schemas refl;
     later = is.beside.later;
   };
+  counted = tt;
 }
 
 -- ---- versions, undo records and ends
@@ -104,7 +108,7 @@ pub unchanged : {S : Type 0} (p : Parts S) (store : S) (old new : StoreState) �
 unchanged p store old new is =
     record { indexes = is.indexes; versions = is.beside.versions; rest = rw is.beside.schemas refl; later = is.beside.later }
 
-put_off : {S : Type 0} (p : Parts S) (store : S) (why : Paged → Paged → Type 0) (old new : StoreState) → IsPutOff why old new
+put_off : {S : Type 0} (p : Parts S) (store : S) (why : Pages → Pages → Type 0) (old new : StoreState) → IsPutOff why old new
     → undoing.IsPutOff why (world_of old p) (world_of new (record p { store = store }))
 put_off p store why old new is = record { all = unchanged p store old new is.all; cause = is.cause }
 

@@ -9,7 +9,6 @@ use Rattle.tree_use.specs.Stored.{Stored}
 abbrev pub paged_of : Stored → Paged
 paged_of stored = record {
   faults = 0;
-  free = stored.free;
   levels = stored.levels;
   key_len = stored.key_len;
   value_len = stored.value_len;

@@ -15,17 +15,25 @@ use Rattle.row_versions.specs.Versions as versions
 use Rattle.world.specs.State.{WorldState}
 use Rattle.world.specs.Undoing.{Delays}
 use Rattle.world.specs.Endings.{DoesOrDelays}
-use Rattle.world.specs.AtHand.{ArePagesAtHand, AreVersionsAtHand, IsIndexAtHand, IsAtHand}
+use Rattle.world.specs.AtHand.{AreAtHand, ArePagesAtHand, IsTreeAtHand, AreVersionsAtHand, IsIndexAtHand, IsAtHand}
+use Rattle.world.specs.Stores.{Pages}
 
 -- ---- causes of answers by which a call is put off
 
+-- a cause that pages have, once they are there
+in_pages : {P : Type 0} {A : Type 0} (why : P → P → Type 0) (old new : Option P) → ((before now : P) → why before now → A) → InPages why old new → A
+in_pages why (Some before) (Some now) follows cause = follows before now cause
+in_pages why None None follows cause = absurd cause
+in_pages why None (Some now) follows cause = absurd cause
+in_pages why (Some before) None follows cause = absurd cause
+
 -- a cause that pages at hand never have
-no_cause : (why : Paged → Paged → Type 0) (old new : Option Paged) → IfSome old ArePagesAtHand → IfSome new ArePagesAtHand
-    → ((before now : Paged) → ArePagesAtHand before → ArePagesAtHand now → why before now → ⊥) → InPages why old new → ⊥
-no_cause why (Some before) (Some now) was is never cause = never before now was is cause
-no_cause why None None was is never cause = cause
-no_cause why None (Some now) was is never cause = cause
-no_cause why (Some before) None was is never cause = cause
+no_cause : {P : Type 0} (at_hand : P → Type 0) (why : P → P → Type 0) (old new : Option P) → IfSome old at_hand → IfSome new at_hand
+    → ((before now : P) → at_hand before → at_hand now → why before now → ⊥) → InPages why old new → ⊥
+no_cause at_hand why (Some before) (Some now) was is never cause = never before now was is cause
+no_cause at_hand why None None was is never cause = cause
+no_cause at_hand why None (Some now) was is never cause = cause
+no_cause at_hand why (Some before) None was is never cause = cause
 
 none_below : (list : List ℕ) → IsBelow list [] → ⊥
 none_below [] below = below
@@ -37,38 +45,35 @@ never_true unset set = false≢true (sym unset ∙ set)
 never_rose : (before now : ℕ) → before ≡ 0 → now ≡ 0 → Rose before now → ⊥
 never_rose before now none still rose = absurd (omega (arith, none, still, rose))
 
-module _ (before now : Paged) (was : ArePagesAtHand before) (is : ArePagesAtHand now) where
-  never_nears : (actor : ℕ) → IsBelow (now.to_go actor) (before.to_go actor) → ⊥
-  never_nears actor nears = none_below (now.to_go actor) (rw (was.to_go actor) at nears)
+module _ {faults : ℕ} {is_crowded : Bool} {breaks stops : ℕ → ℕ → Bool} {to_go : ℕ → List ℕ} (was : AreAtHand faults is_crowded breaks stops to_go) where
+  never_nears : (actor : ℕ) (now : List ℕ) → IsBelow now (to_go actor) → ⊥
+  never_nears actor now nears = none_below now (rw (was.ended actor) at nears)
 
-  never_stops : (by actor : ℕ) → (by ≢ actor) × (before.stops by actor ≡ true) → ⊥
-  never_stops by actor stops = never_true (was.stops by actor) stops.1
+  never_stops : (by actor : ℕ) → (by ≢ actor) × (stops by actor ≡ true) → ⊥
+  never_stops by actor stop = never_true (was.open_to_all by actor) stop.1
 
-  never_crowded : before.is_crowded ≡ true → ⊥
-  never_crowded crowded = never_true was.is_crowded crowded
+  never_crowded : is_crowded ≡ true → ⊥
+  never_crowded crowded = never_true was.crowded_is crowded
 
-  never_fails : Rose before.faults now.faults → ⊥
-  never_fails rose = never_rose before.faults now.faults was.faults is.faults rose
+  never_breaks : (page rule : ℕ) → breaks page rule ≡ true → ⊥
+  never_breaks page rule breach = never_true (was.whole page rule) breach
 
-  never_breaks : (page rule : ℕ) → before.breaks page rule ≡ true → ⊥
-  never_breaks page rule breaks = never_true (was.breaks page rule) breaks
+-- pages are lacking only where fewer are free than are needed: those of an index, and those for undo records
+pub free_are_few : (need free : ℕ) (old new : Option Paged) → InPages (λ before now. free < need) old new → free < need
+free_are_few need free old new = in_pages (λ before now. free < need) old new (λ before now few. few)
 
--- pages are lacking only where fewer are free than are needed
-pub free_are_few : (need free : ℕ) (old new : Option Paged) → InPages (λ before now. (free ≡ before.free) × (free < need)) old new → free < need
-free_are_few need free (Some before) (Some now) cause = cause.1
-free_are_few need free None None cause = absurd cause
-free_are_few need free None (Some now) cause = absurd cause
-free_are_few need free (Some before) None cause = absurd cause
+pub counted_are_few : (need free : ℕ) (old new : Option Pages) → InPages (λ before now. (free ≡ before.free) × (free < need)) old new → free < need
+counted_are_few need free old new = in_pages (λ before now. (free ≡ before.free) × (free < need)) old new (λ before now few. few.1)
 
 -- ---- calls of an index
 
 module _ (actor : ℕ) (old new : Index) (was : IsIndexAtHand old) (is : IsIndexAtHand new) where
   pub index_not_delayed : (answer : Move) → index.Delays actor old new answer → ⊥
-  index_not_delayed Step off = no_cause _ old.paged new.paged was is (λ before now p q. never_nears before now p q actor) off.cause
-  index_not_delayed (Latch by) off = no_cause _ old.paged new.paged was is (λ before now p q. never_stops before now p q by actor) off.cause
-  index_not_delayed Again off = no_cause _ old.paged new.paged was is never_crowded off.cause
-  index_not_delayed Failed off = no_cause _ old.paged new.paged was is never_fails off.cause
-  index_not_delayed (Bad page rule) off = no_cause _ old.paged new.paged was is (λ before now p q. never_breaks before now p q page rule) off.cause
+  index_not_delayed Step off = no_cause IsTreeAtHand _ old.paged new.paged was is (λ before now p q. never_nears p actor (now.to_go actor)) off.cause
+  index_not_delayed (Latch by) off = no_cause IsTreeAtHand _ old.paged new.paged was is (λ before now p q. never_stops p by actor) off.cause
+  index_not_delayed Again off = no_cause IsTreeAtHand _ old.paged new.paged was is (λ before now p q. never_crowded p) off.cause
+  index_not_delayed Failed off = no_cause IsTreeAtHand _ old.paged new.paged was is (λ before now p q. never_rose before.faults now.faults p.faults_are q.faults_are) off.cause
+  index_not_delayed (Bad page rule) off = no_cause IsTreeAtHand _ old.paged new.paged was is (λ before now p q. never_breaks p page rule) off.cause
   index_not_delayed (At key value) off = off
   index_not_delayed End off = off
   index_not_delayed Done off = off
@@ -102,12 +107,12 @@ module _ (old new : versions.Versions) (was : IfSome old.paged AreVersionsAtHand
 
 module _ (s : ℕ) (old new : WorldState) (was : IsAtHand old) (is : IsAtHand new) where
   pub not_delayed : (answer : Move) → Delays s old new answer → ⊥
-  not_delayed Step off = no_cause _ old.paged new.paged was.pages is.pages (λ before now p q. never_nears before now p q s) off.cause
-  not_delayed (Latch by) off = no_cause _ old.paged new.paged was.pages is.pages (λ before now p q. never_stops before now p q by s) off.cause
-  not_delayed Again off = no_cause _ old.paged new.paged was.pages is.pages never_crowded off.cause
-  not_delayed Failed off = no_cause _ old.paged new.paged was.pages is.pages never_fails off.cause
+  not_delayed Step off = no_cause ArePagesAtHand _ old.paged new.paged was.pages is.pages (λ before now p q. never_nears p s (now.to_go s)) off.cause
+  not_delayed (Latch by) off = no_cause ArePagesAtHand _ old.paged new.paged was.pages is.pages (λ before now p q. never_stops p by s) off.cause
+  not_delayed Again off = no_cause ArePagesAtHand _ old.paged new.paged was.pages is.pages (λ before now p q. never_crowded p) off.cause
+  not_delayed Failed off = no_cause ArePagesAtHand _ old.paged new.paged was.pages is.pages (λ before now p q. never_rose before.faults now.faults p.faults_are q.faults_are) off.cause
   not_delayed (Bad page rule) off =
-      no_cause _ old.paged new.paged was.pages is.pages (λ before now p q. never_breaks before now p q page rule) off.cause
+      no_cause ArePagesAtHand _ old.paged new.paged was.pages is.pages (λ before now p q. never_breaks p page rule) off.cause
   not_delayed (At key value) off = off
   not_delayed End off = off
   not_delayed Done off = off

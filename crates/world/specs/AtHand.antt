@@ -1,17 +1,26 @@
 -- What a store shows of which nothing is ever put off: it has no pages, or all of them are at hand.
-use Rattle.std.specs.Prelude.{◌≡◌, ℕ, true, false, [], None, IfSome}
+use Rattle.std.specs.Prelude.{◌≡◌, ℕ, Bool, List, true, false, [], None, IfSome}
 use Rattle.entries.specs.Index.{Paged, Index}
 use Rattle.row_versions.specs.Versions as versions
 use Rattle.world.specs.State.{WorldState}
+use Rattle.world.specs.Stores.{Pages}
 use Rattle.world.specs.Told.{IsTold}
 
 -- The disk has never failed, there is a frame for each page, no page breaks a rule, no latch stands in a way, and each call ends at once.
-pub record ArePagesAtHand (pages : Paged) : Type 0 where
-  pub faults : pages.faults ≡ 0
-  pub is_crowded : pages.is_crowded ≡ false
-  pub breaks : (page rule : ℕ) → pages.breaks page rule ≡ false
-  pub stops : (holder actor : ℕ) → pages.stops holder actor ≡ false
-  pub to_go : (actor : ℕ) → pages.to_go actor ≡ []
+pub record AreAtHand (faults : ℕ) (is_crowded : Bool) (breaks stops : ℕ → ℕ → Bool) (to_go : ℕ → List ℕ) : Type 0 where
+  pub faults_are : faults ≡ 0
+  pub crowded_is : is_crowded ≡ false
+  pub whole : (page rule : ℕ) → breaks page rule ≡ false
+  pub open_to_all : (holder actor : ℕ) → stops holder actor ≡ false
+  pub ended : (actor : ℕ) → to_go actor ≡ []
+
+-- the pages of the whole store
+abbrev pub ArePagesAtHand : Pages → Type 0
+ArePagesAtHand pages = AreAtHand pages.faults pages.is_crowded pages.breaks pages.stops pages.to_go
+
+-- what an index shows of its pages
+abbrev pub IsTreeAtHand : Paged → Type 0
+IsTreeAtHand pages = AreAtHand pages.faults pages.is_crowded pages.breaks pages.stops pages.to_go
 
 -- the same of pages with versions
 pub record AreVersionsAtHand (pages : versions.Paged) : Type 0 where
@@ -21,7 +30,7 @@ pub record AreVersionsAtHand (pages : versions.Paged) : Type 0 where
 
 -- the index's pages, if it has any
 abbrev pub IsIndexAtHand : Index → Type 0
-IsIndexAtHand index = IfSome index.paged ArePagesAtHand
+IsIndexAtHand index = IfSome index.paged IsTreeAtHand
 
 -- It tells all its pairs and versions, too.
 pub record IsAtHand (state : WorldState) : Type 0 where

@@ -11,7 +11,7 @@ use Rattle.entries.specs.Calls.{is_done, Inserts, Replaces}
 use Rattle.row_versions.specs.Versions.{Versions, Stays}
 use Rattle.row_codec.specs.Rows.{IsRecordOf, IsVersion}
 use Rattle.world.specs.State.{WorldState, Session, Work, HasWork, with_work}
-use Rattle.world.specs.Stores.{StoreGoes}
+use Rattle.world.specs.Stores.{StoreGoes, CountsFree}
 
 -- One index has gone on by a step; the others are as they were, and so is all else.
 pub record InIndex (index : ℕ) (step : Index → Index → Type 0) (old new : WorldState) : Type 0 where
@@ -96,6 +96,7 @@ Brings actor undo done old new = StaysBeside old new
 pub record Changes (index actor : ℕ) (undo : Option Undo) (call : Index → Index → Move → Type 0) (old new : WorldState) (answer : Move) : Type 0 where
   pub index_is : InIndex index (λ before after. call before after answer) old new
   pub beside : Brings actor undo (is_done answer) old new
+  pub counted : CountsFree answer old.paged
 
 -- A call of an index that brings no undo record.
 pub record Calls (index : ℕ) (call : Index → Index → Type 0) (old new : WorldState) : Type 0 where

@@ -6,12 +6,13 @@ use Rattle.inno_db.specs.Indexes.{index_of}
 use Rattle.inno_model.specs.declared.event.Event.{Event}
 use Rattle.store_api.specs.declared.answers.Standing.{Standing}
 use Rattle.store_api.specs.declared.answers.Undo.{Undo}
-use Rattle.entries.specs.Index.{Index, Paged}
+use Rattle.entries.specs.Index.{Index}
 use Rattle.lock_table.specs.Queue.{Lists}
 use Rattle.lock_table.specs.View.{Table, with_lists}
 use Rattle.row_versions.specs.Versions.{Versions}
 use Rattle.sql_history.specs.Settings.{Setting, next_level}
 use Rattle.txn_table.specs.Txns.{Txns}
+use Rattle.world.specs.Stores.{Pages}
 
 -- an undo record, and the roll pointer that leads to it
 pub record Logged : Type 0 where
@@ -71,7 +72,7 @@ pub record WorldState : Type 0 where
   -- the transactions that were chosen as victims and have not ended, by number
   pub fallen : List ℕ
   -- A world in memory has no pages.
-  pub paged : Option Paged
+  pub paged : Option Pages
 
 -- the index is there
 pub record IsIndex (schemas : List Schema) (index : ℕ) : Type 0 where

@@ -4,12 +4,12 @@ use Rattle.store_api.specs.Causes.{Rose}
 use Rattle.store_api.specs.declared.answers.Undo.{Undo}
 use Rattle.store_api.specs.declared.moves.Move.{Move}
 use Rattle.store_api.specs.declared.moves.Move.TheVariants.{Done, Step, Latch, Again, Full, Failed, Bad, NoMemory}
-use Rattle.entries.specs.Index.{Paged, IsAsBefore, InPages}
+use Rattle.entries.specs.Index.{IsAsBefore, InPages}
 use Rattle.inno_types.specs.Order.{IsBelow}
 use Rattle.row_versions.specs.Versions.{Stays}
 use Rattle.world.specs.declared.undo_room.UndoRoom.{UndoRoom}
 use Rattle.world.specs.State.{WorldState, Session, Work, Logged, IsSession, HasWork, with_session, with_work}
-use Rattle.world.specs.Stores.{StoreGoes}
+use Rattle.world.specs.Stores.{Pages, StoreGoes}
 
 -- Nothing has changed but what is known of pages.
 pub record IsUnchanged (old new : WorldState) : Type 0 where
@@ -19,7 +19,7 @@ pub record IsUnchanged (old new : WorldState) : Type 0 where
   pub later : StoreGoes old.paged new.paged
 
 -- The call has not ended, by a cause that only a world in pages has.
-pub record IsPutOff (why : Paged → Paged → Type 0) (old new : WorldState) : Type 0 where
+pub record IsPutOff (why : Pages → Pages → Type 0) (old new : WorldState) : Type 0 where
   pub all : IsUnchanged old new
   pub cause : InPages why old.paged new.paged
 

@@ -2,11 +2,10 @@
 //! The functions are empty, and nothing calls them.
 
 ghost use Rattle.std.specs.Prelude.{◌≡◌, ℕ, Option};
-ghost use Rattle.entries.specs.Index.{Paged};
 ghost use Rattle.store_api.specs.declared.moves.Move.{Move};
 ghost use Rattle.store_api.specs.declared.moves.Move.TheVariants.{Done};
 ghost use Rattle.world.specs.State.{WorldState};
-ghost use Rattle.world.specs.Stores.{StoreGoes};
+ghost use Rattle.world.specs.Stores.{Pages, StoreGoes};
 ghost use Rattle.world.specs.Undoing.{IsUnchanged};
 ghost use Rattle.world.specs.Endings.{IsCommitted, IsRolledBack, Commits, RollsBack, FreesLog};
 ghost use Rattle.world.specs.AtHand.{IsAtHand};
@@ -23,6 +22,6 @@ pub fn a_store_at_hand_ends_at_once()
 
 /// A store goes on from itself, and by one step after another.
 pub fn stores_go_on()
-    ensures stays { (store : Option Paged) → StoreGoes store store }
-    ensures goes { (old mid new : Option Paged) → StoreGoes old mid → StoreGoes mid new → StoreGoes old new }
+    ensures stays { (store : Option Pages) → StoreGoes store store }
+    ensures goes { (old mid new : Option Pages) → StoreGoes old mid → StoreGoes mid new → StoreGoes old new }
 {}
