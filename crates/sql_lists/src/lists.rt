@@ -68,21 +68,6 @@ impl<L: SharedLists> SqlLists<L> {
         SqlLists { alloc, lists }
     }
 
-    /// What keeps the lists, to be read.
-    pub fn lists(&self) -> &L
-        ensures same { (L.lists result.now).state ≡ self.now }
-        ensures tables { AreStanding self.now.past }
-        ensures within { rows_kept self.now.past ≤ most_rows }
-        ensures ordered { IsInOrder self.now.past }
-        ensures sound { IsOrdered self.now.past }
-        ensures legal { IsLegal Spells self.now.past }
-        ensures fits { FitsThen self.now.past }
-    {
-        // that each change fitted its tables is what the lists say of their history
-        let _ = self.lists.history();
-        &self.lists
-    }
-
     /// The history, which is legal.
     pub fn history(&self) -> &History
         ensures names { result.now.names ≡ self.now.names }
