@@ -670,7 +670,9 @@ found_there {old} {new} {put} is phase_is stay there = record {
   stays = stay;
   index_is = refl;
   entry_is = refl;
-  holds = record { index_is = (putting_kept is stay).index_is; short = is.short; phase = there };
+  holds =
+      let kept = putting_kept is stay in
+      record { index_is = kept.index_is; short = is.short; key_len = kept.key_len; value_len = kept.value_len; phase = there };
   nears = rw phase_is (omega arith);
 }
 
