@@ -18,7 +18,8 @@ use Rattle.undo_apply.proofs.Telling.{stay_but, remove_stops, next_key_stops}
 pub removed_if : {index : ℕ} {call : Index → Index → Type 0} {old new : WorldState} {holder : Option ℕ} (key : List ℕ) → Calls index call old new
     → HasGone (λ before after. after ≡ with_value key None before) holder (old.indexes index) (new.indexes index) → PutsPair index key None old new
 removed_if {index} {call} {old} {new} key c here =
-    puts_if {actor = 0} {call = λ before after answer. call before after} {answer = Done} key None (record { index_is = c.index_is; beside = c.beside }) here
+    puts_if {actor = 0} {call = λ before after answer. call before after} {answer = Done} key None
+    (record { index_is = c.index_is; beside = c.beside; counted = record {} }) here
 
 -- what is told now was so before, if pairs are told
 told_before : (P : List Pair → Type 0) (old mid : Option (List Pair)) → AreKept old mid → IsSome mid → IfSome mid P → IfSome old P
