@@ -7,12 +7,12 @@ pub mod Pinning
 pub mod Granting
 pub mod Outside
 pub mod GivenBack
-mod Members
-mod Parts
-mod Edges
+pub mod Members
+pub mod Parts
+pub mod Edges
 mod Calls
 mod Removal
-mod Rounds
+pub mod Rounds
 mod Starting
 pub mod AtOnce
 pub mod InsertionSpots

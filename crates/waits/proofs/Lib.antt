@@ -1,0 +1,4 @@
+pub mod Falling
+pub mod Found
+pub mod Rounds
+pub mod Under
