@@ -19,8 +19,9 @@ use Rattle.row_versions.specs.{declared.place.Place.Place, Chains.Chains, Chains
 use Rattle.law_past_agreement.specs.{Rows.place_in, Rows.is_place, Agreement.IsOpenedWith}
 use Rattle.law_stored_rows.specs.Tables.{Said, TellsOfOlder}
 use Rattle.row_changes.specs.declared.row_change.RowChange.TheVariants.{Record, Keys}
-use Rattle.row_changes.specs.{Told.HasRows, Told.AreRowsAs, Told.SaysAt, Rows.IsChangingRow, declared.keys_change.KeysChange.KeysChange}
-use Rattle.row_changes.specs.declared.row_change.RowChange.{RowChange}
+use Rattle.row_changes.specs.{Told.HasRows, Told.AreRowsAs, Told.SaysAt, Rows.IsAtRow, Rows.place_of, declared.keys_change.KeysChange.KeysChange}
+use Rattle.row_changes.specs.{declared.record_change.RecordChange.RecordChange, declared.record_change.RecordStage.RecordStage, Keys.IsChangingKeys}
+use Rattle.row_changes.specs.declared.record_change.RecordStage.TheVariants.{Replace}
 use Rattle.row_search.specs.{declared.sight.Sight.Sight, declared.sight.Sight.TheVariants.View, declared.sight.Sight.TheVariants.Newest}
 use Rattle.undo_apply.specs.{declared.work_room.WorkRoom.WorkRoom, Stages.IsPuttingBack}
 use Rattle.law_logged_changes.specs.Logs.{LogsAgree}
@@ -75,15 +76,10 @@ pub record IsLastOf (state : WorldState) (s : ℕ) (change : KeysChange) : Type 
   pub table_is : place.table ≡ change.table
   pub key_is : logged.undo.key ≡ change.key
 
--- the same of a change that the history tells
-abbrev pub IsLastIfTold : WorldState → ℕ → RowChange → Type 0
-IsLastIfTold state s (Record change key after) = Unit {0}
-IsLastIfTold state s (Keys change) = IsLastOf state s change
-
 -- its keys lag, of a change that was given up
 pub record IsLagging (chains : Chains) (beside : Said) (state : WorldState) (s : ℕ) : Type 0 where
   pub change : KeysChange
-  pub changing : IsChangingRow s chains beside state (Keys change)
+  pub changing : IsChangingKeys chains beside state change
   pub newest : IsLastOf state s change
 
 -- it is being taken back
@@ -94,9 +90,11 @@ pub record IsGoingBack (chains : Chains) (beside : Said) (state : WorldState) (s
   pub undo_is : undo ≡ logged.undo
   pub putting : IsPuttingBack chains beside place undo room state
 
--- what the session knows of the row that it is at work on, where keys say this of others
+-- What the session knows of the row that it is at work on, where keys say this of others. Before its record has changed, the row may be
+-- another's, and what keys say of it isn't known.
 abbrev pub RowHeld : Chains → Said → WorldState → ℕ → Undo → WorkRoom → Doing → Type 0
-RowHeld chains beside state s undo room (Changing change) = IsChangingRow s chains beside state change × IsLastIfTold state s change
+RowHeld chains beside state s undo room (Changing (Record change key after)) = IsAtRow s chains beside state (Record change key after)
+RowHeld chains beside state s undo room (Changing (Keys change)) = IsChangingKeys chains beside state change × IsLastOf state s change
 RowHeld chains beside state s undo room Lagging = IsLagging chains beside state s
 RowHeld chains beside state s undo room Undoing = IsGoingBack chains beside state s undo room
 RowHeld chains beside state s undo room quiet = Unit {0}
@@ -117,6 +115,19 @@ lags_in state s (Changing (Keys change)) = newest_place state.schemas (own s sta
 lags_in state s Lagging = newest_place state.schemas (own s state.past)
 lags_in state s Undoing = newest_place state.schemas (own s state.past)
 lags_in state s other = None
+
+abbrev pub is_found : RecordStage → Bool
+is_found (Replace before bytes) = true
+is_found other = false
+
+abbrev pub changed_place : RecordChange → Option Schema → Option Place
+changed_place change None = None
+changed_place change (Some schema) = Some (place_of schema change)
+
+-- the place at which the session is at work: that of the row whose record it has found, whose keys take it over, or which it takes back
+abbrev pub works_in : WorldState → ℕ → Doing → Option Place
+works_in state s (Changing (Record change key after)) = if is_found change.stage then changed_place change (slice_get state.schemas change.table) else None
+works_in state s other = lags_in state s other
 
 abbrev pub lags_at : Place → WorldState → List Desk → ℕ → Bool
 lags_at place state desks s = is_place place (lags_in state s (doing_at s desks))
@@ -169,18 +180,19 @@ SearchHeld chains store s other = Unit {0}
 
 -- ---- the whole
 
--- Who may write has an open transaction, and who may not has no changes.
-pub record WriterAgrees (past : List Event) (writer : Option ℕ) : Type 0 where
-  pub opened : (s : ℕ) → writer ≡ Some s → IsOpen s past
-  pub clean : (s : ℕ) → writer ≢ Some s → own s past ≡ []
+-- Whose places are: all are those of the session that may write, which has an open transaction. Who may not has no changes, and none under way.
+-- So no two sessions are at work at one place, and nobody else has changes there; of the right to write nothing else is told.
+pub record WriterOwns (store : Store) : Type 0 where
+  pub opened : (s : ℕ) → store.writer ≡ Some s → IsOpen s store.world.past
+  pub clean : (s : ℕ) → store.writer ≢ Some s → own s store.world.past ≡ []
+  pub quiet : (s : ℕ) → store.writer ≢ Some s → is_quiet_doing (doing_at s store.desks) ≡ true
 
 pub record IsHeld (store : Store) : Type 0 where
   pub chains : Chains
   pub agrees : Agrees chains store.world
   pub fits : FitsThen store.world.past
-  pub writes : WriterAgrees store.world.past store.writer
   pub rows : RowsHeld chains store.world store.desks
-  pub quiet : (s : ℕ) → store.writer ≢ Some s → is_quiet_doing (doing_at s store.desks) ≡ true
+  pub owned : WriterOwns store
   pub searches : (s : ℕ) → SearchHeld chains store s (doing_at s store.desks)
   pub logs : LogsAgree store.world
   pub has_room : HasRoom store.world

@@ -16,12 +16,13 @@ use Rattle.world.specs.{Told.IsTold, Told.LeavesRows, Told.pairs_in, Told.pairs_
 use Rattle.world.specs.{Sessions.with_save, Endings.IsCommitted, Endings.IsRolledBack}
 use Rattle.law_logged_changes.specs.{Steps.LeavesLog, Steps.HasNoLog, Steps.LeavesLogs, Steps.OfAll, Logs.LogsAgree, Logs.IsLogOf}
 use Rattle.desks.specs.Desks.{desk_at, with_start, doing_at, started_at, is_quiet_doing, HasRooms, doing_in, started_in, IsNewDesk, Store}
-use Rattle.desks.specs.{Holding.SearchHeld, Holding.IsHeld, Holding.lags_in, Holding.IsFresh}
+use Rattle.desks.specs.{Holding.SearchHeld, Holding.IsHeld, Holding.IsFresh}
 use Rattle.desks.specs.{declared.desk.Desk.Desk, declared.desk.Doing.TheVariants.Nothing, Leaves.Does}
 use Rattle.row_versions.specs.Versions.{Versions, Stays}
 use Rattle.law_logged_changes.proofs.Leaving.{rows_leave, all_left, more_grow}
-use Rattle.law_held_steps.proofs.AnyStep.{some_same, each, others_past, past_grows, quiet_step, held_after, waits_not, quiet_row}
-use Rattle.law_held_steps.proofs.{Putting.rests_coded, Putting.others_clean, Putting.others_quiet, AnyStep.none_lags, AnyStep.desk_elsewhere, AnyStep.as_many}
+use Rattle.law_other_places.proofs.{Sessions.each, Quiet.quiet_coded, Quiet.quiet_rows}
+use Rattle.law_held_steps.proofs.AnyStep.{some_same, others_past, past_grows, quiet_step, held_after, waits_not, desk_elsewhere, as_many}
+use Rattle.law_held_steps.proofs.Apart.{others_clean, others_quiet}
 use Rattle.law_world_agreement.proofs.Entries.{started_agrees, ended_agrees, acked_agrees, signal_agrees, unentered_agrees}
 use Rattle.law_world_agreement.proofs.{Opening.set_here, Opening.set_other, Opening.opened_agrees, Opening.viewed_agrees, Ending.one_session_of}
 use Rattle.law_world_agreement.proofs.{Ending.committed_agrees, Ending.rolled_back_agrees, Joining.first_agrees, Joining.joined_agrees, Changing.created_agrees}
@@ -250,8 +251,8 @@ module _ {store : Store} (held : IsHeld store) (t : ℕ) (rests : doing_at t sto
       let was : (work : Work) → after.work ≡ Some work → HasWork t session work old = λ work is. record { session_is = there; work_is = sym same ∙ is } in
       entered_by held rests told (set_here old.sessions t session after there) (record { indexes = refl; versions = refl; schemas = refl }) leaves
       (agrees settled) adds count held.few fits (λ work is. same_log (was work is) refl own_is) replies acks
-      (λ work is. held.has_room.ends t session work (was work is)) started_is (λ is. ap is_some level_is ∙ held.writes.opened t is)
-      (λ other. own_is ∙ held.writes.clean t other)
+      (λ work is. held.has_room.ends t session work (was work is)) started_is (λ is. ap is_some level_is ∙ held.owned.opened t is)
+      (λ other. own_is ∙ held.owned.clean t other)
 
   others : (after : Session) (s : ℕ) → s ≢ t → slice_get (slice_set old.sessions t after) s ≡ slice_get old.sessions s
   others after s differ = set_other old.sessions t s after differ
@@ -348,7 +349,7 @@ module _ {store : Store} (held : IsHeld store) (t : ℕ) (rests : doing_at t sto
         (λ w is_w. same_log has_work (ap (λ (x : Work). x.log) (sym (some_same seen w is_w))) refl)
         (held.has_room.replies t session there) (λ waits. absurd (waits_not t (View t ∷ of_item t old.past) old.past waits refl))
         (λ w is_w. ap (λ (x : Work). x.can_end) (sym (some_same seen w is_w)) ∙ held.has_room.ends t session work has_work) (held.started t)
-        (held.writes.opened t) (held.writes.clean t)
+        (held.owned.opened t) (held.owned.clean t)
 
     -- ---- a savepoint is kept: other sessions are of other transactions
 
@@ -372,7 +373,7 @@ module _ {store : Store} (held : IsHeld store) (t : ℕ) (rests : doing_at t sto
           count = length-map old.sessions (λ x. of_txn work.txn f x x.work);
         })) (inl refl) held.count held.few held.fits (λ w is_w. same_log (was w is_w) refl refl) (held.has_room.replies t session there)
         (held.has_room.acks t session there)
-        (λ w is_w. held.has_room.ends t session w (was w is_w)) (held.started t) (held.writes.opened t) (held.writes.clean t)
+        (λ w is_w. held.has_room.ends t session w (was w is_w)) (held.started t) (held.owned.opened t) (held.owned.clean t)
 
 -- ---- the session's open transaction ends, and it may write no longer
 
@@ -471,7 +472,7 @@ module _ {store : Store} (held : IsHeld store) (told : IsTold store.world) (name
       (under_way t store.world.past) stranger busy))
       (λ waits. absurd (no_ack (level t store.world.past) (length (own t store.world.past)) (awaits_ack (of_item t store.world.past))
       (owed_by_item (under_way t store.world.past)) stranger waits)) (λ work is. absurd (cc))
-      (held.started t ∙ ap started_in (behind store.desks) ∙ sym (ap started_in at_last ∙ fresh.started_is)) (held.writes.opened t) (held.writes.clean t)
+      (held.started t ∙ ap started_in (behind store.desks) ∙ sym (ap started_in at_last ∙ fresh.started_is)) (held.owned.opened t) (held.owned.clean t)
 
 -- ---- the first world
 
@@ -492,9 +493,8 @@ first_held state told first =
         txns = first.txns;
       });
       fits = subst FitsThen (sym first.past) first.fits;
-      writes = record { opened = λ s is. absurd (cc); clean = λ s other. ap (own s) first.past };
-      rows = none_lags first.chains state [] 0 (λ t differs. refl) told logs refl first.coded (record {});
-      quiet = λ s other. refl;
+      rows = quiet_rows first.chains state [] (λ s. refl) told first.coded;
+      owned = record { opened = λ s is. absurd (cc); clean = λ s other. ap (own s) first.past; quiet = λ s other. refl };
       searches = λ s. tt;
       logs = logs;
       has_room = record {
@@ -542,8 +542,12 @@ module _ {store : Store} {new : WorldState} {t : ℕ} {schema : Schema} (held : 
   pairs_are : pairs_of new ≡ pairs_of source
   pairs_are = λ i index. ap (λ (x : Index). pairs_in x.pairs) (same index) i
 
+  -- nobody changes a row
+  all_quiet : (u : ℕ) → is_quiet_doing (doing_at u store.desks) ≡ true
+  all_quiet = each t (λ u. is_quiet_doing (doing_at u store.desks) ≡ true) (ap is_quiet_doing rests) (others_quiet held mine)
+
   was : HasRows held.chains source
-  was = rests_coded t held mine rests
+  was = quiet_coded held.chains source store.desks all_quiet held.rows
 
   no_pairs : HasNoPairs (pairs_of source) (length source.schemas)
   no_pairs = record {
@@ -608,15 +612,13 @@ module _ {store : Store} {new : WorldState} {t : ℕ} {schema : Schema} (held : 
             (waits_not t (Changed t (Create schema) ∷ of_item t source.past) source.past (sym (ap (λ h. awaits_ack (of_item t h)) by.past) ∙ waits) refl);
         ends = λ session work has. ap (λ (w : Work). w.can_end) (one_now session work has) ∙ can_end ∙ held.has_room.ends t by.session by.work by.had;
         started = ap (started t) by.past ∙ held.started t;
-        opened = λ is. ap (λ h. is_some (level t h)) by.past ∙ held.writes.opened t is;
+        opened = λ is. ap (λ h. is_some (level t h)) by.past ∙ held.owned.opened t is;
         clean = λ other. absurd (other mine);
         quiet = λ other. absurd (other mine);
         search = subst (SearchHeld held.chains made t) (sym rests) tt;
         rooms = held.rooms t;
       })
-      (subst FitsThen (sym by.past) ((storable, tt), held.fits)) (none_lags held.chains new store.desks t (others_quiet t held mine store.desks
-      (λ u differs. refl))
-      told_now logs_now (ap (lags_in new t) rests) coded (quiet_row held.chains _ new t (desk_at t store.desks) (ap is_quiet_doing rests))) logs_now
+      (subst FitsThen (sym by.past) ((storable, tt), held.fits)) (quiet_rows held.chains new store.desks all_quiet told_now coded) logs_now
       (held.count ∙ ap length (sym by.names)) (subst (λ (names : List (List ℕ)). length names ≤ 68) (sym by.names) held.few)
       (omega (arith, held.cut, past_grows t source.past new.past adds)) (λ place. omega (arith, held.short place, past_grows t source.past new.past adds))
     where

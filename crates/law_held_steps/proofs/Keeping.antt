@@ -8,23 +8,23 @@ use Rattle.inno_model.specs.Past.{started, under_way, of_item, awaits_ack, level
 use Rattle.inno_model.specs.{declared.event.Event.Event, declared.event.Event.TheVariants.Changed}
 use Rattle.law_found_rows.specs.Pasts.{AddsAtMostOne}
 use Rattle.std.specs.Prelude.{slice_get, is_some}
-use Rattle.world.specs.{State.WorldState, State.Session, State.Work, State.IsSession, State.HasWork, State.Logged, Told.IsTold, Undoing.read_into}
+use Rattle.world.specs.{State.WorldState, State.Session, State.Work, State.IsSession, State.HasWork, Told.IsTold}
 use Rattle.law_world_agreement.specs.Agreement.{Agrees}
 use Rattle.entries.specs.Pairs.{Pair}
-use Rattle.row_changes.specs.declared.keys_change.KeysChange.{KeysChange}
 use Rattle.shared_lists.specs.Fitting.{FitsThen}
-use Rattle.desks.specs.Holding.{AreFew, IsHeld, IsLast, IsLastOf, RowsHeld, SearchHeld}
-use Rattle.desks.specs.Desks.{Store, desk_at, doing_in, doing_at, with_doing, is_undoing, is_quiet_doing}
+use Rattle.desks.specs.Holding.{AreFew, IsHeld, RowsHeld, SearchHeld}
+use Rattle.desks.specs.Desks.{Store, desk_at, doing_in, doing_at, with_doing, is_undoing}
 use Rattle.desks.specs.{declared.desk.Desk.Desk, declared.desk.Doing.Doing, Leaves.Does}
 use Rattle.inno_types.specs.{declared.lock.Level.Level, declared.value.Schema.Schema}
-use Rattle.row_versions.specs.{Chains.Chains, declared.place.Place.Place}
-use Rattle.law_past_agreement.specs.{Slots.fresh, Agreement.SlotAgrees, Agreement.IsIdle, Rows.place_in}
+use Rattle.row_versions.specs.Chains.{Chains}
+use Rattle.law_past_agreement.specs.{Slots.fresh, Agreement.SlotAgrees, Agreement.IsIdle}
 use Rattle.law_world_agreement.proofs.{Settled.slot_if, Settled.slot_at, Opening.idle_of}
 use Rattle.row_changes.proofs.{Sessions.one_session, Ids.one_work}
 use Rattle.law_logged_changes.specs.{GoingOn.StaysOpen, GoingOn.KeepsBeside, Logs.LogsAgree}
 use Rattle.law_held_steps.specs.{Making.LeavesLists, Leaving.is_searching}
-use Rattle.law_held_steps.proofs.{AnyStep.each, AnyStep.waits_not, AnyStep.past_grows, AnyStep.held_after, AnyStep.some_same, AnyStep.HoldsAlone}
-use Rattle.law_held_steps.proofs.{AnyStep.rows_by, AnyStep.IsGiven, AnyStep.given, AnyStep.there, AnyStep.started_still, AnyStep.rooms_then, Places.no_search}
+use Rattle.law_other_places.proofs.Sessions.{each}
+use Rattle.law_held_steps.proofs.AnyStep.{waits_not, past_grows, held_after, IsGiven, given, there, started_still, rooms_then}
+use Rattle.law_held_steps.proofs.Places.{no_search}
 
 -- it has started or ended no item, and no commit of its own waits for its acknowledgement that didn't
 pub record GoesOnBy (s : ℕ) (old new : List Event) : Type 0 where
@@ -96,7 +96,7 @@ module _ {s : ℕ} {store : Store} {new : WorldState} (held : IsHeld store) (min
 
   -- who may write has a transaction, and has it still
   pub was_open : HasOpen s old
-  was_open = open_work held.agrees s (held.writes.opened s mine)
+  was_open = open_work held.agrees s (held.owned.opened s mine)
 
   pub stays_open : StaysOpen s was_open.0 was_open.1 old new
   stays_open = beside.own was_open.0 was_open.1 was_open.2
@@ -114,31 +114,6 @@ module _ {s : ℕ} {store : Store} {new : WorldState} (held : IsHeld store) (min
           (λ first second. sym (ap (λ (z : Session). z.setting) (is_now x first)) ∙ stays_open.setting ∙
           ap (λ (z : Session). z.setting) (one_session old s was_open.0 y was_open.2.session_is second))
           (λ u differs first second. ap (λ (z : Session). z.setting) (one_session old u x y (sym (beside.others u differs) ∙ first) second)) t
-
-  last_kept : {logged : Logged} {place : Place} → new.past ≡ old.past → IsLast old s logged place → IsLast new s logged place
-  last_kept {place} same is =
-      let open_now = beside.own is.session is.work is.has_work in
-      record {
-        session = open_now.session_now;
-        work = is.work;
-        has_work = subst (λ (w : Work). HasWork s open_now.session_now w new) (open_now.same same) open_now.has;
-        log = is.log;
-        log_is = is.log_is;
-        change = is.change;
-        before = is.before;
-        own_is = subst (λ past. own s past ≡ is.change ∷ is.before) (sym same) is.own_is;
-        place_is = subst (λ (schemas : List Schema). place_in schemas is.change ≡ Some place) (sym beside.schemas) is.place_is;
-      }
-
-  pub last_of_kept : {change : KeysChange} (next : KeysChange) → new.past ≡ old.past → next.table ≡ change.table → next.key ≡ change.key → IsLastOf old s change
-      → IsLastOf new s next
-  last_of_kept next same table key is = record {
-    logged = is.logged;
-    place = is.place;
-    last = last_kept same is.last;
-    table_is = is.table_is ∙ sym table;
-    key_is = is.key_is ∙ sym key;
-  }
 
   module _ (goes : GoesOnBy s old.past new.past) {after : Chains} (agrees : Agrees after new) (told : IsTold old) (doing : Doing)
       (within : s < length store.desks) where
@@ -167,15 +142,9 @@ module _ {s : ℕ} {store : Store} {new : WorldState} (held : IsHeld store) (min
       kept = inl (refl, beside.kept);
     }
 
-    rows_then : IsTold new → LogsAgree new → ((desk : Desk) → HoldsAlone after new s (read_into desk.undo) desk.room doing)
-        → RowsHeld after new (with_doing s doing store.desks)
-    rows_then later logs rows =
-        rows_by after new (with_doing s doing store.desks) s (λ u differs. ap (λ desk. is_quiet_doing (doing_in desk)) (gives.others u differs)
-        ∙ held.quiet u (λ is. differs (some_same u s (sym is ∙ mine)))) later logs gives.here (rows was.0)
-
-    pub keeps : is_undoing (doing_at s store.desks) ≡ false → is_searching doing ≡ false → FitsThen new.past → IsTold new → LogsAgree new
-        → ((desk : Desk) → HoldsAlone after new s (read_into desk.undo) desk.room doing) → AreFew after new.past → IsHeld then_held
-    keeps not searches_not fits later logs rows short =
+    pub keeps : is_undoing (doing_at s store.desks) ≡ false → is_searching doing ≡ false → FitsThen new.past
+        → RowsHeld after new (with_doing s doing store.desks) → LogsAgree new → AreFew after new.past → IsHeld then_held
+    keeps not searches_not fits rows logs short =
         held_after held does (record {
           replies = λ session there busy. sym (ap (λ (z : Session). z.can_reply) (is_now session there)) ∙ stays_open.can_reply ∙ held.has_room.replies s
               was_open.0 was_open.2.session_is (sym (ap is_some (goes.under_way_is)) ∙ busy);
@@ -184,11 +153,11 @@ module _ {s : ℕ} {store : Store} {new : WorldState} (held : IsHeld store) (min
           ends = λ session work has. sym (ap (λ (w : Work). w.can_end) (one_work s stays_open.session_now session stays_open.work_now work new stays_open.has
               has)) ∙ stays_open.can_end ∙ held.has_room.ends s was_open.0 was_open.1 was_open.2;
           started = goes.started_is ∙ held.started s ∙ sym (started_still s doing store.desks);
-          opened = λ is. goes.open_is (held.writes.opened s is);
+          opened = λ is. goes.open_is (held.owned.opened s is);
           clean = λ other. absurd (other mine);
           quiet = λ other. absurd (other mine);
           search = subst (SearchHeld after then_held s) (sym (ap doing_in gives.here)) (no_search after then_held s doing searches_not);
           rooms = rooms_then s doing store.desks (held.rooms s) not;
-        }) fits (rows_then later logs rows) logs (gives.count ∙ held.count ∙ ap length (sym beside.names))
+        }) fits rows logs (gives.count ∙ held.count ∙ ap length (sym beside.names))
         (subst (λ (names : List (List ℕ)). length names ≤ 68) (sym beside.names) held.few)
         (omega (arith, held.cut, past_grows s old.past new.past goes.adds)) short

@@ -1,4 +1,5 @@
 pub mod AnyStep
+pub mod Apart
 pub mod Made
 pub mod Keeping
 pub mod Showing

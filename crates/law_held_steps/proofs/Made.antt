@@ -1,34 +1,40 @@
 -- A change begins: its edit fits the tables of the history. Each step of it keeps the lists.
-use Rattle.std.proofs.Common.{◌≡◌, ℕ, List, Option, Some, None, refl, subst, ◌<◌, true, length, sym, ap, ◌∙◌, arith, ◌+◌, ◌≤◌, ◌^◌, Bool, false, cond, ◌∷◌}
+use Rattle.std.proofs.Common.{◌≡◌, ◌≢◌, ℕ, List, Option, Some, None, refl, subst, ◌<◌, true, length, sym, ap, ◌∙◌, arith, ◌+◌, ◌≤◌, ◌^◌, Bool, false, cond, ◌∷◌}
 use Rattle.std.proofs.lemmas.Option.{slice_get_within}
 use Rattle.std.specs.Prelude.{slice_get, IsSomeAnd}
-use Rattle.law_stored_rows.specs.{Fitting.IsKeyFor, Fitting.FitsTable, Tables.what_is_there}
-use Rattle.row_changes.specs.Rows.{primary_of, table_of, place_of, row_steps, IsChangingRowAlone, ChangesRowAlone}
-use Rattle.row_changes.specs.Reached.{Went, Done, Hindered, Reached}
+use Rattle.inno_types.specs.{declared.value.Schema.Schema, declared.value.Value.Value}
+use Rattle.inno_model.specs.{Past.IsOpen, declared.event.Event.TheVariants.Changed}
+use Rattle.store_api.specs.declared.answers.Undo.{Undo}
+use Rattle.row_versions.specs.Chains.{Chains, versions_at, is_same_place, Pushes}
+use Rattle.row_versions.specs.{declared.place.Place.Place, declared.version.Version.Version}
+use Rattle.law_past_agreement.specs.Order.{created}
+use Rattle.law_stored_rows.specs.{Fitting.IsKeyFor, Fitting.FitsTable, Tables.Said}
+use Rattle.law_found_rows.proofs.FittingChanges.{tables_storable}
+use Rattle.world.specs.{State.WorldState, State.Session, State.Work, State.HasWork, Told.IsTold}
+use Rattle.law_world_agreement.specs.Agreement.{Agrees}
+use Rattle.shared_lists.specs.{Fitting.FitsWell, Fitting.FitsThen, Steps.rows_of_change}
+use Rattle.row_changes.specs.Rows.{primary_of, table_of, place_of, row_steps, IsChangingRow, ChangesRow, IsAtRow}
+use Rattle.row_changes.specs.{Reached.Went, Reached.Done, Reached.Hindered, Reached.Reached, Records.IsTable, Asides.StepsAside}
 use Rattle.row_changes.specs.{declared.row_edit.RowEdit.TheVariants.Put, declared.row_edit.RowEdit.TheVariants.Remove, Edits.change_of, Edits.FitsEdit}
 use Rattle.row_changes.specs.{Edits.rows_put, declared.row_change.RowChange.TheVariants.Record, declared.row_change.RowChange.TheVariants.Keys}
 use Rattle.row_changes.specs.{declared.row_edit.RowEdit.RowEdit, declared.record_change.RecordChange.RecordChange, declared.keys_change.KeysChange.KeysChange}
 use Rattle.row_changes.specs.{declared.row_change.RowChange.RowChange}
-use Rattle.row_changes.proofs.{Sessions.same_versions, Alone.alone_rows, Alone.alone_over, Alone.keys_alone}
-use Rattle.law_past_agreement.specs.Order.{created}
-use Rattle.desks.specs.Holding.{IsHeld, SearchHeld, AreFew, IsLastOf, IsLastIfTold}
-use Rattle.desks.specs.{Desks.Store, Desks.doing_at, Desks.with_doing, Desks.is_undoing, declared.desk.Desk.Desk, declared.desk.Doing.Doing}
-use Rattle.desks.specs.{declared.desk.Doing.TheVariants.Nothing, declared.desk.Doing.TheVariants.Changing, Undoing.keys_if}
-use Rattle.law_held_steps.proofs.Keeping.{open_work, open_joined, goes_same, goes_changed, leaves_lists, last_of_kept, keeps}
-use Rattle.law_held_steps.proofs.AnyStep.{given, there, rooms_then, changes_at_a_desk, HoldsAlone}
-use Rattle.law_held_steps.proofs.Putting.{rests_coded, held_given, changing_rows, alone_if}
-use Rattle.law_found_rows.proofs.FittingChanges.{tables_storable}
-use Rattle.law_world_agreement.specs.Agreement.{Agrees}
-use Rattle.law_logged_changes.proofs.{Listed.begun as begun_row, Entering.goes_on, Entering.place_there, Logging.change_logged, Logging.row_all}
-use Rattle.inno_types.specs.{declared.value.Schema.Schema, declared.value.Value.Value}
-use Rattle.world.specs.{State.WorldState, Undoing.read_into, Told.IsTold}
-use Rattle.shared_lists.specs.{Fitting.FitsWell, Fitting.FitsThen, Steps.rows_of_change}
+use Rattle.row_changes.proofs.Sessions.{same_pairs, same_versions}
+use Rattle.undo_apply.specs.declared.work_room.WorkRoom.{WorkRoom}
+use Rattle.law_logged_changes.proofs.{Listed.listed_of, Listed.small_of, Entering.goes_on, Logging.row_all}
+use Rattle.law_logged_changes.specs.{GoingOn.KeepsBeside, GoingOn.GoesOnAgreed, GoingOn.EntersAgreed, GoingOn.IsAloneIn, Logs.LogsAgree}
+use Rattle.desks.specs.Holding.{IsHeld, AreFew, IsLastOf, RowHeld, RowsHeld, lags_in, said_beside}
+use Rattle.desks.specs.{Desks.Store, Desks.desk_at, Desks.doing_at, Desks.with_doing, Desks.is_undoing, declared.desk.Desk.Desk, declared.desk.Doing.Doing}
+use Rattle.desks.specs.{declared.desk.Doing.TheVariants.Nothing, declared.desk.Doing.TheVariants.Changing, declared.desk.Doing.TheVariants.Lagging}
+use Rattle.desks.specs.Undoing.{keys_if}
+use Rattle.law_other_places.specs.Steps.{LeavesWork}
+use Rattle.law_other_places.proofs.{Asked.its_row, Asked.may_advance, Asked.may_change, Asked.nobody_lags, Quiet.sought_kept, RecordSteps.aside_kept}
+use Rattle.law_other_places.proofs.{RecordSteps.record_kept, Steps.kept_at, Steps.key_kept, Steps.end_kept, Steps.given_up_kept}
+use Rattle.law_held_steps.proofs.Keeping.{open_work, open_joined, goes_same, goes_changed, leaves_lists, keeps}
+use Rattle.law_held_steps.proofs.AnyStep.{given, there as there_is, rooms_then, changes_at_a_desk, doing_here, desk_elsewhere}
+use Rattle.law_held_steps.proofs.{Apart.beside_of, Apart.alone_at, Apart.may_put, Apart.leaves_work, Putting.held_given}
 use Rattle.law_held_steps.specs.Making.{IsEditable, IsKeyOfEdit, begun, doing_after, Comes, MakesChange}
 use Rattle.law_held_steps.specs.Leaving.{is_searching}
-use Rattle.inno_model.specs.{Past.IsOpen, Past.own, declared.event.Event.TheVariants.Changed}
-use Rattle.row_versions.specs.Chains.{Chains, versions_at, is_same_place, Pushes}
-use Rattle.row_versions.specs.{declared.place.Place.Place, declared.version.Version.Version}
-use Rattle.law_logged_changes.specs.{GoingOn.KeepsBeside, GoingOn.GoesOnAgreed, GoingOn.IsAloneIn, Logs.LogsAgree}
 
 some_there : (found : Option Schema) (P : Schema → Type 0) → IsSomeAnd found P → (schema : Schema) × (found ≡ Some schema) × P schema
 some_there None P fits = absurd fits
@@ -69,6 +75,42 @@ edit_fits schemas table schema (Remove value) key there fits =
 
 -- ---- a change begins
 
+-- it is at work on no row yet
+pub begun_row : {chains : Chains} (state : WorldState) (s table : ℕ) {session : Session} {work : Work} {schema : Schema} (edit : RowEdit) (key : List ℕ)
+    → Agrees chains state → HasWork s session work state → IsTable table schema state → FitsEdit schema edit key → (beside : Said)
+    → IsAtRow s chains beside state (begun table edit key)
+begun_row {chains} state s table {session} {work} {schema} edit key agrees has there fits beside = (
+  record {
+    schema = schema;
+    table = there;
+    fits = fits;
+    session = session;
+    work = work;
+    has_work = has;
+    listed = listed_of chains state s session work agrees has;
+    small = small_of chains state s session work agrees has;
+    stage = record {};
+  },
+  refl,
+  refl,
+)
+
+-- no session knows anything else then
+pub begun_rows : {chains : Chains} {state : WorldState} (s : ℕ) {desks : List Desk} → RowsHeld chains state desks → LogsAgree state → IsTold state
+    → Agrees chains state → doing_at s desks ≡ Nothing → s < length desks → (table : ℕ) {session : Session} {work : Work} {schema : Schema} (edit : RowEdit)
+    (key : List ℕ) → HasWork s session work state → IsTable table schema state → FitsEdit schema edit key
+    → RowsHeld chains state (with_doing s (Changing (begun table edit key)) desks)
+begun_rows {chains} {state} s {desks} rows logs told agrees nothing within table edit key has there fits =
+    let later = Changing (begun table edit key) in
+    let now = with_doing s later desks in
+    let here : doing_at s now ≡ later = doing_here s later desks within in
+    sought_kept rows logs told told
+    (record { schemas = refl; pairs = λ index. same_pairs (state.indexes index).pairs; versions = same_versions state.versions }) agrees s now
+    (λ u differs. record { session = refl; own_is = refl }) (λ u differs. desk_elsewhere s u (λ desk. record desk { doing = later }) desks differs)
+    (ap (lags_in state s) nothing) (ap (lags_in state s) here)
+    (kept_at chains (said_beside chains rows.said state now s) state s (desk_at s now) later here
+    (λ undo room. begun_row state s table edit key agrees has there fits (said_beside chains rows.said state now s)))
+
 module _ {store : Store} (held : IsHeld store) where
   abbrev state : WorldState
   state = store.world
@@ -88,31 +130,21 @@ module _ {store : Store} (held : IsHeld store) where
         of_kind = found.2.of_kind;
       }
 
-  module _ {s : ℕ} (mine : store.writer ≡ Some s) where
-    -- who may write has something else under way, while the world is what it was
-    pub turned : IsTold state → (doing : Doing) → s < length store.desks → is_undoing (doing_at s store.desks) ≡ false
-        → ((desk : Desk) → HoldsAlone held.chains state s (read_into desk.undo) desk.room doing)
-        → SearchHeld held.chains (record store { desks = with_doing s doing store.desks }) s doing
-        → IsHeld (record store { desks = with_doing s doing store.desks })
-    turned told doing within not rows search =
-        let was = there s store.desks within in
-        let rooms = rooms_then s doing store.desks (held.rooms s) not in
-        held_given s held mine (record { places = λ index. refl; versions = same_versions state.versions; rest = refl }) told told
-        (given s doing store.desks was.1) (rows was.0) held.logs search (rooms _ (given s doing store.desks was.1).here)
-
-    pub begins : IsTold state → (table : ℕ) (schema : Schema) (edit : RowEdit) (key : List ℕ) → doing_at s store.desks ≡ Nothing → IsOpen s state.past
-        → FitsWell (created state.past) (change_of table edit) → slice_get state.schemas table ≡ Some schema → IsKeyOfEdit schema edit key
-        → IsHeld (record store { desks = with_doing s (Changing (begun table edit key)) store.desks })
-    begins told table schema edit key nothing is_open fits there spelled =
-        let rows = rests_coded s held mine nothing in
-        let has = open_work held.agrees s is_open in
-        let storable =
-        tables_storable state.past held.fits table schema (ap (λ (tables : List Schema). slice_get tables table) (sym held.agrees.lists.tables) ∙ there) in
-        let within : s < length store.desks = omega (arith, open_joined held.agrees s is_open, held.count) in
-        let changing =
-        begun_row held.chains state s table has.0 has.1 schema edit key held.agrees rows has.2 (record { there = there; storable = storable })
-        (fits_edit state.schemas table schema edit key there (fits_here table edit fits) spelled) in
-        turned told (Changing (begun table edit key)) within (ap is_undoing nothing) (λ desk. (changing, record {})) (record {})
+  pub begins : {s : ℕ} → store.writer ≡ Some s → IsTold state → (table : ℕ) (schema : Schema) (edit : RowEdit) (key : List ℕ)
+      → doing_at s store.desks ≡ Nothing → IsOpen s state.past → FitsWell (created state.past) (change_of table edit)
+      → slice_get state.schemas table ≡ Some schema → IsKeyOfEdit schema edit key
+      → IsHeld (record store { desks = with_doing s (Changing (begun table edit key)) store.desks })
+  begins {s} mine told table schema edit key nothing is_open fits there spelled =
+      let has = open_work held.agrees s is_open in
+      let storable =
+      tables_storable state.past held.fits table schema (ap (λ (tables : List Schema). slice_get tables table) (sym held.agrees.lists.tables) ∙ there) in
+      let within : s < length store.desks = omega (arith, open_joined held.agrees s is_open, held.count) in
+      let later = Changing (begun table edit key) in
+      let gives = given s later store.desks (there_is s store.desks within).1 in
+      held_given s held mine (record { places = λ index. refl; versions = same_versions state.versions; rest = refl }) told told gives
+      (begun_rows s held.rows held.logs told held.agrees nothing within table edit key has.2 (record { there = there; storable = storable })
+      (fits_edit state.schemas table schema edit key there (fits_here table edit fits) spelled)) held.logs (record {})
+      (rooms_then s later store.desks (held.rooms s) (ap is_undoing nothing) _ gives.here)
 
 rows_more : (table : ℕ) (edit : RowEdit) → rows_put edit ≡ rows_of_change (Some (change_of table edit))
 rows_more table (Put row) = refl
@@ -123,7 +155,7 @@ one_more : (b : Bool) (version : Version) (versions : List Version) (most : ℕ)
 one_more true version versions most few = omega arith
 one_more false version versions most few = omega arith
 
-pushed_short : (before after : Chains) (place : Place) (version : Version) (most : ℕ) → Pushes before after place version
+pub pushed_short : (before after : Chains) (place : Place) (version : Version) (most : ℕ) → Pushes before after place version
     → ((other : Place) → length (versions_at other before) ≤ most) → (other : Place) → length (versions_at other after) ≤ 1 + most
 pushed_short before after place version most pushes few other =
     subst (λ (versions : List Version). length versions ≤ 1 + most) (sym (pushes other))
@@ -139,80 +171,84 @@ nears_by old new change next schema same table there less =
     (subst (λ k. row_steps (length schema.keys) next < row_steps k change) (sym was) less)
 
 module _ {s : ℕ} {store : Store} {new : WorldState} (held : IsHeld store) (mine : store.writer ≡ Some s) (was : IsTold store.world) (told : IsTold new)
-    (few : length new.past < 2 ^ 63) (within : s < length store.desks) (not : is_undoing (doing_at s store.desks) ≡ false) where
+    (few : length new.past < 2 ^ 63) where
   abbrev old : WorldState
   old = store.world
 
+  -- what keys say beside its place
+  abbrev beside : Said
+  beside = beside_of held s
+
+  others_same : (doing : Doing) (u : ℕ) → u ≢ s → desk_at u (with_doing s doing store.desks) ≡ desk_at u store.desks
+  others_same doing u differs = desk_elsewhere s u (λ desk. record desk { doing = doing }) store.desks differs
+
   -- nobody else has changes
   alone : (change : RowChange) → IsAloneIn s old change
-  alone (Record change key after) = λ schema found. alone_if held mine (place_of schema change)
+  alone (Record change key after) = λ schema found. alone_at held mine (place_of schema change)
   alone (Keys change) = record {}
 
-  logs_now : (change : RowChange) (reached : Reached RowChange) → IsChangingRowAlone s held.chains old change
-      → ChangesRowAlone s held.chains old new change reached → LogsAgree new
-  logs_now change reached p c = row_all s held.chains (what_is_there held.chains) old new change reached p c (alone change) held.logs
+  logs_now : (change : RowChange) (reached : Reached RowChange) → IsChangingRow s held.chains beside old change
+      → ChangesRow s held.chains beside old new change reached → LogsAgree new
+  logs_now change reached p c = row_all s held.chains beside old new change reached p c (alone change) held.logs
 
-  goes : (change : RowChange) (reached : Reached RowChange) → IsChangingRowAlone s held.chains old change
-      → ChangesRowAlone s held.chains old new change reached → GoesOnAgreed s held.chains (what_is_there held.chains) old new change reached
-  goes change reached p c = goes_on s held.chains (what_is_there held.chains) old new change reached held.agrees (alone change) p c told few
+  goes : (change : RowChange) (reached : Reached RowChange) → IsChangingRow s held.chains beside old change
+      → ChangesRow s held.chains beside old new change reached → GoesOnAgreed s held.chains beside old new change reached
+  goes change reached p c = goes_on s held.chains beside old new change reached held.agrees (alone change) p c told few
 
-  -- where nothing is added
-  still : (change : RowChange) (reached : Reached RowChange) (beside : KeepsBeside s old new) → IsChangingRowAlone s held.chains old change
-      → ChangesRowAlone s held.chains old new change reached → new.past ≡ old.past → Agrees held.chains new
-      → is_searching (doing_after change reached) ≡ false
-      → ((desk : Desk) → HoldsAlone held.chains new s (read_into desk.undo) desk.room (doing_after change reached)) → Comes s old new change reached
-      → MakesChange s store new change reached
-  still change reached beside p c past agrees quiet rows comes = record {
-    held =
-        keeps held mine beside (goes_same past) agrees was (doing_after change reached) within not quiet
-        (subst FitsThen (sym past) held.fits) told (logs_now change reached p c) rows (subst (AreFew held.chains) (sym past) held.short);
-    leaves = leaves_lists held mine beside;
-    comes = comes;
-  }
+  module _ (change : RowChange) (at : doing_at s store.desks ≡ Changing change) where
+    within : s < length store.desks
+    within = changes_at_a_desk s store.desks at
 
-  -- the history tells the change now
-  last_logged : (change : RecordChange) (key : List ℕ) (after : Option (List Value)) (next : KeysChange)
-      → IsChangingRowAlone s held.chains old (Record change key after)
-      → ChangesRowAlone s held.chains old new (Record change key after) (Went (Keys next)) → new.schemas ≡ old.schemas → IsLastOf new s next
-  last_logged change key after next row c same =
-      let p = row.0 in
-      let logged =
-      change_logged s held.chains (what_is_there held.chains) old new change key next.before after row c.0.0 p.session p.work p.has_work
-      (held.logs.each s p.session p.work p.has_work) in
-      record {
-        logged = logged.logged;
-        place = place_of p.schema change;
-        last = record {
-          session = logged.session;
-          work = logged.work;
-          has_work = logged.has_work;
-          log = p.work.log;
-          log_is = logged.log_is;
-          change = change_of change.table change.edit;
-          before = own s old.past;
-          own_is = logged.own_is;
-          place_is =
-              place_there new.schemas change.table change.edit p.schema (ap (λ (schemas : List Schema). slice_get schemas change.table) same ∙ p.table.there);
-        };
-        table_is = sym c.0.2;
-        key_is = logged.key_is ∙ sym c.0.3;
-      }
+    here : (doing : Doing) → doing_at s (with_doing s doing store.desks) ≡ doing
+    here doing = doing_here s doing store.desks within
 
-  pub makes : (change : RowChange) (reached : Reached RowChange) → IsChangingRowAlone s held.chains old change → IsLastIfTold old s change
-      → ChangesRowAlone s held.chains old new change reached → MakesChange s store new change reached
-  makes (Record change key after) (Went (Record next key' after')) row last c =
+    -- where nothing is added
+    still : (reached : Reached RowChange) (keeps_beside : KeepsBeside s old new) → new.past ≡ old.past → Agrees held.chains new
+        → is_searching (doing_after change reached) ≡ false → LogsAgree new
+        → RowsHeld held.chains new (with_doing s (doing_after change reached) store.desks) → Comes s old new change reached
+        → MakesChange s store new change reached
+    still reached keeps_beside past agrees quiet logs rows comes = record {
+      held =
+          keeps held mine keeps_beside (goes_same past) agrees was (doing_after change reached) within (ap is_undoing at) quiet
+          (subst FitsThen (sym past) held.fits) rows logs (subst (AreFew held.chains) (sym past) held.short);
+      leaves = leaves_lists held mine keeps_beside;
+      comes = comes;
+    }
+
+  -- before the keys, the session is at work on no row of others
+  aside : (change : RecordChange) (key : List ℕ) (after : Option (List Value)) → doing_at s store.desks ≡ Changing (Record change key after)
+      → StepsAside s old new → Agrees held.chains new → (later : Doing) → lags_in new s later ≡ None
+      → ((undo : Undo) (room : WorkRoom) → RowHeld held.chains (said_beside held.chains held.rows.said new (with_doing s later store.desks) s) new s undo room
+      later) → RowsHeld held.chains new (with_doing s later store.desks)
+  aside change key after at steps agrees later none row =
+      aside_kept s held.rows held.logs was told steps agrees change key after at (with_doing s later store.desks) later
+      (here (Record change key after) at later) none (others_same later) row
+
+  -- its keys lag at the place of its newest change, and nobody else is at work there
+  newest : (change : KeysChange) → doing_at s store.desks ≡ Changing (Keys change) → IsLastOf old s change
+  newest change at = (its_row held.rows s (Keys change) at).2.1
+
+  work : (change : KeysChange) (row : IsChangingRow s held.chains beside old (Keys change)) (later : Doing)
+      → LeavesWork s (Some (record { table = change.table; key = row.value })) old store.desks (with_doing s later store.desks)
+  work change row later = leaves_work held mine (Some (record { table = change.table; key = row.value })) (with_doing s later store.desks) (others_same later)
+
+  makes : (change : RowChange) (reached : Reached RowChange) → doing_at s store.desks ≡ Changing change → IsChangingRow s held.chains beside old change
+      → ChangesRow s held.chains beside old new change reached → MakesChange s store new change reached
+  makes (Record change key after) (Went (Record next key' after')) at row c =
       let a = goes (Record change key after) (Went (Record next key' after')) row c in
       let p = row.0 in
-      still (Record change key after) (Went (Record next key' after')) a.beside row c a.past a.agrees refl (λ desk. (a.holds, record {})) (record {
+      still (Record change key after) at (Went (Record next key' after')) a.beside a.past a.agrees refl
+      (logs_now (Record change key after) (Went (Record next key' after')) row c)
+      (aside change key after at c.0.0.aside a.agrees (Changing (Record next key' after')) refl
+      (λ undo room. (a.holds.0, a.holds.2, a.holds.3))) (record {
         adds = record { past = a.past; rows = a.rows };
         change_is = ap Some (ap (λ n. change_of n next.edit) c.0.0.table_is ∙ ap (change_of change.table) c.0.0.edit_is);
         nears =
             nears_by old new (Record change key after) (Record next key' after') p.schema a.beside.schemas c.0.0.table_is p.table.there
             (c.1 p.schema p.table.there);
       })
-  makes (Record change key after) (Went (Keys next)) row last c =
-      let a = goes (Record change key after) (Went (Keys next)) row c in
-      let changing = keys_alone s held.chains a.after old new change key after next row c a.pushes in
+  makes (Record change key after) (Went (Keys next)) at row c =
+      let a : EntersAgreed s held.chains beside old new change next = goes (Record change key after) (Went (Keys next)) row c in
       let p = row.0 in
       let entry = change_of change.table change.edit in
       let fits : FitsThen (Changed s entry ∷ old.past) = (
@@ -221,47 +257,59 @@ module _ {s : ℕ} {store : Store} {new : WorldState} (held : IsHeld store) (min
         held.fits,
       ) in
       let longer : length new.past ≡ 1 + length old.past = omega (arith, ap length a.past) in
+      let later = Changing (Keys next) in
       record {
         held =
-            keeps held mine a.beside (goes_changed a.past) a.agrees was (Changing (Keys next)) within not refl (subst FitsThen (sym a.past) fits) told
-            (logs_now (Record change key after) (Went (Keys next)) row c) (λ desk. (changing, last_logged change key after next row c a.beside.schemas))
+            keeps held mine a.beside (goes_changed a.past) a.agrees was later (within (Record change key after) at) (ap is_undoing at) refl
+            (subst FitsThen (sym a.past) fits)
+            (record_kept s held.rows held.logs was told change key after at row next c.0.0 a c.0.2 c.0.3 (here (Record change key after) at later)
+            (leaves_work held mine (Some (place_of p.schema change)) (with_doing s later store.desks) (others_same later)))
+            (logs_now (Record change key after) (Went (Keys next)) row c)
             (λ place. let pushed = pushed_short held.chains a.after _ _ (length old.past + 2 ^ 62) a.pushes.pushes held.short
             place in omega (arith, longer, pushed));
         leaves = leaves_lists held mine a.beside;
         comes = record { entry = entry; was = refl; is = refl; past = a.past; rows = a.rows ∙ ap (λ n. old.rows + n) (rows_more change.table change.edit) };
       }
-  makes (Record change key after) Done row last c = absurd c
-  makes (Record change key after) (Hindered same why) row last c =
+  makes (Record change key after) Done at row c = absurd c
+  makes (Record change key after) (Hindered same why) at row c =
       let a = (goes (Record change key after) (Hindered same why) row c).1 in
-      let p : IsChangingRowAlone s held.chains new (Record change key after) = subst (IsChangingRowAlone s held.chains new) c.0 a.holds in
-      still (Record change key after) (Hindered same why) a.beside row c a.past a.agrees refl
-      (λ desk. alone_rows s held.chains new change key after p) (record { past = a.past; rows = a.rows }, c.0)
-  makes (Keys change) (Went (Record next key after)) row last c = absurd c.0
-  makes (Keys change) (Went (Keys next)) row last c =
+      still (Record change key after) at (Hindered same why) a.beside a.past a.agrees refl (logs_now (Record change key after) (Hindered same why) row c)
+      (aside change key after at c.2.0 a.agrees Nothing refl (λ undo room. record {})) (record { past = a.past; rows = a.rows }, c.0)
+  makes (Keys change) (Went (Record next key after)) at row c = absurd c.0
+  makes (Keys change) (Went (Keys next)) at row c =
       let a = goes (Keys change) (Went (Keys next)) row c in
-      let p = row in
-      still (Keys change) (Went (Keys next)) a.beside row c a.past a.agrees refl
-      (λ desk. (a.holds, last_of_kept held mine a.beside next a.past c.0.table_is c.0.key_is last)) (record {
+      still (Keys change) at (Went (Keys next)) a.beside a.past a.agrees refl (logs_now (Keys change) (Went (Keys next)) row c)
+      (key_kept s held.rows held.logs was told change at row (newest change at) next c.0 (here (Keys change) at (Changing (Keys next)))
+      (work change row (Changing (Keys next))) a.agrees) (record {
         adds = record { past = a.past; rows = a.rows };
         change_is = refl;
-        nears = nears_by old new (Keys change) (Keys next) p.schema a.beside.schemas c.0.table_is p.table.there (c.1 p.schema p.table.there);
+        nears = nears_by old new (Keys change) (Keys next) row.schema a.beside.schemas c.0.table_is row.table.there (c.1 row.schema row.table.there);
       })
-  makes (Keys change) Done row last c =
+  makes (Keys change) Done at row c =
       let a = goes (Keys change) Done row c in
-      still (Keys change) Done a.beside row c a.past a.agrees refl (λ desk. alone_over s held.chains old new change row c)
+      still (Keys change) at Done a.beside a.past a.agrees refl (logs_now (Keys change) Done row c)
+      (end_kept s held.rows held.logs was told change at row (newest change at) c.0 c.1 (here (Keys change) at Nothing) (work change row Nothing) a.agrees)
       (record { past = a.past; rows = a.rows }, refl)
-  makes (Keys change) (Hindered same why) row last c =
+  makes (Keys change) (Hindered same why) at row c =
       let a = (goes (Keys change) (Hindered same why) row c).1 in
-      let p : IsChangingRowAlone s held.chains new (Keys change) = subst (IsChangingRowAlone s held.chains new) c.0 a.holds in
-      still (Keys change) (Hindered same why) a.beside row c a.past a.agrees refl
-      (λ desk. record { change = change; changing = p; newest = last_of_kept held mine a.beside change a.past refl refl last })
-      (record { past = a.past; rows = a.rows }, c.0)
+      still (Keys change) at (Hindered same why) a.beside a.past a.agrees refl (logs_now (Keys change) (Hindered same why) row c)
+      (given_up_kept s held.rows held.logs was told change at row (newest change at) c.2.0 c.1 (with_doing s Lagging store.desks)
+      (here (Keys change) at Lagging) (others_same Lagging) a.agrees) (record { past = a.past; rows = a.rows }, c.0)
+
+-- what the session knows of the change that it has under way: before its record, all of the rows is known since it may write
+pub changing_row : {s : ℕ} {store : Store} (held : IsHeld store) → store.writer ≡ Some s → (change : RowChange) → doing_at s store.desks ≡ Changing change
+    → IsChangingRow s held.chains (beside_of held s) store.world change
+changing_row {s} {store} held mine (Record change key after) at =
+    let is = may_advance held.rows s (Record change key after) at in
+    let sought : lags_in store.world s (doing_at s store.desks) ≡ None = ap (lags_in store.world s) at in
+    let place = place_of is.0.schema change in
+    (is.0, (may_change held.rows s sought change is.0 (nobody_lags s place (may_put held mine place) sought)).1, is.1, is.2)
+changing_row {s} held mine (Keys change) at = may_advance held.rows s (Keys change) at
 
 pub change_made : {s : ℕ} {store : Store} {new : WorldState} {change : RowChange} {reached : Reached RowChange} → IsHeld store → store.writer ≡ Some s
     → doing_at s store.desks ≡ Changing change
-    → ((chains : Chains) → IsChangingRowAlone s chains store.world change → ChangesRowAlone s chains store.world new change reached)
+    → ((chains : Chains) (beside : Said) → IsChangingRow s chains beside store.world change → ChangesRow s chains beside store.world new change reached)
     → IsTold store.world → IsTold new
     → length new.past < 2 ^ 63 → MakesChange s store new change reached
-change_made {s} {store} {change = change} {reached = reached} held mine at changes was told few =
-    let rows = changing_rows s held mine at in
-    makes held mine was told few (changes_at_a_desk s store.desks at) (ap is_undoing at) change reached rows.0 rows.1 (changes held.chains rows.0)
+change_made {s} {change = change} {reached = reached} held mine at changes was told few =
+    let row = changing_row held mine change at in makes held mine was told few change reached at row (changes held.chains (beside_of held s) row)

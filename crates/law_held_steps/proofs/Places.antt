@@ -1,9 +1,10 @@
 -- Steps that move a session's places leave all rows, and may follow one another; a world that is held stays so.
-use Rattle.std.proofs.Common.{◌≡◌, ◌≢◌, ◌⊎◌, ⊎_elim, inr, ℕ, Bool, true, false, List, Option, Some, None, refl, sym, ap, subst, ◌∙◌, ◌<◌, ◌≤◌, length, ◌+◌}
+use Rattle.std.proofs.Common.{◌≡◌, ◌≢◌, ◌⊎◌, ⊎_elim, ℕ, Bool, true, false, List, Option, Some, None, refl, sym, ap, subst, ◌∙◌, ◌<◌, ◌≤◌, length, ◌+◌}
 use Rattle.std.proofs.Common.{arith}
 use Rattle.std.proofs.{lemmas.Bool.Decides.eqb_tells, lemmas.Bool.cases_eq}
 use Rattle.std.specs.Prelude.{◌==◌, if◌then◌else◌, slice_get, List}
-use Rattle.law_held_steps.proofs.AnyStep.{each, quiet_step, does_beside, held_beside, rows_stay, desk_elsewhere, started_still, doing_mine, as_many}
+use Rattle.law_other_places.proofs.{Sessions.each, Quiet.still_kept}
+use Rattle.law_held_steps.proofs.AnyStep.{quiet_step, does_beside, held_beside, desk_elsewhere, started_still, doing_mine, as_many}
 use Rattle.law_held_steps.proofs.AnyStep.{doing_stays, rooms_then, quiet_undoes_not}
 use Rattle.law_logged_changes.proofs.Leaving.{logs_beside, own_beside, agrees_beside, left_told, rows_leave, all_left}
 use Rattle.desks.specs.{Desks.desk_at, Desks.doing_at, Desks.with_doing, Desks.is_quiet_doing, Desks.Store, Holding.SearchHeld, Holding.IsHeld}
@@ -167,10 +168,9 @@ module _ {s : ℕ} {store : Store} {new : WorldState} (leaves : MovesPlaces s st
   held_left held none told =
       let rows = moves_leave leaves in
       held_beside s held store.desks leaves.rest leaves.versions (moves_told leaves told) told leaves.places (λ u differs. refl) refl refl
-      (held.quiet s) (no_search held.chains (record store { world = new }) s (doing_at s store.desks) none) (held.rooms s)
-      (rows_stay rows (agrees_beside leaves.rest held.agrees) told (λ u. inr (record {
+      (held.owned.quiet s) (no_search held.chains (record store { world = new }) s (doing_at s store.desks) none) (held.rooms s)
+      (still_kept held.rows held.logs (moves_told leaves told) told rows (agrees_beside leaves.rest held.agrees) (λ u. record {
         session = ap (λ (state : WorldState). slice_get state.sessions u) leaves.rest;
         own_is = own_beside u store.world new leaves.rest;
-        desk = refl;
-      })) held.rows)
+      }))
       (all_left store.world new (rows_leave store.world new rows) (logs_beside store.world new leaves.rest) held.logs)

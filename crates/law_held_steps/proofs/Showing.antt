@@ -8,8 +8,9 @@ use Rattle.std.proofs.{lemmas.List.length-set, lemmas.List.map-set, lemmas.List.
 use Rattle.std.specs.Prelude.{slice_get, slice_set, slice_index_or}
 use Rattle.law_held_steps.specs.Making.{given_up, LeavesLists, AddsNothing, IsNearer, IsEntered}
 use Rattle.law_held_steps.specs.{Making.settings_of, Begun.IsBegun, Leaving.MovesPlaces, Leaving.is_searching, Begun.IsSearchOf, Making.begun}
-use Rattle.law_held_steps.proofs.AnyStep.{quiet_undoes_not, doing_here, desk_elsewhere, busy_at_a_desk, given, there}
-use Rattle.law_held_steps.proofs.{Keeping.same_settings, AnyStep.some_same, AnyStep.each}
+use Rattle.law_other_places.proofs.{Sessions.each, Readers.busy_at_a_desk}
+use Rattle.law_held_steps.proofs.AnyStep.{quiet_undoes_not, doing_here, desk_elsewhere, given, there}
+use Rattle.law_held_steps.proofs.{Keeping.same_settings, AnyStep.some_same}
 use Rattle.inno_types.specs.declared.value.Schema.{Schema}
 use Rattle.row_versions.specs.Versions.{Versions}
 use Rattle.sql_history.specs.Settings.{Setting, at_first}
@@ -209,7 +210,7 @@ module _ {s : ℕ} {store : Store} {new : WorldState} (held : IsHeld store) (min
   pub now_shown : (doing : Doing) {past : List Event} {task : Task} → is_undoing doing ≡ false → new.past ≡ past → shown new.schemas 0 doing ≡ task
       → IsNow past s task store.writer (lists_of store).state (lists_of (then_does doing)).state
   now_shown doing not past_is task_is =
-      shows_now store (then_does doing) refl mine held.quiet (given s doing store.desks (there s store.desks within).1).others leaves.names
+      shows_now store (then_does doing) refl mine held.owned.quiet (given s doing store.desks (there s store.desks within).1).others leaves.names
       leaves.schemas past_is
       (mine_shown doing not ∙ task_is)
 

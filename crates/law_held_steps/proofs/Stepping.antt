@@ -1,30 +1,27 @@
 -- Searches in a held store. It shows its rows to each that is under way: where keys lag behind the newest change of a session, other
 -- readers by a view don't see that change. A search begins, goes on, ends or is given up.
-use Rattle.std.proofs.Common.{◌≡◌, ◌≢◌, inl, inr, ℕ, ◌<◌, Bool, true, false, cond, List, [], ◌∷◌, ◌++◌, Option, Some, refl, sym, ap, subst, ◌∙◌, arith, length}
+use Rattle.std.proofs.Common.{◌≡◌, ◌≢◌, inl, inr, ℕ, ◌<◌, Bool, true, false, List, [], ◌∷◌, Option, Some, refl, sym, ap, subst, ◌∙◌, arith, length}
 use Rattle.std.proofs.Common.{slice_get, ◌⊎◌, None, eq-eqb, ◌≤◌, map, ⊎_elim, ◌+◌, ◌*◌, ◌^◌}
-use Rattle.std.proofs.{lemmas.Bool.cases_Bool, lemmas.Bool.cases_lt, lemmas.Bool.false≢true, lemmas.Bool.Decides.nat_tests, lemmas.Bool.Decides.eqb_tells}
-use Rattle.std.specs.Prelude.{is_some, option_map, ◌||◌, ◌≤◌, ◌==◌, ◌-◌, filter, ◌<◌, IsTrue}
-use Rattle.std.specs.List.{list_any}
+use Rattle.std.specs.Prelude.{is_some, option_map, ◌≤◌, ◌==◌, ◌-◌, filter, ◌<◌, IsTrue}
 use Rattle.inno_model.specs.{Past.own, Past.IsOpen, Past.view_of, Past.commits, Past.changed, declared.event.Event.Event}
-use Rattle.desks.specs.Holding.{IsLast, IsOwnView, RowHeld, RowHeldAt, SightHolds, IsHeld, FindsSince, IsSearchHeld, SearchHeld, newest_place, lags_in, lags_at}
-use Rattle.desks.specs.Holding.{said_beside}
-use Rattle.desks.specs.declared.desk.Doing.TheVariants.{Nothing, Searching, Changing, Lagging, Undoing}
-use Rattle.desks.specs.Desks.{Store, desk_at, doing_at, doing_in, is_quiet_doing, is_quiet, with_doing}
+use Rattle.desks.specs.Holding.{IsLast, IsOwnView, SightHolds, IsHeld, FindsSince, IsSearchHeld, SearchHeld}
+use Rattle.desks.specs.declared.desk.Doing.TheVariants.{Nothing, Searching}
+use Rattle.desks.specs.Desks.{Store, doing_at, is_quiet_doing, is_quiet, with_doing}
 use Rattle.desks.specs.Searching.{keys_left, places_in, visit_left}
 use Rattle.desks.specs.{declared.desk.Desk.Desk, declared.desk.Doing.Doing, declared.desk.TableSearch.TableSearch, Shown.reading_of}
 use Rattle.law_stored_rows.specs.{Tables.Said, Tables.HasItsColumns, Tables.in_table, Tables.what_is_there, Tables.AreCoded, Records.LeadTo}
 use Rattle.law_held_steps.proofs.Places.{none_moves, held_stays, moves_then, moves_in_one, moves_nothing, leaving_moves, moves_leave, moves_told}
-use Rattle.law_held_steps.proofs.AnyStep.{some_same, quiet_lags, coded_all, last_lags, lags_but}
-use Rattle.law_held_steps.proofs.{Keeping.open_work, Putting.others_clean, Putting.others_quiet}
-use Rattle.law_found_rows.proofs.Showing.{IsUnseen, shows_coded, shows_lagging, holds_table, shows_clustered}
+use Rattle.law_other_places.proofs.{Sessions.each, Quiet.quiet_coded, Readers.columns_told, Readers.shows_beside, Readers.unseen_by}
+use Rattle.law_held_steps.proofs.{AnyStep.some_same, Keeping.open_work, Apart.others_clean, Apart.others_quiet}
+use Rattle.law_found_rows.proofs.Showing.{shows_coded, holds_table, shows_clustered}
 use Rattle.law_found_rows.proofs.{Finding.begins, Finding.may_come_anew, Finding.goes_on, Finding.waits_on, Databases.found_by_view, Databases.found_newest}
-use Rattle.row_versions.specs.Chains.{Chains, versions_at, sees}
+use Rattle.row_versions.specs.Chains.{Chains, versions_at}
 use Rattle.row_versions.specs.{declared.place.Place.Place, declared.version.Version.Version, declared.kept.Kept.Kept}
-use Rattle.law_past_agreement.specs.Rows.{is_at, is_place, row_of, row_opened, seen}
-use Rattle.law_past_agreement.specs.{Agreement.AreVersionsBy, Agreement.ViewAgrees, Agreement.versions_of, Ids.id_of, DatabaseTables.with_all_tables}
+use Rattle.law_past_agreement.specs.Rows.{seen}
+use Rattle.law_past_agreement.specs.{Agreement.ViewAgrees, Ids.id_of, DatabaseTables.with_all_tables}
 use Rattle.world.specs.State.{WorldState, Logged, Session, Work, Seen, HasWork, id_of as work_id, standing_of}
 use Rattle.inno_db.specs.Indexes.{index_of}
-use Rattle.world.specs.{Told.IsTold, Told.pairs_of, Told.pairs_in, Undoing.read_into, Sessions.IsShown, Indexes.Calls}
+use Rattle.world.specs.{Told.IsTold, Told.pairs_of, Told.pairs_in, Sessions.IsShown, Indexes.Calls}
 use Rattle.row_search.specs.Searches.{BeginsWithNothing, MayBegin, IsSearching, place_in, pairs_behind, PhaseHolds, Finds, HasToGo}
 use Rattle.row_search.specs.declared.phase.Phase.TheVariants.{Seek, Follow, Fetch, Look, Walk, Keep, Sort, Leave}
 use Rattle.row_search.specs.{Steps.IsSameScan, Steps.GoesOn, Steps.Waits, Steps.Ends, declared.scan.Scan.Scan, Sights.sees_by, Sights.rows_seen}
@@ -35,17 +32,14 @@ use Rattle.law_held_steps.specs.{Begun.IsNewSearch, Begun.IsBegun, Begun.HasView
 use Rattle.law_held_steps.specs.{Begun.plan_read, Begun.TellsTable, Begun.IsReadingNewest, Begun.AreRead, Begun.left_in, Leaving.MovesPlaces}
 use Rattle.shared_lists.specs.{Steps.AreRowsSeen, Steps.AreFoundBy, Steps.rows_in_range, Steps.AreNewestRows, State.counted}
 use Rattle.desks.proofs.{Counting.versions_most, Counting.versions_are, Counting.as_many, Showing.same_pairs}
-use Rattle.law_stored_rows.proofs.Values.{place_itself, same_place}
-use Rattle.undo_apply.specs.declared.work_room.WorkRoom.{WorkRoom}
-use Rattle.inno_db.specs.{declared.change.Change.Change, Database.rows_of}
-use Rattle.read_view.specs.Sight.{is_seen, Sight as ReadSight}
-use Rattle.law_past_agreement.proofs.Ids.{AreIds, ids_of}
+use Rattle.inno_db.specs.{Database.rows_of}
+use Rattle.read_view.specs.Sight.{Sight as ReadSight}
 use Rattle.law_world_agreement.specs.Agreement.{sight_of, Agrees}
 use Rattle.law_world_agreement.proofs.Ending.{work_of}
-use Rattle.store_api.specs.{declared.answers.Undo.Undo, declared.moves.Move.Move}
+use Rattle.store_api.specs.declared.moves.Move.{Move}
 use Rattle.inno_types.specs.{declared.value.Value.Value, declared.value.Schema.Schema, Order.IsBelow, Ranges.is_within}
-use Rattle.row_changes.specs.{declared.row_change.RowChange.TheVariants.Record, declared.row_change.RowChange.TheVariants.Keys, Told.AreRowsAs}
-use Rattle.law_logged_changes.proofs.{Lags.lags, Leaving.rows_left}
+use Rattle.row_changes.specs.Told.{AreRowsAs}
+use Rattle.law_logged_changes.proofs.Leaving.{rows_left}
 use Rattle.sql_plan.specs.{declared.choice.Plan.Plan, Plans.whole_index, Visits.index_key}
 use Rattle.law_found_rows.specs.Finding.{IsFinding, IsFindingAnew}
 use Rattle.entries.specs.{Calls.Leaves, Pairs.Pair}
@@ -233,169 +227,34 @@ nearer_in s old new search next less =
     smaller (keys_before s new next) (visit_before new next) (keys_before s old search) (visit_before old search) less
     (visit_few new.versions.kept_at next.phase)
 
--- ---- the newest version of a place that an open transaction has changed is its own, and no other reader sees it by a view
-
--- the newest version of the place, and the others
-pub record IsWrittenBy (chains : Chains) (place : Place) (id : ℕ) : Type 0 where
-  pub version : Version
-  pub others : List Version
-  pub versions : versions_at place chains ≡ version ∷ others
-  pub writer_is : version.writer ≡ id
-
-module _ {chains : Chains} {state : WorldState} (agrees : Agrees chains state) {w : ℕ} {logged : Logged} {place : Place}
-    (last : IsLast state w logged place) where
-  abbrev at : Change → Bool
-  at = is_at state.schemas place
-
-  change_at : at last.change ≡ true
-  change_at = ap (is_place place) last.place_is ∙ place_itself place
-
-  own_parts : (v : ℕ) (versions : List Version) → AreVersionsBy state.past v (row_opened state.past place) at versions
-      → (behind : List Version) × (versions ≡ versions_of (id_of state.past w) at (own w state.past) ++ behind)
-  own_parts v versions by = elim (eqb_tells v w) [
-    | inl same ↦ (by.behind, by.parts ∙ ap (λ (n : ℕ). versions_of (id_of state.past n) at (own n state.past) ++ by.behind) same.1)
-    | inr differs ↦ absurd (false≢true (sym (by.alone w (λ same. differs.1 (sym same))) ∙
-        (ap (list_any at) last.own_is ∙ ap (λ b. b || list_any at last.before) change_at)))
-  ]
-
-  pub written : IsWrittenBy chains place (id_of state.past w)
-  written =
-      let parts = own_parts (agrees.lists.rows place).0 (versions_at place chains) (agrees.lists.rows place).1 in
-      record {
-        version = record { writer = id_of state.past w; row = row_of last.change };
-        others = versions_of (id_of state.past w) at last.before ++ parts.0;
-        versions =
-            parts.1 ∙ (ap (λ changes. versions_of (id_of state.past w) at changes ++ parts.0) last.own_is ∙ ap (λ b. cond b
-            (record { writer = id_of state.past w; row = row_of last.change } ∷ versions_of (id_of state.past w) at last.before) (versions_of (id_of state.past
-            w) at last.before) ++ parts.0) change_at);
-        writer_is = refl;
-      }
-
-  ids : AreIds state.past
-  ids = ids_of state.past agrees.lists.ordered
-
-  has_id : 0 < id_of state.past w
-  has_id = elim (cases_lt 0 (id_of state.past w)) [
-    | inl some ↦ some
-    | inr none ↦ let nothing : [] ≡ last.change ∷ last.before = sym (ids.no_id w (omega (arith, none))) ∙ last.own_is in absurd (cc)
-  ]
-
-  is_open : IsOpen w state.past
-  is_open = ap is_some (work_of chains state w last.session last.work agrees last.has_work).level_is
-
-  -- by a view of another session
-  pub unseen_by : {s : ℕ} {view : ReadSight} {reader : ℕ} → s ≢ w → IsOwnView state s view reader → sees reader view (id_of state.past w) ≡ false
-  unseen_by {s} {view} {reader} differs is =
-      let mine = work_of chains state s is.session is.work agrees is.has_work in
-      let open_s : IsOpen s state.past = ap is_some mine.level_is in
-      let reader_is : id_of state.past s ≡ reader = mine.id_is ∙ sym is.reader_is in
-      let apart : id_of state.past w ≢ id_of state.past s = λ same. differs (sym (ids.distinct w s is_open open_s has_id same)) in
-      let agreed : ViewAgrees state.past s (Some (sight_of is.seen)) = subst (λ o. ViewAgrees state.past s (option_map sight_of o)) is.view_is mine.view_is in
-      let unseen : is_seen view (id_of state.past w) ≡ false = ap (λ (v : ReadSight). is_seen v (id_of state.past w)) is.same
-      ∙ (agreed.1.alike (id_of state.past w) (inr (w, is_open, refl, has_id)) apart ∙ ids.open_not_among w agreed.0 is_open) in
-      tells reader_is apart unseen
-    where
-      tells : id_of state.past s ≡ reader → id_of state.past w ≢ id_of state.past s → is_seen view (id_of state.past w) ≡ false
-          → sees reader view (id_of state.past w) ≡ false
-      tells reader_is apart unseen = grind (arith, nat_tests, reader_is, apart, unseen)
-
 -- ---- what is shown while keys lag
 
 abbrev pub HasSome : Chains → WorldState → Type 0
 HasSome chains state = (said : Said) × AreRowsAs chains said state
 
--- the change by which a session's keys lag at this place
-lags_by : (chains : Chains) (beside : Said) (state : WorldState) (w : ℕ) (undo : Undo) (room : WorkRoom) (doing : Doing) (place : Place)
-    → RowHeld chains beside state w undo room doing → is_place place (lags_in state w doing) ≡ true → (logged : Logged) × IsLast state w logged place
-lags_by chains beside state w undo room doing place row is = by doing row is
-  where
-    at : {logged : Logged} {other : Place} → IsLast state w logged other → is_place place (newest_place state.schemas (own w state.past)) ≡ true
-        → (logged : Logged) × IsLast state w logged place
-    at {logged} {other} last is =
-        let here = ap (is_place place) (last_lags last) in
-        (logged, subst (IsLast state w logged) (same_place other place (sym here ∙ is)) last)
-
-    by : (doing : Doing) → RowHeld chains beside state w undo room doing → is_place place (lags_in state w doing) ≡ true
-        → (logged : Logged) × IsLast state w logged place
-    by (Changing (Keys change)) row is = at row.1.last is
-    by Lagging row is = at row.newest.last is
-    by Undoing row is = at row.last is
-    by Nothing row is = absurd (cc)
-    by (Searching on) row is = absurd (cc)
-    by (Changing (Record change key after)) row is = absurd (cc)
-
--- who may write lags at the place, or nobody does
-who_lags : {store : Store} (held : IsHeld store) (place : Place) (writer : Option ℕ) → store.writer ≡ writer
-    → ((w : ℕ) × (store.writer ≡ Some w) × (lags_at place store.world store.desks w ≡ true)) ⊎ ((s : ℕ) → lags_at place store.world store.desks s ≡ false)
-who_lags {store} held place None none =
-    inr (λ s. quiet_lags store.world s store.desks place (held.quiet s (λ may. let no : None ≡ Some s = sym none ∙ may in cc)))
-who_lags {store} held place (Some w) may = elim (cases_Bool (lags_at place store.world store.desks w)) [
-  | inl is ↦ inl (w, may, is)
-  | inr not ↦ inr (lags_but held.chains store.world store.desks w (others_quiet w held may store.desks (λ u differs. refl)) place not)
-]
-
 -- nobody changes a row, if who may write doesn't
 coded_while_quiet : {store : Store} (held : IsHeld store) → IsTold store.world → is_quiet store.writer store.desks ≡ true
     → AreCoded store.world.schemas (pairs_of store.world) store.world.versions.kept_at held.chains
-coded_while_quiet {store} held told is = go store.writer refl
+coded_while_quiet {store} held told is = quiet_coded held.chains store.world store.desks (all store.writer refl is) held.rows told
   where
-    go : (writer : Option ℕ) → store.writer ≡ writer → AreCoded store.world.schemas (pairs_of store.world) store.world.versions.kept_at held.chains
-    go None none = coded_all held.chains store.world store.desks 0 (λ t differs. all none t) held.rows (all none 0) told
-      where
-        all : store.writer ≡ None → (t : ℕ) → is_quiet_doing (doing_at t store.desks) ≡ true
-        all none t = held.quiet t (λ may. let no : None ≡ Some t = sym none ∙ may in cc)
-    go (Some w) may = coded_all held.chains store.world store.desks w (others_quiet w held may store.desks (λ u differs. refl)) held.rows
-        (sym (ap (λ writer. is_quiet writer store.desks) may) ∙ is) told
-
--- a table has its columns
-pub columns_held : {store : Store} (table : ℕ) {schema : Schema} → IsHeld store → IsTold store.world → slice_get store.world.schemas table ≡ Some schema
-    → HasItsColumns schema
-columns_held table {schema} held told there =
-    let clustered = held.rows.coded.clustered.tables table schema there in
-    record {
-      primary = clustered.primary;
-      primary_is = clustered.primary_is;
-      few = held.rows.coded.keyed.few table schema there;
-      keys = λ which key is. let entries = held.rows.coded.keyed.keys table which schema key there is in (entries.indexed, entries.indexed_is);
-    }
+    all : (writer : Option ℕ) → store.writer ≡ writer → is_quiet writer store.desks ≡ true → (u : ℕ) → is_quiet_doing (doing_at u store.desks) ≡ true
+    all None none quiet u = held.owned.quiet u (λ may. let no : None ≡ Some u = sym none ∙ may in cc)
+    all (Some w) may quiet u = each w (λ u. is_quiet_doing (doing_at u store.desks) ≡ true) quiet (others_quiet held may) u
 
 -- ---- a search while others change rows
 
 module _ {store : Store} (held : IsHeld store) (told : IsTold store.world) (s : ℕ) (searching : is_quiet_doing (doing_at s store.desks) ≡ true)
     {schema : Schema} (scan : Scan) (there : slice_get store.world.schemas scan.table ≡ Some schema) (le : scan.which ≤ length schema.keys)
     (holds : SightHolds store s scan.sight) where
-  -- whose keys lag may write; who reads the newest rows may write, and so is no other
-  unseen : {w : ℕ} {logged : Logged} {place : Place} (sight : Sight) → SightHolds store s sight → s ≢ w → store.writer ≡ Some w
-      → IsLast store.world w logged place → sees_by sight (id_of store.world.past w) ≡ false
-  unseen (View view reader) holds differs writes last = unseen_by held.agrees last differs holds
-  unseen {w} Newest holds differs writes last = absurd (differs (some_same s w (sym holds ∙ writes)))
-
-  lagging_unseen : (w : ℕ) (place : Place) (desk : Option Desk) → desk_at w store.desks ≡ desk → store.writer ≡ Some w
-      → lags_at place store.world store.desks w ≡ true → IsUnseen held.chains held.rows.said scan.sight place
-  lagging_unseen w place None is may lags = let no = ap (λ desk. is_place place (lags_in store.world w (doing_in desk))) is in absurd (cc)
-  lagging_unseen w place (Some desk) is may lags =
-      let differs : s ≢ w = λ same. let no =
-      quiet_lags store.world w store.desks place (subst (λ u. is_quiet_doing (doing_at u store.desks) ≡ true) same searching) in cc in
-      let last = lags_by held.chains (said_beside held.chains held.rows.said store.world store.desks w) store.world w (read_into desk.undo) desk.room
-      desk.doing place
-      (subst (RowHeldAt held.chains (said_beside held.chains held.rows.said store.world store.desks w) store.world w) is (held.rows.each w))
-      (sym (ap (λ desk. is_place place (lags_in store.world w (doing_in desk))) is) ∙ lags) in
-      let by : IsWrittenBy held.chains place (id_of store.world.past w) = written held.agrees last.1 in
-      record {
-        version = by.version;
-        others = by.others;
-        newest_is = by.versions;
-        tells = held.rows.lagging w place lags;
-        unseen = ap (sees_by scan.sight) by.writer_is ∙ unseen scan.sight holds differs may last.1;
-      }
+  -- who reads the newest rows may write, and nobody else has changes then
+  unseen : (sight : Sight) → SightHolds store s sight → (w : ℕ) (logged : Logged) (place : Place) → s ≢ w → IsLast store.world w logged place
+      → sees_by sight (id_of store.world.past w) ≡ false
+  unseen (View view reader) holds w logged place differs last = unseen_by held.agrees last differs holds
+  unseen Newest holds w logged place differs last =
+      absurd (let none : [] ≡ last.change ∷ last.before = sym (others_clean held holds w (λ same. differs (sym same))) ∙ last.own_is in cc)
 
   pub shows_held : ShowsRows schema scan store.world (in_table scan.table held.chains)
-  shows_held =
-      shows_lagging store.world held.chains held.rows.said told held.rows.coded schema scan there
-      (columns_held scan.table held told there) le (λ place. elim (who_lags held place store.writer refl) [
-        | inl some ↦ inr (lagging_unseen some.0 place (desk_at some.0 store.desks) refl some.1 some.2)
-        | inr none ↦ inl (held.rows.settled place none)
-      ])
+  shows_held = shows_beside held.rows held.agrees told s searching scan there le (unseen scan.sight holds)
 
 -- ---- A search that begins, with the view by which it reads; one that is under way goes on, ends or is given up.
 
@@ -453,7 +312,7 @@ begun s {table} {store} {sight = sight} {on = on} held told idle there le sees i
     finding : IsFinding s on.schema store.world held.chains on.search
     finding =
         subst (λ (t : Schema). IsFinding s t store.world held.chains on.search) (sym is.schema_is) (new_finding is.search there
-        (columns_held table held told there) le)
+        (columns_told held.chains held.rows.said store.world table held.rows.coded there) le)
 
     mine : IsSearchHeld held.chains (record store { desks = with_doing s (Searching on) store.desks }) s on
     mine = record {
@@ -696,7 +555,7 @@ module _ {store : Store} (table : ℕ) (plan : Plan) (schema : Schema) (held : I
         → (said ≡ what_is_there held.chains) ⊎ (by.which ≡ 0) → TellsTable held.chains table by schema store.world
     tells_with by said within coded reason = record {
       there = there;
-      columns = columns_held table held told there;
+      columns = columns_told held.chains held.rows.said store.world table held.rows.coded there;
       which = within;
       said = said;
       coded = coded;

@@ -103,12 +103,6 @@ begun table edit key = Record (record { table = table; edit = edit; key = key; s
 abbrev pub HasLast : ℕ → WorldState → Type 0
 HasLast s state = (logged : Logged) × (place : Place) × IsLast state s logged place
 
--- it has nothing under way, or a change that was given up
-abbrev pub IsReady : Doing → Type 0
-IsReady Nothing = Unit {0}
-IsReady Lagging = Unit {0}
-IsReady other = ⊥
-
 -- what a step of putting back answered, whichever rows and place there were, and whatever keys said beside it
 abbrev pub HasPutBack : ℕ → Undo → WorkRoom → WorkRoom → WorldState → WorldState → Move → Type 0
 HasPutBack s undo room next old new answer =

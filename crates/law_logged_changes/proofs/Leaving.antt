@@ -3,28 +3,24 @@ use Rattle.row_changes.specs.declared.entry_put.PutPhase.TheVariants as puts
 use Rattle.law_logged_changes.specs.Logs.{RecordsAt, LogStands, records_of, IsLogOf, LogsAgree, LogsAgreeBut, IsElsewhere}
 use Rattle.law_logged_changes.specs.Steps.{LeavesRecords, LeavesLog, HasNoLog, LeavesLogs, LeavesOtherRows, OfAll, HasCut, ChangesPairsAlone}
 use Rattle.std.proofs.Common.{Some, ◌≡◌, ◌≢◌, ◌⊎◌, inl, inr, ⊎_elim, ℕ, zero, suc, ◌<◌, List, [], ◌∷◌, ◌++◌, Option, refl, sym, ap, ◌∙◌, slice_get}
-use Rattle.std.proofs.Common.{arith, subst, true, false, None}
+use Rattle.std.proofs.Common.{arith}
 use Rattle.std.proofs.{lemmas.Bool.cases_eq}
 use Rattle.world.specs.{State.WorldState, State.Session, State.Work, State.Logged, State.HasWork, Told.pairs_of, Told.IsTold, Told.LeavesRows}
-use Rattle.world.specs.Widths.{HasKeyLen, HasValueLen}
-use Rattle.row_changes.specs.Entries.{unmarked}
 use Rattle.row_changes.proofs.Telling.{went, put_told, told_if, rows_if}
-use Rattle.row_changes.proofs.{Ids.one_work, Changing.stage_kept, Changing.told_kept, Pushed.table_kept, Keying.changing_next}
-use Rattle.law_logged_changes.proofs.{Logs.all_of, Logs.log_on, Listed.listed_of}
+use Rattle.row_changes.proofs.{Ids.one_work}
+use Rattle.law_logged_changes.proofs.{Logs.all_of, Logs.log_on}
 use Rattle.law_stored_rows.proofs.{KeptRows.more_of, Pairs.no_key}
-use Rattle.std.specs.{List.AllByRecursion, Prelude.slice_get, Prelude.IfSome, Prelude.is_some}
+use Rattle.std.specs.{List.AllByRecursion, Prelude.slice_get}
 use Rattle.undo_apply.specs.{Stages.GoesOn, Stages.IsDone, Stages.PutsBack, declared.work_room.WorkRoom.WorkRoom}
-use Rattle.row_changes.specs.{Keys.IsChangingKeys, Keys.said_next, Keys.HasRowsSoFar, Keys.IsEntering, Asides.StepsAside, Pairs.RowsStay, Pairs.PutsPair}
-use Rattle.row_changes.specs.{declared.entry_put.PutPhase.PutPhase, declared.keys_change.KeysChange.KeysChange, declared.row_change.RowChange.RowChange}
-use Rattle.row_changes.specs.{Entries.PutPhaseHolds, declared.record_change.RecordChange.RecordChange, declared.entry_put.EntryPut.EntryPut, Told.HasRows}
-use Rattle.row_changes.specs.{Told.AreRowsAs, Rows.IsChangingRow, Records.IsChangingRecord, declared.row_change.RowChange.TheVariants.Keys}
-use Rattle.row_changes.specs.{declared.row_change.RowChange.TheVariants.Record}
+use Rattle.row_changes.specs.{Asides.StepsAside, Pairs.RowsStay, Pairs.PutsPair}
+use Rattle.row_changes.specs.{Told.HasRows}
+use Rattle.row_changes.specs.{Told.AreRowsAs}
 use Rattle.law_stored_rows.specs.{Records.KeepsMore, Edits.clustered_index, Edits.key_index, Tables.Said, Tables.what_is_there}
-use Rattle.row_versions.specs.{Versions.Stays, declared.kept.Kept.Kept, declared.place.Place.Place, Chains.Chains, declared.version.Version.Version}
-use Rattle.inno_types.specs.{declared.value.Schema.Schema, declared.value.Value.Value}
+use Rattle.row_versions.specs.{Versions.Stays, declared.kept.Kept.Kept, declared.place.Place.Place, Chains.Chains}
+use Rattle.inno_types.specs.{declared.value.Schema.Schema}
 use Rattle.inno_db.specs.{declared.change.Change.Change}
 use Rattle.inno_model.specs.Past.{own}
-use Rattle.entries.specs.{Pairs.value_of, Index.Index, Index.AreKept}
+use Rattle.entries.specs.{Pairs.value_of}
 use Rattle.undo_apply.proofs.{Telling.leaves_told, Telling.rows_left as stays_leave, Telling.rows_left_but, Columns.few_keys}
 use Rattle.store_api.specs.{declared.answers.Undo.Undo, declared.moves.Move.Move, declared.moves.Move.TheVariants.Done, declared.moves.Move.TheVariants.Step}
 use Rattle.law_world_agreement.specs.Agreement.{Agrees}
@@ -194,16 +190,6 @@ module _ (chains : Chains) (beside : Said) (place : Place) (actor : ℕ) (undo :
   step_beside Step is = (step_leaves Step is (λ e. cc)).1
   step_beside why is = is.stays.rest
 
--- ---- A step of another session that changes no row leaves a change as it was.
-
-phase_kept : (phase : PutPhase) (entry : List ℕ) (old new : Index) → AreKept old.pairs new.pairs → PutPhaseHolds phase entry old → PutPhaseHolds phase entry new
-phase_kept puts.Look entry old new kept is = is
-phase_kept puts.Unmark entry old new kept is = told_kept (λ pairs. is_some (value_of entry pairs) ≡ true) old.pairs new.pairs kept is
-
-some_kept : (P Q : EntryPut → Type 0) (put : Option EntryPut) → ((x : EntryPut) → P x → Q x) → IfSome put P → IfSome put Q
-some_kept P Q None each is = record {}
-some_kept P Q (Some put) each is = each put is
-
 -- ---- rows
 
 module _ (old new : WorldState) (leaves : LeavesRows old new) where
@@ -215,61 +201,3 @@ module _ (old new : WorldState) (leaves : LeavesRows old new) where
 
   pub has_rows_left : (chains : Chains) → HasRows chains old → HasRows chains new
   has_rows_left chains rows told = rows_left chains (what_is_there chains) told (rows (left_told told))
-
-  so_far_left : (chains : Chains) (beside : Said) (place : Place) (done : ℕ) (next older : List Version)
-      → HasRowsSoFar chains beside place done next older old → HasRowsSoFar chains beside place done next older new
-  so_far_left chains beside place done next older rows told = let was = rows (left_told told) in (was.0, rows_left chains was.0 told was.1, was.2)
-
-  -- ---- the change
-
-  record_left : (s : ℕ) (chains : Chains) (change : RecordChange) → IsChangingRecord s old change
-      → slice_get new.sessions s ≡ slice_get old.sessions s → Agrees chains new → IsChangingRecord s new change
-  record_left s chains change p session agrees =
-      let has : HasWork s p.session p.work new = record { session_is = session ∙ p.has_work.session_is; work_is = p.has_work.work_is } in
-      record {
-        schema = p.schema;
-        table = table_kept change.table p.schema old new leaves.schemas p.table;
-        fits = p.fits;
-        session = p.session;
-        work = p.work;
-        has_work = has;
-        listed = listed_of chains new s p.session p.work agrees has;
-        small = p.small;
-        stage =
-            stage_kept change.stage p.schema change.edit change.key p.session (old.indexes (clustered_index change.table))
-            (new.indexes (clustered_index change.table)) (leaves.pairs (clustered_index change.table)) p.stage;
-      }
-
-  entering_left : (schema : Schema) (table which : ℕ) (row : Option (List Value)) (primary : List ℕ) (put : EntryPut)
-      → IsEntering schema table which row primary old put → IsEntering schema table which row primary new put
-  entering_left schema table which row primary put p = record {
-    index_is = p.index_is;
-    entry_is = p.entry_is;
-    within = p.within;
-    putting = record {
-      index_is = rw leaves.schemas p.putting.index_is;
-      short = p.putting.short;
-      key_len = subst (λ (schemas : List Schema). HasKeyLen schemas put.index put.entry) (sym leaves.schemas) p.putting.key_len;
-      value_len = subst (λ (schemas : List Schema). HasValueLen schemas put.index unmarked) (sym leaves.schemas) p.putting.value_len;
-      phase = phase_kept put.phase put.entry (old.indexes put.index) (new.indexes put.index) (leaves.pairs put.index) p.putting.phase;
-    };
-  }
-
-  keys_left : (chains : Chains) (beside : Said) (change : KeysChange) → IsChangingKeys chains beside old change → IsChangingKeys chains beside new change
-  keys_left chains beside change p =
-      changing_next chains beside old new change change.which change.put p leaves.schemas left_told p.within
-      (some_kept (IsEntering p.schema change.table change.which change.after change.key old)
-      (IsEntering p.schema change.table change.which change.after change.key new) change.put
-      (entering_left p.schema change.table change.which change.after change.key) p.put)
-      (so_far_left chains beside (record { table = change.table; key = p.value }) change.which (said_next change.put change.before p.older) p.older p.rows)
-
-  pub change_left : (s : ℕ) (chains : Chains) (beside : Said) (change : RowChange) → IsChangingRow s chains beside old change
-      → slice_get new.sessions s ≡ slice_get old.sessions s → Agrees chains new → IsChangingRow s chains beside new change
-  change_left s chains beside (Record change key after) p session agrees = (
-    record_left s chains change p.0 session agrees,
-    λ schema value there at told. let was = p.1 schema value (rw leaves.schemas at there) at
-        (left_told told) in (was.0, rows_left chains was.0 told was.1, was.2, was.3),
-    p.2,
-    p.3,
-  )
-  change_left s chains beside (Keys change) p session agrees = keys_left chains beside change p

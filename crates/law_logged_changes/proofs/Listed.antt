@@ -1,7 +1,6 @@
--- An open transaction is listed where the world agrees with its past, so a change of a row may begin.
-use Rattle.std.proofs.Common.{◌≡◌, ℕ, ◌+◌, ◌^◌, ◌<◌, List, refl, ap, arith}
+-- An open transaction is listed where the world agrees with its past.
+use Rattle.std.proofs.Common.{◌≡◌, ℕ, ◌+◌, ◌^◌, ◌<◌, ap, arith}
 use Rattle.std.specs.Prelude.{is_some}
-use Rattle.inno_types.specs.declared.value.Schema.{Schema}
 use Rattle.txn_table.specs.Txns.{Txns}
 use Rattle.row_versions.specs.Chains.{Chains}
 use Rattle.law_past_agreement.specs.Ids.{given}
@@ -9,9 +8,7 @@ use Rattle.law_past_agreement.proofs.{Ids.ids_of, Ids.given_few, Opens.opens_of}
 use Rattle.world.specs.State.{WorldState, Session, Work, HasWork}
 use Rattle.law_world_agreement.specs.Agreement.{Agrees}
 use Rattle.law_world_agreement.proofs.Ending.{work_of, one_session_of}
-use Rattle.row_changes.specs.{declared.record_change.RecordStage.TheVariants.Enter, declared.row_change.RowChange.TheVariants.Record, Rows.IsChangingRowAlone}
-use Rattle.row_changes.specs.{Rows.row_after, declared.row_edit.RowEdit.RowEdit, Edits.FitsEdit, Records.IsTable, Records.IsListed, Told.HasRows}
-use Rattle.row_changes.proofs.Telling.{rows_alone}
+use Rattle.row_changes.specs.{Records.IsListed}
 
 module _ (chains : Chains) (state : WorldState) (s : ℕ) (session : Session) (work : Work) (agrees : Agrees chains state)
     (has : HasWork s session work state) where
@@ -32,23 +29,3 @@ module _ (chains : Chains) (state : WorldState) (s : ℕ) (session : Session) (w
   small_of =
       let mine = work_of chains state s session work agrees has in
       omega (arith, mine.id_is, (ids_of state.past agrees.lists.ordered).below s, given_few state.past, agrees.lists.small)
-
-pub begun : (chains : Chains) (state : WorldState) (s table : ℕ) (session : Session) (work : Work) (schema : Schema) (edit : RowEdit)
-    (key : List ℕ) → Agrees chains state → HasRows chains state → HasWork s session work state → IsTable table schema state → FitsEdit schema edit key
-    → IsChangingRowAlone s chains state (Record (record { table = table; edit = edit; key = key; stage = Enter }) key (row_after edit))
-begun chains state s table session work schema edit key agrees rows has there fits = (
-  record {
-    schema = schema;
-    table = there;
-    fits = fits;
-    session = session;
-    work = work;
-    has_work = has;
-    listed = listed_of chains state s session work agrees has;
-    small = small_of chains state s session work agrees has;
-    stage = record {};
-  },
-  rows_alone chains table key state rows,
-  refl,
-  refl,
-)

@@ -22,9 +22,12 @@ use Rattle.desks.specs.declared.desk.Doing.TheVariants.{Undoing}
 use Rattle.desks.specs.{declared.desk.Desk.Desk, declared.desk.Doing.Doing, Desks.desk_at, Desks.doing_in, Desks.doing_at}
 use Rattle.desks.specs.Holding.{IsGoingBack, newest_place, lags_in, said_beside}
 use Rattle.law_logged_changes.proofs.Logs.{key_told}
-use Rattle.law_other_places.specs.{Beside.IsKeyOf, Beside.LeavesSession, Kept.RowKeptAt, Kept.RowsKept, Kept.works_in}
+use Rattle.law_other_places.specs.Beside.{IsKeyOf, LeavesSession}
+use Rattle.desks.specs.Holding.{RowHeldAt, RowsHeld, works_in}
 use Rattle.law_other_places.specs.Steps.{StepsAt, LeavesWork}
-use Rattle.law_other_places.proofs.{GoingBack.putting_left, Frames.records_leave, Frames.other_entries, Rows.last_left, Rows.last_place}
+use Rattle.law_other_places.proofs.GoingBack.{putting_left}
+use Rattle.law_other_places.proofs.Frames.{records_leave, other_entries}
+use Rattle.law_other_places.proofs.Rows.{last_left, last_place}
 use Rattle.law_other_places.proofs.Steps.{says_beside, kept_lagging}
 
 -- of older versions tells whoever tells of all
@@ -78,7 +81,7 @@ goes_leaves {undo = undo} {old = old} {new = new} goes =
     (λ one. (entry_leaves undo.table one.0 one.2 one.3 old new (let within = one.1 in omega arith) one.4, one.4.rest))
     (goes.changes goes.holds.schema tells.there)
 
-module _ (t : ℕ) {chains : Chains} {old new : WorldState} {desks : List Desk} (now : List Desk) (rows : RowsKept chains old desks) (logs : LogsAgree old)
+module _ (t : ℕ) {chains : Chains} {old new : WorldState} {desks : List Desk} (now : List Desk) (rows : RowsHeld chains old desks) (logs : LogsAgree old)
     (told : IsTold old) (tells : IsTold new) (agrees : Agrees chains new) (desk later : Desk) (there : desk_at t desks ≡ Some desk)
     (there_now : desk_at t now ≡ Some later) (doing : desk.doing ≡ Undoing) (doing_now : later.doing ≡ Undoing)
     (undo_is : read_into later.undo ≡ read_into desk.undo)
@@ -157,9 +160,9 @@ module _ (t : ℕ) {chains : Chains} {old new : WorldState} {desks : List Desk} 
     sessions = λ s differs. left s;
   }
 
-  mine : RowKeptAt chains (said_beside chains said new now t) new t (desk_at t now)
-  mine = subst (RowKeptAt chains (said_beside chains said new now t) new t) (sym there_now)
-      (subst (λ (doing : Doing). RowKeptAt chains (said_beside chains said new now t) new t (Some (record later { doing = doing }))) (sym doing_now)
+  mine : RowHeldAt chains (said_beside chains said new now t) new t (desk_at t now)
+  mine = subst (RowHeldAt chains (said_beside chains said new now t) new t) (sym there_now)
+      (subst (λ (doing : Doing). RowHeldAt chains (said_beside chains said new now t) new t (Some (record later { doing = doing }))) (sym doing_now)
       (record {
         logged = going.logged;
         place = place;
@@ -169,5 +172,5 @@ module _ (t : ℕ) {chains : Chains} {old new : WorldState} {desks : List Desk} 
             (back_beside (said_beside chains said new now t) tells lag.coded (says_beside chains said new now t place works_now) holds);
       }))
 
-  pub back_kept : RowsKept chains new now
+  pub back_kept : RowsHeld chains new now
   back_kept = kept_lagging t rows back_steps work logs agrees (inr works) mine lags_now lag.older

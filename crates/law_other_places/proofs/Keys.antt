@@ -1,6 +1,6 @@
 -- A change whose keys take it over stays what it is while another session makes a step at another place.
 -- `Records` and `Rows` have it for the whole change. What is under way in the other session is not changed by it.
-use Rattle.std.proofs.Common.{◌≡◌, ◌∙◌, sym, ap, subst, ℕ, Bool, true, false, List, Option, None, Some, slice_get}
+use Rattle.std.proofs.Common.{◌≡◌, ◌∙◌, sym, ap, subst, ℕ, true, List, Option, None, Some, slice_get}
 use Rattle.std.specs.Prelude.{IfSome, IsSome, is_some}
 use Rattle.inno_types.specs.{declared.value.Value.Value, declared.value.Schema.Schema}
 use Rattle.entries.specs.Pairs.{Pair, value_of}
@@ -9,7 +9,7 @@ use Rattle.row_versions.specs.{declared.place.Place.Place, declared.version.Vers
 use Rattle.law_stored_rows.specs.{Edits.key_index, Tables.Said, Tables.SayTheSameBut}
 use Rattle.world.specs.{State.WorldState, Told.IsTold, Told.pairs_in, Told.pairs_of}
 use Rattle.world.specs.Widths.{HasKeyLen, HasValueLen}
-use Rattle.row_changes.specs.{Edits.IsRowFor, Edits.IsKeyAt, Entries.PutPhaseHolds, Entries.IsThere, Entries.unmarked}
+use Rattle.row_changes.specs.{Edits.IsRowFor, Edits.IsKeyAt, Entries.PutPhaseHolds, Entries.unmarked}
 use Rattle.row_changes.specs.Keys.{IsChangingKeys, IsEntering, IsEntryIn, HasRowsSoFar, said_next}
 use Rattle.row_changes.specs.{declared.keys_change.KeysChange.KeysChange, declared.entry_put.EntryPut.EntryPut, declared.entry_put.PutPhase.PutPhase}
 use Rattle.row_changes.specs.declared.entry_put.PutPhase.TheVariants.{Look, Unmark}

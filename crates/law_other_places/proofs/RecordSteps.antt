@@ -2,7 +2,7 @@
 -- `Making` makes of them steps of the store; the steps of keys stand in `Steps`.
 use Rattle.row_changes.specs.RecordReached as records
 use Rattle.std.proofs.Common.{◌≡◌, ◌≢◌, ◌∙◌, inl, refl, sym, ap, subst, ℕ, false, cond, List, ◌∷◌, Option, None, Some, slice_get}
-use Rattle.std.proofs.lemmas.Bool.{cond-false, true≢false, eq-eqb, ne_eqb}
+use Rattle.std.proofs.lemmas.Bool.{cond-false, eq-eqb, ne_eqb}
 use Rattle.inno_types.specs.{declared.value.Schema.Schema, declared.value.Value.Value}
 use Rattle.inno_model.specs.{Past.own}
 use Rattle.store_api.specs.declared.answers.Undo.{Undo}
@@ -23,14 +23,15 @@ use Rattle.row_changes.specs.{declared.row_change.RowChange.TheVariants.Record, 
 use Rattle.row_changes.proofs.{Alone.keys_beside, Telling.one_value, Telling.puts_pairs, Sessions.one_found, Pushed.key_at}
 use Rattle.law_logged_changes.specs.{Logs.LogsAgree, GoingOn.EntersAgreed, Steps.LeavesOtherRows, Steps.HasLogged}
 use Rattle.law_logged_changes.proofs.{Lags.lags, Logging.IsLogging, Logging.logging, Logging.change_logged, Logs.put_elsewhere, Entering.place_there}
-use Rattle.law_logged_changes.proofs.Leaving.{rows_leave, rows_left}
 use Rattle.desks.specs.declared.desk.Doing.TheVariants.{Changing}
 use Rattle.desks.specs.{declared.desk.Desk.Desk, declared.desk.Doing.Doing, Desks.desk_at, Desks.doing_at}
 use Rattle.desks.specs.Holding.{IsLastOf, newest_place, lags_in, lags_at, said_beside}
-use Rattle.law_other_places.specs.{Beside.IsKeyOf, Kept.RowKept, Kept.RowKeptAt, Kept.RowsKept, Kept.works_in}
+use Rattle.law_other_places.specs.Beside.{IsKeyOf}
+use Rattle.desks.specs.Holding.{RowHeld, RowHeldAt, RowsHeld, works_in}
 use Rattle.law_other_places.specs.Steps.{StepsAt, LeavesWork}
-use Rattle.law_other_places.proofs.{Gluing.at, Frames.records_leave, Frames.other_rows_leave, Frames.other_key, Frames.all_entries, Frames.records_apart}
-use Rattle.law_other_places.proofs.{Sessions.rows_after}
+use Rattle.law_other_places.proofs.Gluing.{at}
+use Rattle.law_other_places.proofs.Frames.{other_rows_leave, other_key, records_apart}
+use Rattle.law_other_places.proofs.Quiet.{sought_kept}
 use Rattle.law_other_places.proofs.Steps.{says_beside, kept_at, kept_lagging}
 
 -- ---- the version stands, and the keys come next
@@ -49,7 +50,7 @@ recorded_leaves s old new change schema kind value coded told tells is =
       kept = λ any other also apart. more_of old.versions.kept_at new.versions.kept_at other also (is.more any);
     }
 
-module _ (t : ℕ) {chains : Chains} {old new : WorldState} {desks : List Desk} (rows : RowsKept chains old desks) (logs : LogsAgree old)
+module _ (t : ℕ) {chains : Chains} {old new : WorldState} {desks : List Desk} (rows : RowsHeld chains old desks) (logs : LogsAgree old)
     (told : IsTold old) (tells : IsTold new) (change : RecordChange) (key : List ℕ) (row : Option (List Value))
     (doing : doing_at t desks ≡ Changing (Record change key row))
     (q : IsChangingRow t chains (said_beside chains rows.said old desks t) old (Record change key row)) (next : KeysChange)
@@ -165,7 +166,7 @@ module _ (t : ℕ) {chains : Chains} {old new : WorldState} {desks : List Desk} 
     works_now : works_in new t (doing_at t now) ≡ Some place
     works_now = ap (works_in new t) doing_now ∙ newest_is
 
-    mine : RowKeptAt e.after (said_beside e.after said new now t) new t (desk_at t now)
+    mine : RowHeldAt e.after (said_beside e.after said new now t) new t (desk_at t now)
     mine = kept_at e.after (said_beside e.after said new now t) new t (desk_at t now) (Changing (Keys next)) doing_now (λ undo room. (
       keys_beside e.after beside (said_beside e.after said new now t) new next changing (λ table which value apart.
           let other = ap (λ (x : Place). is_same_place x (at table value)) (sym one_place) ∙ apart in
@@ -173,7 +174,7 @@ module _ (t : ℕ) {chains : Chains} {old new : WorldState} {desks : List Desk} 
       last,
     ))
 
-    pub record_kept : RowsKept e.after new now
+    pub record_kept : RowsHeld e.after new now
     record_kept = kept_lagging t rows record_steps work logs e.agrees (inl lags_was) mine
         (ap (lags_in new t) doing_now ∙ newest_is)
         (subst (λ (x : Place). TellsOfOlder x e.after said) one_place
@@ -181,32 +182,19 @@ module _ (t : ℕ) {chains : Chains} {old new : WorldState} {desks : List Desk} 
 
 -- ---- a step before that
 
-module _ (t : ℕ) {chains : Chains} {old new : WorldState} {desks : List Desk} (rows : RowsKept chains old desks) (logs : LogsAgree old)
+module _ (t : ℕ) {chains : Chains} {old new : WorldState} {desks : List Desk} (rows : RowsHeld chains old desks) (logs : LogsAgree old)
     (told : IsTold old) (tells : IsTold new) (aside : StepsAside t old new) (agrees : Agrees chains new)
     (change : RecordChange) (key : List ℕ) (row : Option (List Value)) (doing : doing_at t desks ≡ Changing (Record change key row)) where
   leaves : LeavesRows old new
   leaves = record { schemas = ap (λ (state : WorldState). state.schemas) aside.rest; pairs = aside.pairs; versions = aside.versions }
 
-  aside_steps : StepsAt t None chains chains rows.said rows.said old new
-  aside_steps = record {
-    told = told;
-    tells = tells;
-    schemas = leaves.schemas;
-    coded = rows_left old new leaves chains rows.said tells rows.coded;
-    versions = λ other apart. refl;
-    says = λ other which apart. refl;
-    rows = λ other also apart is. records_leave (rows_leave old new leaves) tells other.table also;
-    entries = λ other apart. all_entries old new leaves.pairs tells other;
-    sessions = λ s differs. record { session = aside.others s differs; own_is = ap (λ (state : WorldState). own s state.past) aside.rest };
-  }
-
   -- behind it the session's keys lag nowhere still
   module _ (now : List Desk) (later : Doing) (doing_now : doing_at t now ≡ later) (none : lags_in new t later ≡ None)
       (same : (s : ℕ) → s ≢ t → desk_at s now ≡ desk_at s desks)
-      (mine : (undo : Undo) (room : WorkRoom) → RowKept chains (said_beside chains rows.said new now t) new t undo room later) where
-    pub aside_kept : RowsKept chains new now
-    aside_kept = rows_after t rows aside_steps (record { same = same; apart = λ s other differs works. refl }) logs agrees
+      (mine : (undo : Undo) (room : WorkRoom) → RowHeld chains (said_beside chains rows.said new now t) new t undo room later) where
+    pub aside_kept : RowsHeld chains new now
+    aside_kept =
+        sought_kept rows logs told tells leaves agrees t now
+        (λ s differs. record { session = aside.others s differs; own_is = ap (λ (state : WorldState). own s state.past) aside.rest }) same
+        (ap (lags_in old t) doing) (ap (lags_in new t) doing_now ∙ none)
         (kept_at chains (said_beside chains rows.said new now t) new t (desk_at t now) later doing_now mine)
-        (λ other is. absurd (true≢false (sym is ∙ ap (λ d. is_place other (lags_in new t d)) doing_now ∙ ap (is_place other) none)))
-        (λ other same not. absurd (true≢false (sym same)))
-        (λ other is apart. absurd (true≢false (sym is ∙ ap (λ d. is_place other (lags_in old t d)) doing)))

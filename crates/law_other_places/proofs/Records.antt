@@ -13,7 +13,8 @@ use Rattle.row_changes.specs.declared.record_change.RecordStage.TheVariants.{Rep
 use Rattle.row_changes.proofs.{Pushed.table_kept, Pushed.key_at}
 use Rattle.law_logged_changes.proofs.Listed.{listed_of}
 use Rattle.law_logged_changes.specs.Logs.{records_of}
-use Rattle.law_other_places.specs.{Beside.LeavesPlace, Kept.is_found}
+use Rattle.law_other_places.specs.Beside.{LeavesPlace}
+use Rattle.desks.specs.Holding.{is_found}
 use Rattle.law_other_places.proofs.Keys.{told_again}
 
 module _ {after : Chains} {old new : WorldState} (s : ℕ) (change : RecordChange) (p : IsChangingRecord s old change) (schemas : new.schemas ≡ old.schemas)

@@ -17,9 +17,11 @@ use Rattle.law_logged_changes.specs.Logs.{LogsAgree}
 use Rattle.desks.specs.declared.desk.Doing.TheVariants.{Nothing, Searching, Changing, Lagging, Undoing}
 use Rattle.desks.specs.{declared.desk.Desk.Desk, declared.desk.Doing.Doing, Desks.desk_at, Desks.doing_in, Desks.doing_at}
 use Rattle.desks.specs.Holding.{newest_place, lags_in, lags_at, said_beside}
-use Rattle.law_other_places.specs.{Beside.LeavesPlace, Beside.LeavesIt, Kept.RowKeptAt, Kept.RowsKept, Kept.works_in}
+use Rattle.law_other_places.specs.Beside.{LeavesPlace, LeavesIt}
+use Rattle.desks.specs.Holding.{RowHeldAt, RowsHeld, works_in}
 use Rattle.law_other_places.specs.Steps.{StepsAt, LeavesWork}
-use Rattle.law_other_places.proofs.{Gluing.at, Rows.row_left_at}
+use Rattle.law_other_places.proofs.Gluing.{at}
+use Rattle.law_other_places.proofs.Rows.{row_left_at}
 
 -- what holds at one number, and at each other
 pub each : (s : ℕ) (P : ℕ → Type 0) → P s → ((u : ℕ) → u ≢ s → P u) → (u : ℕ) → P u
@@ -64,7 +66,7 @@ lags_as old new s other schemas own_is = refl
 
 -- ---- the other sessions
 
-module _ (t : ℕ) {at_place : Option Place} {chains after : Chains} {old new : WorldState} {desks now : List Desk} (rows : RowsKept chains old desks)
+module _ (t : ℕ) {at_place : Option Place} {chains after : Chains} {old new : WorldState} {desks now : List Desk} (rows : RowsHeld chains old desks)
     {said : Said} (step : StepsAt t at_place chains after rows.said said old new) (work : LeavesWork t at_place old desks now) where
   pub leaves_other : (other : Place) → is_place other at_place ≡ false → LeavesPlace other chains after said old new
   leaves_other other apart = record {
@@ -77,7 +79,7 @@ module _ (t : ℕ) {at_place : Option Place} {chains after : Chains} {old new : 
     entries = step.entries other apart;
   }
 
-  lags_still : (s : ℕ) (other : Place) → s ≢ t → lags_at other new now s ≡ lags_at other old desks s
+  pub lags_still : (s : ℕ) (other : Place) → s ≢ t → lags_at other new now s ≡ lags_at other old desks s
   lags_still s other differs =
       ap (λ desk. is_place other (lags_in new s (doing_in desk))) (work.same s differs)
       ∙ ap (is_place other) (lags_as old new s (doing_at s desks) step.schemas (step.sessions s differs).own_is)
@@ -90,9 +92,9 @@ module _ (t : ℕ) {at_place : Option Place} {chains after : Chains} {old new : 
       cond-false (lags_at (at table value) new now s) (versions_at (at table value) after) (said table which value) lags
 
   module _ (logs : LogsAgree old) (agrees : Agrees after new) where
-    pub other_left : (s : ℕ) → s ≢ t → RowKeptAt after (said_beside after said new now s) new s (desk_at s now)
+    pub other_left : (s : ℕ) → s ≢ t → RowHeldAt after (said_beside after said new now s) new s (desk_at s now)
     other_left s differs =
-        subst (RowKeptAt after (said_beside after said new now s) new s) (sym (work.same s differs))
+        subst (RowHeldAt after (said_beside after said new now s) new s) (sym (work.same s differs))
         (row_left_at s chains said logs agrees (step.sessions s differs) (said_beside chains rows.said old desks s) (said_beside after said new now s)
         (desk_at s desks)
         step.schemas
@@ -106,7 +108,7 @@ module _ (t : ℕ) {at_place : Option Place} {chains after : Chains} {old new : 
         leaves (Some other) works = (leaves_other other (work.apart s other differs works), beside_says s other differs works)
 
     -- what the session itself knows, and what keys say of its place
-    module _ (mine : RowKeptAt after (said_beside after said new now t) new t (desk_at t now))
+    module _ (mine : RowHeldAt after (said_beside after said new now t) new t (desk_at t now))
         (mine_lags : (other : Place) → lags_at other new now t ≡ true → TellsOfOlder other after said)
         (mine_settled : (place : Place) → is_place place at_place ≡ true → lags_at place new now t ≡ false → SaysAt place after said)
         (mine_was : (other : Place) → lags_at other old desks t ≡ true → is_place other at_place ≡ false → lags_at other new now t ≡ true) where
@@ -123,11 +125,11 @@ module _ (t : ℕ) {at_place : Option Place} {chains after : Chains} {old new : 
           (⊎_elim (λ lags. absurd (true≢false (sym (mine_was other lags apart) ∙ none t))) (λ not. not) (cases_Bool (lags_at other old desks t)))
           (λ s differs. sym (lags_still s other differs) ∙ none s)
 
-      pub rows_after : RowsKept after new now
+      pub rows_after : RowsHeld after new now
       rows_after = record {
         said = said;
         coded = step.coded;
-        each = each t (λ s. RowKeptAt after (said_beside after said new now s) new s (desk_at s now)) mine other_left;
+        each = each t (λ s. RowHeldAt after (said_beside after said new now s) new s (desk_at s now)) mine other_left;
         lagging = λ s other. each t (λ s. lags_at other new now s ≡ true → TellsOfOlder other after said) (mine_lags other) (λ s differs lags.
             let was = sym (lags_still s other differs) ∙ lags in
             tells_still other (work.apart s other differs (works_there old desks s other was)) (rows.lagging s other was)) s;

@@ -18,16 +18,18 @@ use Rattle.row_changes.specs.declared.row_change.RowChange.TheVariants.{Keys}
 use Rattle.row_changes.proofs.{Alone.keys_beside, Telling.one_value, Sessions.one_found, Keying.beside_stay}
 use Rattle.undo_apply.specs.declared.work_room.WorkRoom.{WorkRoom}
 use Rattle.law_logged_changes.specs.{Logs.LogsAgree}
-use Rattle.law_logged_changes.proofs.{Lags.lags, Logging.beside_leaves, Leaving.rows_left}
+use Rattle.law_logged_changes.proofs.{Lags.lags, Logging.beside_leaves}
 use Rattle.undo_apply.proofs.Telling.{rows_left as stays_leave}
 use Rattle.desks.specs.declared.desk.Doing.TheVariants.{Nothing, Changing, Lagging}
 use Rattle.desks.specs.{declared.desk.Desk.Desk, declared.desk.Doing.Doing, Desks.desk_at, Desks.doing_in, Desks.doing_at}
 use Rattle.desks.specs.Holding.{IsLastOf, newest_place, lags_in, lags_at, said_beside}
-use Rattle.law_other_places.specs.{Beside.LeavesSession, Kept.RowKept, Kept.RowKeptAt, Kept.RowsKept, Kept.works_in}
+use Rattle.law_other_places.specs.Beside.{LeavesSession}
+use Rattle.desks.specs.Holding.{RowHeld, RowHeldAt, RowsHeld, works_in}
 use Rattle.law_other_places.specs.Steps.{StepsAt, LeavesWork}
-use Rattle.law_other_places.proofs.{Gluing.at, Frames.records_leave, Frames.all_entries, Frames.other_entries, Rows.keys_at, Rows.last_left}
-use Rattle.law_other_places.proofs.{Sessions.lags_there}
-use Rattle.law_other_places.proofs.{Sessions.rows_after}
+use Rattle.law_other_places.proofs.Gluing.{at}
+use Rattle.law_other_places.proofs.Frames.{records_leave, all_entries, other_entries}
+use Rattle.law_other_places.proofs.Rows.{keys_at, last_left, last_of_left}
+use Rattle.law_other_places.proofs.{Sessions.lags_there, Sessions.rows_after, Quiet.steps_nowhere}
 
 some_place : {a b : Place} → Some a ≡ Some b → a ≡ b
 some_place same = cc
@@ -41,18 +43,18 @@ says_beside chains said state desks t place works table which value apart =
 
 -- what is known of whatever lies at the desk is known there
 pub kept_at : (chains : Chains) (beside : Said) (state : WorldState) (s : ℕ) (found : Option Desk) (doing : Doing) → doing_in found ≡ doing
-    → ((undo : Undo) (room : WorkRoom) → RowKept chains beside state s undo room doing) → RowKeptAt chains beside state s found
+    → ((undo : Undo) (room : WorkRoom) → RowHeld chains beside state s undo room doing) → RowHeldAt chains beside state s found
 kept_at chains beside state s None doing is row = record {}
 kept_at chains beside state s (Some desk) doing is row =
-    subst (RowKept chains beside state s (read_into desk.undo) desk.room) (sym is) (row (read_into desk.undo) desk.room)
+    subst (RowHeld chains beside state s (read_into desk.undo) desk.room) (sym is) (row (read_into desk.undo) desk.room)
 
 -- ---- a step of a session that works at one place, behind which it lags there, or its keys say what is there
 
-module _ (t : ℕ) {place : Place} {chains after : Chains} {old new : WorldState} {desks now : List Desk} (rows : RowsKept chains old desks)
+module _ (t : ℕ) {place : Place} {chains after : Chains} {old new : WorldState} {desks now : List Desk} (rows : RowsHeld chains old desks)
     {said : Said} (step : StepsAt t (Some place) chains after rows.said said old new) (work : LeavesWork t (Some place) old desks now)
     (logs : LogsAgree old) (agrees : Agrees after new)
     (was : (lags_in old t (doing_at t desks) ≡ None) ⊎ (lags_in old t (doing_at t desks) ≡ Some place))
-    (mine : RowKeptAt after (said_beside after said new now t) new t (desk_at t now)) where
+    (mine : RowHeldAt after (said_beside after said new now t) new t (desk_at t now)) where
   was_there : (other : Place) → lags_at other old desks t ≡ true → is_same_place place other ≡ false → ⊥
   was_there other lags apart = elim was [
     | inl none ↦ true≢false (sym lags ∙ ap (is_place other) none)
@@ -60,14 +62,14 @@ module _ (t : ℕ) {place : Place} {chains after : Chains} {old new : WorldState
   ]
 
   module _ (lags : lags_in new t (doing_at t now) ≡ Some place) (older : TellsOfOlder place after said) where
-    pub kept_lagging : RowsKept after new now
+    pub kept_lagging : RowsHeld after new now
     kept_lagging = rows_after t rows step work logs agrees mine
         (λ other is. subst (λ (p : Place). TellsOfOlder p after said) (same_place place other (sym (ap (is_place other) lags) ∙ is)) older)
         (λ other same not. absurd (true≢false (sym same ∙ sym (ap (is_place other) lags) ∙ not)))
         (λ other is apart. absurd (was_there other is apart))
 
   module _ (lags : lags_in new t (doing_at t now) ≡ None) (says : SaysAt place after said) where
-    pub kept_settled : RowsKept after new now
+    pub kept_settled : RowsHeld after new now
     kept_settled = rows_after t rows step work logs agrees mine
         (λ other is. absurd (true≢false (sym is ∙ ap (is_place other) lags)))
         (λ other same not. subst (λ (p : Place). SaysAt p after said) (same_place place other same) says)
@@ -75,7 +77,7 @@ module _ (t : ℕ) {place : Place} {chains after : Chains} {old new : WorldState
 
 -- ---- a step of a key
 
-module _ (t : ℕ) {chains : Chains} {old new : WorldState} {desks : List Desk} (rows : RowsKept chains old desks) (logs : LogsAgree old)
+module _ (t : ℕ) {chains : Chains} {old new : WorldState} {desks : List Desk} (rows : RowsHeld chains old desks) (logs : LogsAgree old)
     (told : IsTold old) (tells : IsTold new) (change : KeysChange) (doing : doing_at t desks ≡ Changing (Keys change))
     (p : IsChangingKeys chains (said_beside chains rows.said old desks t) old change) (last : IsLastOf old t change) where
   abbrev place : Place
@@ -143,7 +145,7 @@ module _ (t : ℕ) {chains : Chains} {old new : WorldState} {desks : List Desk} 
       works_now : works_in new t (doing_at t now) ≡ Some place
       works_now = ap (works_in new t) doing_now ∙ newest_same ∙ keys_at logs change p last
 
-      mine : RowKeptAt chains (said_beside chains said new now t) new t (desk_at t now)
+      mine : RowHeldAt chains (said_beside chains said new now t) new t (desk_at t now)
       mine = kept_at chains (said_beside chains said new now t) new t (desk_at t now) (Changing (Keys next)) doing_now (λ undo room. (
         keys_beside chains beside (said_beside chains said new now t) new next goes.holds (λ table which value apart.
             let other = ap (λ (q : Place). is_same_place q (at table value)) (sym one_place) ∙ apart in
@@ -159,7 +161,7 @@ module _ (t : ℕ) {chains : Chains} {old new : WorldState} {desks : List Desk} 
       ))
 
       -- behind a step of a key all sessions know what they knew, and this one its row
-      pub key_kept : RowsKept chains new now
+      pub key_kept : RowsHeld chains new now
       key_kept = kept_lagging t rows key_steps work logs agrees (inr lags_was) mine lags_now
           (subst (λ (q : Place). TellsOfOlder q chains said) one_place
           (lags next.put next.before goes.holds.pushed.version goes.holds.pushed.versions (goes.holds.rows tells).2))
@@ -189,7 +191,7 @@ module _ (t : ℕ) {chains : Chains} {old new : WorldState} {desks : List Desk} 
       };
     }
 
-    pub end_kept : RowsKept chains new now
+    pub end_kept : RowsHeld chains new now
     end_kept = kept_settled t rows end_steps work logs agrees (inr lags_was)
         (kept_at chains (said_beside chains ends.0 new now t) new t (desk_at t now) Nothing doing_now (λ undo room. record {}))
         (ap (lags_in new t) doing_now) ends.3
@@ -208,17 +210,7 @@ module _ (t : ℕ) {chains : Chains} {old new : WorldState} {desks : List Desk} 
     stays_schemas = ap (λ (state : WorldState). state.schemas) stays.rest
 
     stay_steps : StepsAt t None chains chains rows.said rows.said old new
-    stay_steps = record {
-      told = told;
-      tells = tells;
-      schemas = stays_schemas;
-      coded = rows_left old new (stays_leave stays) chains rows.said tells rows.coded;
-      versions = λ other apart. refl;
-      says = λ other which apart. refl;
-      rows = λ other key apart is. records_leave (beside_leaves old new (beside_stay old new stays)) tells other.table key;
-      entries = λ other apart. all_entries old new stays.pairs tells other;
-      sessions = λ s differs. stays_left s;
-    }
+    stay_steps = steps_nowhere rows logs told tells (stays_leave stays) agrees t (λ s differs. stays_left s)
 
     stays_newest : newest_place new.schemas (own t new.past) ≡ newest_place old.schemas (own t old.past)
     stays_newest = λ i. newest_place (stays_schemas i) ((stays_left t).own_is i)
@@ -232,19 +224,13 @@ module _ (t : ℕ) {chains : Chains} {old new : WorldState} {desks : List Desk} 
     beside_still table which value =
         ap (λ b. cond b (versions_at (at table value) chains) (rows.said table which value)) (stays_lags (at table value))
 
-    pub given_up_kept : RowsKept chains new now
+    pub given_up_kept : RowsHeld chains new now
     given_up_kept = rows_after t rows stay_steps (record { same = same; apart = λ s other differs works. refl }) logs agrees
         (kept_at chains (said_beside chains rows.said new now t) new t (desk_at t now) Lagging doing_now (λ undo room. record {
           change = change;
           changing = keys_beside chains beside (said_beside chains rows.said new now t) new change holds
               (λ table which value apart. beside_still table which value);
-          newest = record {
-            logged = last.logged;
-            place = last.place;
-            last = last_left t stays_schemas (stays_left t) last.last;
-            table_is = last.table_is;
-            key_is = last.key_is;
-          };
+          newest = last_of_left t stays_schemas (stays_left t) change last;
         }))
         (λ other is. rows.lagging t other (sym (stays_lags other) ∙ is)) (λ other same not. absurd (true≢false (sym same)))
         (λ other is apart. stays_lags other ∙ is)

@@ -8,7 +8,7 @@ use Rattle.std.proofs.lemmas.Bool.{false≢true, cases_eq}
 use Rattle.std.specs.{Prelude.slice_get, Prelude.slice_index_or, Prelude.slice_set, Prelude.get_or, Prelude.is_some, List.list_any}
 use Rattle.row_versions.specs.Chains.{Chains, versions_at, newest}
 use Rattle.row_versions.specs.{declared.place.Place.Place, declared.kept.Kept.Kept, declared.version.Version.Version}
-use Rattle.law_stored_rows.specs.{Tables.Said, Tables.what_is_there, Tables.in_table, Records.IsRecordWith, Records.kept_of, Records.row_shown}
+use Rattle.law_stored_rows.specs.{Tables.Said, Tables.in_table, Records.IsRecordWith, Records.kept_of, Records.row_shown}
 use Rattle.law_stored_rows.specs.{Edits.clustered_index}
 use Rattle.key_codec.specs.Keys.{IsOfKind, HasKey, key_code}
 use Rattle.shared_lists.specs.{Tasks.Task, Tasks.Idle, Tasks.asked, Tasks.left_by, Tasks.is_changing, Tasks.steps_left, State.Lists, State.Turns, State.task_of}
@@ -23,11 +23,11 @@ use Rattle.law_held_steps.proofs.{Made.can_be_keyed, Made.begins, Made.change_ma
 use Rattle.law_held_steps.proofs.Hindering.{lacking}
 use Rattle.law_held_steps.specs.Hindering.{IsForWant, hindrance_of}
 use Rattle.shared_lists.specs.declared.answers.Hindrance.TheVariants as hindrances
-use Rattle.law_held_steps.proofs.{Putting.changing_rows, Putting.alone_if, AnyStep.doing_here, AnyStep.changes_at_a_desk}
+use Rattle.law_held_steps.proofs.{Made.changing_row, Apart.alone_at, Apart.beside_of, AnyStep.changes_at_a_desk}
 use Rattle.world_lists.specs.Parts.{StepsChange, StepsAtDesk, HasChange, IsThereToRemove, RemovesRow, MayGoOn, IsForWantIfHindered}
 use Rattle.world_lists.specs.Parts.{doing_now, is_told, answer_for}
 use Rattle.world_lists.specs.Between.{IsKept}
-use Rattle.inno_model.specs.{Past.IsOpen, Past.own, Past.commits, Past.committed, declared.event.Event.Event}
+use Rattle.inno_model.specs.{Past.IsOpen, Past.own, Past.commits, Past.committed}
 use Rattle.row_changes.specs.{Reached.Went, Reached.Done, Reached.Hindered, Reached.Reached, Rows.IsChangingRow, Rows.IsAtRow, Rows.MakesRow, Rows.ChangesRow}
 use Rattle.row_changes.specs.{Rows.primary_of, Edits.change_of, Edits.FitsEdit, Edits.HasNoRow, Edits.LacksRow, Records.IsTable, Records.IsSpoiled}
 use Rattle.row_changes.specs.{Records.HindersRecord, declared.row_change.RowChange.TheVariants.Record, declared.row_change.RowChange.TheVariants.Keys}
@@ -367,7 +367,7 @@ module _ (s : ℕ) {store : Store} {new : WorldState} {change : RowChange} {doin
     (step : StepsChange s change store.world new doing answer) (kept : IsKept store) (mine : store.writer ≡ Some s)
     (at : doing_at s store.desks ≡ Changing change) (was : IsTold store.world) (told : IsTold new) (few : length new.past < 2 ^ 63) where
   is_made : MakesChange s store new change step.reached
-  is_made = change_made kept.held mine at (λ chains. step.made chains (what_is_there chains)) was told few
+  is_made = change_made kept.held mine at step.made was told few
 
   within : s < length store.desks
   within = changes_at_a_desk s store.desks at
@@ -433,7 +433,7 @@ module _ (s : ℕ) {store : Store} {lists : Lists} (kept : IsKept store) (view :
   -- what it has under way, where that is known
   pub its_change : {change : RowChange} → doing_at s store.desks ≡ Changing change
       → (chains : Chains) × (beside : Said) × IsChangingRow s chains beside old change
-  its_change at = (kept.held.chains, what_is_there kept.held.chains, (changing_rows s kept.held its at).0)
+  its_change {change} at = (kept.held.chains, beside_of kept.held s, changing_row kept.held its change at)
 
   pub its_untold : {change : RowChange} {asks : Change} → doing_at s store.desks ≡ Changing change → asked (task_of s lists.state) ≡ Some asks
       → is_told change ≡ false
@@ -448,7 +448,7 @@ module _ (s : ℕ) {store : Store} {lists : Lists} (kept : IsKept store) (view :
     shows_there table (Put row) seen = record {}
     shows_there table (Remove value) seen =
         let place : Place = record { table = table; key = value } in
-        ap is_some (newest_seen kept.held.chains old kept.held.agrees s place (alone_if kept.held its place)) ∙ seen
+        ap is_some (newest_seen kept.held.chains old kept.held.agrees s place (alone_at kept.held its place)) ∙ seen
 
     its_row : (change : RowChange) → doing_at s store.desks ≡ Changing change → RemovesRow kept.held.chains change
     its_row (Keys change) at = record {}
@@ -462,8 +462,8 @@ module _ (s : ℕ) {store : Store} {lists : Lists} (kept : IsKept store) (view :
     may_go_on : {change : RowChange} → doing_at s store.desks ≡ Changing change → MayGoOn s old change
     may_go_on {change} at = record {
       chains = kept.held.chains;
-      beside = what_is_there kept.held.chains;
-      changing = (changing_rows s kept.held its at).0;
+      beside = beside_of kept.held s;
+      changing = changing_row kept.held its change at;
       removes = its_row change at;
       nobody = kept.awaits;
     }

@@ -601,7 +601,7 @@ module _ (s : ℕ) {store : Store} {lists : Lists} (kept : IsKept store) (view :
         all_quiet : (u : ℕ) → is_quiet_doing (doing_at u store.desks) ≡ true
         all_quiet u = elim (eqb_tells u s) [
           | inl same ↦ ap (λ v. is_quiet_doing (doing_at v store.desks)) same.1 ∙ ap is_quiet_doing at_its_rest
-          | inr differ ↦ kept.held.quiet u (λ same. differ.1 (sym (some_same s u (sym may_write ∙ same))))
+          | inr differ ↦ kept.held.owned.quiet u (λ same. differ.1 (sym (some_same s u (sym may_write ∙ same))))
         ]
 
         pub table_adds : Adds (Changed s (Create schema)) s lists.state (lists_of made).state

@@ -122,7 +122,7 @@ module _ (s : ℕ) {store : Store} {lists : Lists} (kept : IsKept store) (view :
       × (other < length lists.state.names) × Stays s lists.state lists.state
   held_by {other} is =
       let found = without_it s store.writer is in
-      let opened = kept.held.writes.opened other found.0 in
+      let opened = kept.held.owned.opened other found.0 in
       subst (λ (l : Lists). (l.state.writer ≡ Some other) × (other ≢ s) × IsOpen other l.state.past × (other < length l.state.names) × Stays s l.state l.state)
       view (found.0, found.1, opened, open_joined kept.held.agrees other opened, nothing_changes s (lists_of store).state)
 
@@ -130,7 +130,7 @@ module _ (s : ℕ) {store : Store} {lists : Lists} (kept : IsKept store) (view :
   writer_within = by store.writer refl where
     by : (who : Option ℕ) → store.writer ≡ who → IfSome who (λ w. w < length store.desks)
     by None is = record {}
-    by (Some w) is = omega (arith, open_joined kept.held.agrees w (kept.held.writes.opened w is), kept.held.count)
+    by (Some w) is = omega (arith, open_joined kept.held.agrees w (kept.held.owned.opened w is), kept.held.count)
 
   pub view_there : IsOpen s lists.state.past → is_some (view_of s lists.state.past) ≡ true → HasView s old
   view_there is_open viewed =

@@ -2,8 +2,8 @@
 -- the record goes, and the history tells it.
 use Rattle.shared_lists.specs.Tasks as tasks
 use Rattle.store_api.specs.declared.stepped.Stepped.TheVariants as stepped
-use Rattle.std.proofs.Common.{◌≡◌, ◌≢◌, ⊎_elim, ℕ, ◌-◌, ◌+◌, ◌<◌, ◌^◌, Bool, false, List, length, Option, Some, None, refl, sym, ap, subst, ◌∙◌, arith, []}
-use Rattle.std.proofs.Common.{slice_get, get_or, option_map}
+use Rattle.std.proofs.Common.{◌≡◌, ◌≢◌, ⊎_elim, ℕ, ◌-◌, ◌+◌, ◌<◌, ◌^◌, Bool, List, length, Option, Some, refl, sym, ap, subst, ◌∙◌, []}
+use Rattle.std.proofs.Common.{get_or}
 use Rattle.std.proofs.lemmas.Option.{slice_get_within}
 use Rattle.std.specs.Prelude.{slice_set}
 use Rattle.inno_types.specs.declared.value.Schema.{Schema}
@@ -28,7 +28,8 @@ use Rattle.store_api.specs.{declared.moves.Move.Move, declared.moves.Move.TheVar
 use Rattle.row_versions.specs.{Chains.Chains, declared.place.Place.Place}
 use Rattle.undo_apply.specs.{declared.work_room.WorkRoom.WorkRoom, Stages.IsPuttingBack}
 use Rattle.shared_lists.specs.{Tasks.MayTakeBack, State.Lists, State.task_of}
-use Rattle.law_held_steps.specs.Making.{IsReady, HasPutBack, TakesBackIn}
+use Rattle.law_other_places.specs.Steps.{IsReady}
+use Rattle.law_held_steps.specs.Making.{HasPutBack, TakesBackIn}
 
 undoing_shown : (schemas : List Schema) (left n : ℕ) (doing : Doing) → shown schemas left doing ≡ tasks.Undoing n → doing ≡ Undoing
 undoing_shown schemas left n Undoing is = refl

@@ -1,0 +1,9 @@
+pub mod Owning
+pub mod Many
+pub mod Now
+pub mod Locking
+pub mod Entries
+pub mod Keeping
+pub mod Plans
+pub mod Undoing
+pub mod Searching

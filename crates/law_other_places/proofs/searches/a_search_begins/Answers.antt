@@ -1,5 +1,0 @@
-use Rattle.law_other_places.proofs.Beginning.{begins}
-use Rattle.law_other_places.proofs.searches.a_search_begins.Goals as goal
-
-pub returns : goal.returns
-returns c schema scan s txn made log state granted empty = begins schema scan s txn made log state granted empty

@@ -1,5 +1,0 @@
-use Rattle.law_other_places.proofs.Readers.{shows_all}
-use Rattle.law_other_places.proofs.stores.a_reader_by_a_view_finds_its_rows.Goals as goal
-
-pub returns : goal.returns
-returns c store granted s schema scan view reader held told searching sight there le mine = shows_all held told s searching scan view reader sight there le mine

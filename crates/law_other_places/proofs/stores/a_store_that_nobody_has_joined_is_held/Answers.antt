@@ -1,5 +1,0 @@
-use Rattle.law_other_places.proofs.Begins.{first_all}
-use Rattle.law_other_places.proofs.stores.a_store_that_nobody_has_joined_is_held.Goals as goal
-
-pub returns : goal.returns
-returns c state told fresh = first_all state told fresh

@@ -1,5 +1,0 @@
-use Rattle.law_other_places.proofs.Quiet.{locks_kept}
-use Rattle.law_other_places.proofs.stores.calls_of_the_lock_table_keep_all.Goals as goal
-
-pub returns : goal.returns
-returns c store granted now held apart keeps = locks_kept held apart keeps
