@@ -1,5 +1,5 @@
 -- An insertion whose intention is granted in the same step keeps what everybody guards.
--- The laws of insertions cite it, and so do those of places (`law_other_places`). No request waits in between.
+-- The laws of insertions cite it, and so do those of places (`law_locked_rows`). No request waits in between.
 use Rattle.std.proofs.Common.{arith, ◌≡◌, ◌≢◌, ◌∙◌, ℕ, ◌+◌, true, false, List, [], ◌∷◌, ◌++◌, inl, inr, refl, sym, ap, subst, length}
 use Rattle.std.specs.Prelude.{◌==◌, ◌&&◌, ◌||◌, not, cond, Some, is_some}
 use Rattle.std.specs.List.{list_any}
