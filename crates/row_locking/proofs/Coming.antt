@@ -1,14 +1,13 @@
 -- To the first pair that a search has not passed: from which bytes it is sought, and that it is the first.
-use Rattle.std.proofs.Common.{◌≡◌, ◌∙◌, refl, sym, ap, subst, ℕ, Bool, true, false, cond, List, [], ◌∷◌, ◌++◌, Option, None, Some, arith}
+use Rattle.std.proofs.Common.{◌≡◌, ◌∙◌, refl, sym, ap, subst, ℕ, Bool, true, cond, List, [], ◌∷◌, ◌++◌, Option, None, Some, arith}
 use Rattle.std.specs.Prelude.{find, IfSome, MatchOption}
 use Rattle.std.specs.Ordering.{is_le, is_lt, nat_cmp, ordering_then}
 use Rattle.std.specs.Cmp.Lexicographic.{slice_cmp}
 use Rattle.std.proofs.lemmas.Cmp.{ranked}
 use Rattle.std.specs.declared.cmp.Ordering.{Ordering}
 use Rattle.std.specs.declared.cmp.Ordering.TheVariants.{Less, Equal, Greater}
-use Rattle.entries.specs.{Pairs.Pair, Pairs.AreRising, Pairs.AreSound, Pairs.key_cmp, Pairs.first_from, Pairs.IsFirstOf, Pairs.NonePasses, Index.Goes, Index.AreKept}
+use Rattle.entries.specs.{Pairs.Pair, Pairs.AreSound, Pairs.key_cmp, Pairs.first_from, Pairs.IsFirstOf, Pairs.NonePasses, Index.AreKept}
 use Rattle.entries.proofs.Found.{first_is}
-use Rattle.inno_types.specs.declared.stmt.Bound.{Bound}
 use Rattle.row_search.specs.declared.scan.Scan.{Scan}
 use Rattle.row_locking.specs.Comes.{from_bytes, to_come, IsNextOf}
 
@@ -43,7 +42,8 @@ comes_from scan (Some passed) key = above passed key
 find_same : (test other : Pair → Bool) → ((pair : Pair) → test pair ≡ other pair) → (pairs : List Pair) → find test pairs ≡ find other pairs
 find_same test other same [] = refl
 find_same test other same (pair ∷ pairs) =
-    ap (λ b. cond b (Some pair) (find test pairs)) (same pair) ∙ ap (λ (rest : Option Pair). cond (other pair) (Some pair) rest) (find_same test other same pairs)
+    ap (λ b. cond b (Some pair) (find test pairs)) (same pair)
+    ∙ ap (λ (rest : Option Pair). cond (other pair) (Some pair) rest) (find_same test other same pairs)
 
 next_of : (passes : List ℕ → Bool) (found : Option Pair) (pairs : List Pair) → MatchOption found (NonePasses passes pairs) (IsFirstOf passes pairs)
     → IsNextOf passes found pairs

@@ -1,13 +1,11 @@
 -- The lock that a search asks for is one of its rule.
-use Rattle.std.proofs.Common.{arith, ◌≡◌, ◌≢◌, ◌∙◌, refl, sym, ap, subst, ℕ, ◌+◌, ◌*◌, ◌<◌, ◌==◌, Bool, true, false, ◌&&◌, not, List, length, Option, None, Some}
+use Rattle.std.proofs.Common.{arith, ◌≡◌, ◌≢◌, ◌∙◌, refl, ap, ℕ, ◌+◌, ◌*◌, ◌<◌, ◌==◌, Bool, true, false, ◌&&◌, not, List, Option, None, Some}
 use Rattle.std.proofs.lemmas.Bool.{eq-eqb, ne_eqb}
 use Rattle.std.specs.Prelude.{◌/◌, ◌%◌}
-use Rattle.inno_types.specs.{declared.lock.Mode.Mode, declared.lock.Level.Level, declared.lock.Spot.Spot, declared.value.Schema.Schema}
-use Rattle.inno_types.specs.{declared.stmt.Bound.Bound, declared.stmt.Range.Range, declared.stmt.Bound.TheVariants.Open, declared.stmt.Bound.TheVariants.With}
-use Rattle.inno_types.specs.Ranges.{is_within, is_from, is_up_to}
+use Rattle.inno_types.specs.{declared.lock.Spot.Spot, declared.value.Schema.Schema}
+use Rattle.inno_types.specs.{declared.stmt.Range.Range, declared.stmt.Bound.TheVariants.Open, declared.stmt.Bound.TheVariants.With}
 use Rattle.inno_db.specs.Indexes.{index_of}
-use Rattle.lock_rules.specs.declared.rule.Rule.{Rule}
-use Rattle.lock_rules.specs.declared.rule.Rule.TheVariants.{UniqueFound, UniqueMarked, UniqueAbsent, RangeRecord, PastRange, ClusteredOfEntry}
+use Rattle.lock_rules.specs.declared.rule.Rule.TheVariants.{ClusteredOfEntry}
 use Rattle.lock_rules.specs.declared.rule.Place.TheVariants.{Within, Past}
 use Rattle.lock_rules.specs.Kinds.{is_upper, same_mode, same_level}
 use Rattle.lock_rules.specs.Spots.{same_spot}
@@ -16,7 +14,7 @@ use Rattle.lock_rules.specs.Rules.{FitsItsRule}
 use Rattle.lock_rules.proofs.Beside.{key_refl, spot_refl}
 use Rattle.lock_table.proofs.Soundness.{mode_refl, item_refl}
 use Rattle.row_locking.specs.declared.asker.Asker.{Asker}
-use Rattle.row_locking.specs.Rules.{lock_by, IsForOneKey, TellsOneKey, rule_within, rule_past}
+use Rattle.row_locking.specs.Rules.{lock_by, TellsOneKey, rule_within, rule_past}
 use Rattle.row_locking.specs.Comes.{IsOnSide, LiesPast, key_at}
 use Rattle.row_locking.specs.declared.bounds.Side.TheVariants as side
 use Rattle.entries.specs.Pairs.{Pair}

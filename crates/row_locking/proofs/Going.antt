@@ -1,6 +1,5 @@
 -- What is left where a search has come to a pair or has read a record: its session may ask for a lock there, and may go on behind it.
-use Rattle.std.proofs.Common.{Vec, Global, arith, ◌≡◌, ◌≢◌, ◌∙◌, inl, inr, refl, sym, ap, subst, ℕ, ◌≤◌, ◌<◌, Bool, true, false, List, Option, None, Some, slice_get}
-use Rattle.std.specs.Prelude.{IfSome}
+use Rattle.std.proofs.Common.{Vec, Global, ◌∙◌, ap, ℕ, List, Option, slice_get}
 use Rattle.inno_types.specs.{declared.lock.Lock.Lock, declared.lock.Spot.Spot, declared.value.Schema.Schema}
 use Rattle.inno_db.specs.Indexes.{index_of}
 use Rattle.lock_rules.specs.declared.rule.Rule.{Rule}
@@ -9,7 +8,6 @@ use Rattle.lock_table.specs.Keys.{IsShort}
 use Rattle.lock_table.specs.Queue.{is_waiting}
 use Rattle.lock_table.specs.View.{Table, IsAskedFor}
 use Rattle.world.specs.{State.WorldState, Locks.MayAsk, Locks.Asks}
-use Rattle.world.specs.declared.lock_world.LockAnswer.{LockAnswer}
 use Rattle.world.specs.declared.lock_world.LockAnswer.TheVariants as answer
 use Rattle.row_search.specs.{declared.found.FoundRow.FoundRow, Steps.OnlyMoves}
 use Rattle.row_locking.specs.declared.search.LockingSearch.{LockingSearch}

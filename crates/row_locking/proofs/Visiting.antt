@@ -1,12 +1,13 @@
 -- How the steps end that are at one entry, whose clustered record is read and locked; what is kept of a record; and the sorting.
-use Rattle.std.proofs.Common.{Vec, Global, arith, zero, suc, ◌≡◌, ◌≢◌, ◌∙◌, ◌⊎◌, inl, inr, refl, sym, ap, subst, ℕ, ◌+◌, ◌-◌, ◌≤◌, ◌<◌, Bool, true, false, List}
+use Rattle.std.proofs.Common.{Vec, Global, arith, zero, suc, ◌≡◌, ◌≢◌, ◌∙◌, inl, inr, refl, sym, ap, ℕ, ◌-◌, ◌≤◌, ◌<◌, Bool, true, false, List}
 use Rattle.std.proofs.Common.{[], ◌∷◌, length, cond, nat_eq, Option, None, Some, slice_get, slice_index_or, Result, Ok, Err}
-use Rattle.std.specs.{Prelude.IfSome, Prelude.is_some, Prelude.drop, Ordering.is_lt, List.Sorted.IsPermutation, List.Sorted.IsSortedBy}
-use Rattle.inno_types.specs.{declared.lock.Lock.Lock, declared.lock.Spot.Spot, declared.value.Schema.Schema, declared.value.Value.Value, declared.value.Column.Column}
+use Rattle.std.specs.{Prelude.is_some, Prelude.drop}
+use Rattle.inno_types.specs.{declared.lock.Lock.Lock, declared.value.Schema.Schema, declared.value.Value.Value, declared.value.Column.Column}
 use Rattle.inno_types.specs.declared.value.Value.TheVariants.{Null}
 use Rattle.inno_types.specs.declared.value.Key.{Key}
 use Rattle.inno_db.specs.{Indexes.index_of, Database.key_of}
-use Rattle.store_api.specs.{declared.answers.Version.Version, declared.moves.Move.Move, declared.moves.Move.TheVariants.Done, declared.moves.Move.TheVariants.End}
+use Rattle.store_api.specs.{declared.answers.Version.Version, declared.moves.Move.Move, declared.moves.Move.TheVariants.Done}
+use Rattle.store_api.specs.{declared.moves.Move.TheVariants.End}
 use Rattle.key_codec.specs.Keys.{entry_code, key_code, key_width}
 use Rattle.row_codec.specs.{declared.read.Head.Head, Heads.version_head}
 use Rattle.std.specs.Cmp.Lexicographic.{pointwise, bytes_decides}
@@ -15,16 +16,15 @@ use Rattle.std.proofs.lemmas.Bool.{false≢true, ne_eqb}
 use Rattle.world.specs.Undoing.{IsUnchanged}
 use Rattle.law_stored_rows.specs.Records.{IsCodeOf}
 use Rattle.sql_plan.specs.Visits.{index_key, primary_key, entry_if, kind_at, kind_if}
-use Rattle.secondary.specs.Entries.{HasSecondary, entry_of, place_of, place_if, kind_at as kind_there, kind_if as kind_some}
-use Rattle.entries.specs.{Pairs.Pair, Pairs.key_cmp, Pairs.value_of, Calls.Fetches, Index.Told}
-use Rattle.lock_rules.specs.Rules.{number_of}
+use Rattle.secondary.specs.Entries.{HasSecondary, entry_of, place_if, kind_at as kind_there, kind_if as kind_some}
+use Rattle.entries.specs.{Calls.Fetches}
 use Rattle.lock_rules.specs.declared.rule.Rule.TheVariants.{ClusteredOfEntry}
 use Rattle.world.specs.{State.WorldState, Indexes.Calls, Locks.MayAsk, Locks.Asks}
 use Rattle.world.specs.declared.lock_world.LockAnswer.TheVariants as answer
 use Rattle.row_search.specs.{declared.found.FoundRow.FoundRow, Ranges.primary_part, Steps.OnlyMoves}
 use Rattle.row_search.proofs.Goes.{unchanged_itself, call_unchanged, moves_unchanged, fetch_put_off}
 use Rattle.row_locking.specs.declared.search.LockingSearch.{LockingSearch}
-use Rattle.row_locking.specs.declared.phase.LockingPhase.TheVariants.{Next, Row, Sort, Leave}
+use Rattle.row_locking.specs.declared.phase.LockingPhase.TheVariants.{Row}
 use Rattle.row_locking.specs.Rules.{lock_by}
 use Rattle.row_locking.specs.Searches.{MayLock}
 use Rattle.row_locking.specs.Comes.{Reads}
@@ -105,7 +105,8 @@ stays : (machine : LockingSearch) {old met : WorldState} → IsUnchanged old met
     → OnlyMoves machine.asker.session (index_of machine.scan.table machine.scan.which) old met
 stays machine same = moves_unchanged machine.asker.session (index_of machine.scan.table machine.scan.which) _ _ same
 
-pub fetch_off : {old met : WorldState} (machine : LockingSearch) (entry key read : List ℕ) (now : ℕ) (why : Move) → Fetched machine key read old met why → why ≢ Done → why ≢ End
+pub fetch_off : {old met : WorldState} (machine : LockingSearch) (entry key read : List ℕ) (now : ℕ) (why : Move)
+    → Fetched machine key read old met why → why ≢ Done → why ≢ End
     → IsHindered now old met (at_entry machine entry) (at_entry machine entry)
 fetch_off {old} {met} machine entry key read now why c not_done not_end = record {
   same = record { same_is = refl; rows_are = refl };

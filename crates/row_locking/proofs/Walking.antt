@@ -1,14 +1,13 @@
 -- How the steps end that go along the searched index: before its range, at a record or an entry in it, and past it.
-use Rattle.std.proofs.Common.{Vec, Global, arith, ◌≡◌, ◌≢◌, ◌∙◌, inl, inr, refl, sym, ap, subst, ℕ, ◌≤◌, ◌<◌, ◌==◌, Bool, true, false, ◌&&◌, ◌||◌, not, List, [], ◌∷◌, length, Option, None, Some}
-use Rattle.std.specs.Prelude.{IfSome, is_none, is_some}
+use Rattle.std.proofs.Common.{Vec, Global, ◌≡◌, ◌≢◌, ◌∙◌, inl, inr, refl, sym, ap, subst, ℕ, ◌≤◌, ◌==◌, Bool, true, false, ◌&&◌, ◌||◌, not, List, [], ◌∷◌}
+use Rattle.std.proofs.Common.{length, Option, None, Some}
+use Rattle.std.specs.Prelude.{is_none, is_some}
 use Rattle.inno_types.specs.{declared.lock.Lock.Lock, declared.lock.Spot.Spot, declared.value.Schema.Schema}
 use Rattle.inno_db.specs.Indexes.{index_of}
 use Rattle.store_api.specs.declared.moves.Move.{Move}
 use Rattle.store_api.specs.declared.moves.Move.TheVariants.{At, End}
 use Rattle.entries.specs.{Pairs.Pair, Calls.Seeks}
 use Rattle.lock_rules.specs.Rules.{number_of}
-use Rattle.lock_rules.specs.declared.rule.Rule.{Rule}
-use Rattle.lock_rules.specs.declared.rule.Rule.TheVariants.{UniqueFound, UniqueMarked, UniqueAbsent, RangeRecord, PastRange}
 use Rattle.lock_table.specs.{View.Table, View.IsAskedFor, View.must_wait, Queue.is_covered}
 use Rattle.lock_rules.specs.{Conflicts.conflicts, Conflicts.kind_of, Conflicts.kinds_conflict, Spots.same_spot}
 use Rattle.inno_types.specs.{declared.lock.Mode.Mode, declared.lock.LockKind.LockKind, declared.lock.LockKind.TheVariants.Gap}
@@ -18,17 +17,17 @@ use Rattle.std.proofs.lemmas.Bool.{false≢true, eq-eqb}
 use Rattle.lock_rules.proofs.Booleans.{and_false}
 use Rattle.world.specs.{State.WorldState, Indexes.Calls, Locks.MayAsk, Locks.Asks}
 use Rattle.world.specs.declared.lock_world.LockAnswer.TheVariants as answer
-use Rattle.row_search.specs.{declared.found.FoundRow.FoundRow, Steps.OnlyMoves}
+use Rattle.row_search.specs.{declared.found.FoundRow.FoundRow}
 use Rattle.row_search.proofs.Goes.{call_moves, call_unchanged, moves_unchanged, seek_put_off}
 use Rattle.row_locking.specs.declared.search.LockingSearch.{LockingSearch}
-use Rattle.row_locking.specs.declared.phase.LockingPhase.TheVariants.{Next, Row, Sort}
-use Rattle.row_locking.specs.declared.bounds.Side.TheVariants.{Before, Within, Behind}
+use Rattle.row_locking.specs.declared.phase.LockingPhase.TheVariants.{Next}
+use Rattle.row_locking.specs.declared.bounds.Side.TheVariants.{Within, Behind}
 use Rattle.row_locking.specs.Rules.{lock_by, TellsOneKey, rule_within, rule_past}
 use Rattle.row_locking.specs.Searches.{MayLock, PhaseMay}
-use Rattle.row_locking.specs.Comes.{IsOnSide, LiesPast, Meets, IsPast, from_bytes, key_at}
-use Rattle.row_locking.specs.Kept.{IsKept, IsNoRecord, kept_with}
+use Rattle.row_locking.specs.Comes.{IsOnSide, Meets, IsPast, from_bytes}
+use Rattle.row_locking.specs.Kept.{IsKept, kept_with}
 use Rattle.row_locking.specs.Steps.{GoesOn, IsHindered, HasToWait, phase_behind}
-use Rattle.row_locking.proofs.{Fits.fits_within, Fits.fits_past, Coming.next_told, Going.may_still, Going.may_ask, Going.may_behind}
+use Rattle.row_locking.proofs.{Fits.fits_within, Fits.fits_past, Coming.next_told, Going.may_ask, Going.may_behind}
 
 abbrev pub index_in : LockingSearch → ℕ
 index_in search = index_of search.scan.table search.scan.which
@@ -53,7 +52,8 @@ module _ {schema : Schema} {old new : WorldState} (search : LockingSearch) (may 
   met_at key value c = record {
     may = may;
     moves = call_moves c search.asker.session (key, value) c.index_is.here.1;
-    next = next_told search.scan search.passed (Some (key, value)) (old.indexes (index_in search)).pairs (new.indexes (index_in search)).pairs (rw from_is at c.index_is.here.0)
+    next = next_told search.scan search.passed (Some (key, value)) (old.indexes (index_in search)).pairs (new.indexes (index_in search)).pairs
+        (rw from_is at c.index_is.here.0)
         c.index_is.here.1.pairs c.index_is.sound;
   }
 
@@ -61,11 +61,13 @@ module _ {schema : Schema} {old new : WorldState} (search : LockingSearch) (may 
   met_end c = record {
     may = may;
     moves = moves_unchanged search.asker.session (index_in search) old new (call_unchanged c c.index_is.here.1);
-    next = next_told search.scan search.passed None (old.indexes (index_in search)).pairs (new.indexes (index_in search)).pairs (rw from_is at c.index_is.here.0)
+    next = next_told search.scan search.passed None (old.indexes (index_in search)).pairs (new.indexes (index_in search)).pairs
+        (rw from_is at c.index_is.here.0)
         c.index_is.here.1.pairs c.index_is.sound;
   }
 
-  pub put_off : (now : ℕ) (why : Move) → Sought search from old new why → ((key value : List ℕ) → why ≢ At key value) → why ≢ End → IsHindered now old new search search
+  pub put_off : (now : ℕ) (why : Move) → Sought search from old new why → ((key value : List ℕ) → why ≢ At key value) → why ≢ End
+      → IsHindered now old new search search
   put_off now why c not_at not_end = record {
     same = record { same_is = refl; rows_are = refl };
     met = new;

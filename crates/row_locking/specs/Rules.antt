@@ -1,5 +1,5 @@
 -- The lock that a search asks for: by which rule, and in whose name.
-use Rattle.std.specs.Prelude.{◌≡◌, ℕ, ◌≤◌, Bool, true, false, List, length, if◌then◌else◌}
+use Rattle.std.specs.Prelude.{◌≡◌, ℕ, ◌≤◌, Bool, true, false, List, length}
 use Rattle.inno_types.specs.{declared.lock.Lock.Lock, declared.lock.Spot.Spot, declared.value.Schema.Schema, declared.stmt.Range.Range}
 use Rattle.inno_types.specs.declared.stmt.Bound.TheVariants.{With}
 use Rattle.key_codec.specs.Keys.{key_width}

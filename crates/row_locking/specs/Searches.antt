@@ -1,5 +1,5 @@
 -- When a search that locks may go on.
-use Rattle.std.specs.Prelude.{◌≡◌, ◌≢◌, ℕ, ◌≤◌, ◌<◌, true, false, length, Some, slice_get}
+use Rattle.std.specs.Prelude.{◌≡◌, ◌≢◌, ◌≤◌, ◌<◌, true, false, length, Some, slice_get}
 use Rattle.inno_types.specs.declared.value.Schema.{Schema}
 use Rattle.lock_rules.specs.Kinds.{is_upper}
 use Rattle.lock_table.specs.Queue.{is_waiting}

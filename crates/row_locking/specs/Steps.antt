@@ -3,15 +3,15 @@ use Rattle.std.specs.Prelude.{◌≡◌, ◌≢◌, ◌⊎◌, ℕ, ◌<◌, Boo
 use Rattle.std.specs.List.Sorted.{IsPermutation, IsSortedBy}
 use Rattle.std.specs.Ordering.{is_lt}
 use Rattle.std.specs.{declared.vec.Vec.Vec, declared.alloc.Global.Global}
-use Rattle.inno_types.specs.{declared.lock.Lock.Lock, declared.value.Schema.Schema, declared.stmt.Range.Range}
+use Rattle.inno_types.specs.{declared.lock.Lock.Lock, declared.value.Schema.Schema}
 use Rattle.inno_db.specs.Indexes.{index_of}
-use Rattle.store_api.specs.{declared.moves.Move.Move, declared.stepped.Stepped.Stepped}
+use Rattle.store_api.specs.{declared.stepped.Stepped.Stepped}
 use Rattle.store_api.specs.declared.moves.Move.TheVariants.{NoMemory}
 use Rattle.store_api.specs.declared.stepped.Stepped.TheVariants.{Went, Done, Hindered}
-use Rattle.entries.specs.{Pairs.Pair, Pairs.key_cmp, Pairs.value_of, Index.Told, Calls.Leaves}
+use Rattle.entries.specs.{Pairs.Pair, Pairs.key_cmp, Calls.Leaves}
 use Rattle.row_codec.specs.declared.refused.RowBad.{RowBad}
 use Rattle.row_codec.specs.declared.refused.RowBad.TheVariants as bad
-use Rattle.lock_rules.specs.declared.rule.Rule.TheVariants.{RangeRecord, ClusteredOfEntry}
+use Rattle.lock_rules.specs.declared.rule.Rule.TheVariants.{ClusteredOfEntry}
 use Rattle.world.specs.{State.WorldState, Indexes.Calls, Locks.Asks}
 use Rattle.world.specs.declared.lock_world.LockAnswer.TheVariants as answer
 use Rattle.row_search.specs.{declared.found.FoundRow.FoundRow, Ranges.primary_part, Steps.OnlyMoves}

@@ -4,7 +4,8 @@ use Rattle.row_locking.proofs.Walking.{met_at, met_end, met_supremum, put_off}
 use Rattle.row_locking.proofs.search.LockingSearch.next.Goals as goal
 
 pub meet-requires : goal.meet-requires
-meet-requires g c = (_, met_at _ c.requires c.in-Ok.from c.in-Ok.ensures c.in-At.key c.in-At.value (rw (c.index-index.ensures, c.in-At.is) at c.seek-found.ensures))
+meet-requires g c =
+    (_, met_at _ c.requires c.in-Ok.from c.in-Ok.ensures c.in-At.key c.in-At.value (rw (c.index-index.ensures, c.in-At.is) at c.seek-found.ensures))
 
 pub returns-in-At : goal.returns-in-At
 returns-in-At g c =
