@@ -1,0 +1,5 @@
+pub mod Fits
+pub mod Coming
+pub mod Going
+pub mod Walking
+pub mod Visiting
