@@ -6,3 +6,4 @@ pub mod Sums
 pub mod Seen
 pub mod Found
 pub mod Changed
+pub mod Reached

@@ -3,13 +3,13 @@ use Rattle.std.proofs.Common.{◌≡◌, true, ap}
 use Rattle.std.specs.Prelude.{◌==◌, ◌&&◌, ◌||◌, not}
 use Rattle.inno_types.specs.declared.lock.Lock.{Lock}
 use Rattle.inno_types.specs.declared.lock.Spot.{Spot}
-use Rattle.lock_rules.specs.Kinds.{is_shared, same_kind, same_mode}
+use Rattle.lock_rules.specs.Kinds.{is_shared, locks_gap, same_kind, same_mode}
 use Rattle.lock_rules.specs.Spots.{same_spot}
 use Rattle.lock_rules.specs.Conflicts.{conflicts, covers, same_lock, same_reason, kinds_conflict, kind_covers, kind_of}
 use Rattle.lock_rules.proofs.Booleans.{first, second}
 use Rattle.lock_rules.proofs.Beside.{spot_same}
 use Rattle.lock_lists.specs.declared.sought.Sought.{Sought}
-use Rattle.lock_lists.specs.declared.sought.Sought.TheVariants.{Blocking, Covering, CoveringOne, Same, At}
+use Rattle.lock_lists.specs.declared.sought.Sought.TheVariants.{Blocking, Covering, CoveringOne, Same, At, OwnGap}
 use Rattle.lock_lists.specs.Places.{sum_of}
 use Rattle.lock_lists.specs.Looking.{passes, spot_of}
 
@@ -43,3 +43,7 @@ passes_here (Covering asked) lock is = covers_here lock asked.now is
 passes_here (CoveringOne asked) lock is = covers_here lock asked.now is
 passes_here (Same other) lock is = same_here lock other.now is
 passes_here (At spot) lock is = same_sum lock.spot spot.now is
+passes_here (OwnGap txn spot) lock is =
+    let own = lock.txn == txn in
+    let here = same_spot lock.spot spot.now in
+    same_sum lock.spot spot.now (second own here (first (own && here) (locks_gap lock.kind) is))

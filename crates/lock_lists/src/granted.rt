@@ -106,6 +106,8 @@ impl GrantedLocks {
     pub fn next(&self, sought: Sought<'_>, from: usize) -> Option<usize>
         ensures found { IfSome result (λ place. IsFirst (passes sought.entry) self.now.places from place) }
         ensures none { IfNone result (HasNoneFrom (passes sought.entry) self.now.places from) }
+        ensures few { length self.now.places ≤ self.now.room + self.now.room }
+        ensures fits { self.now.room + self.now.room < 2 ^ 64 }
     {
         if self.room == 0 {
             return None;
@@ -211,7 +213,9 @@ impl GrantedLocks {
     /// Adds a lock behind all others. There is a place for it.
     pub fn push(&mut self, lock: KeptLock)
         requires { HasFree 1 self.old }
-        ensures { self.new ≡ record self.old { places = self.old.places ++ Some lock ∷ [] } }
+        ensures same { self.new ≡ record self.old { places = self.old.places ++ Some lock ∷ [] } }
+        ensures locks { locks_of self.new.places ≡ locks_of self.old.places ++ lock ∷ [] }
+        ensures longer { length self.new.places ≡ length self.old.places + 1 }
     {
         let spot = bucket_of(lock.sum(), self.spots.room());
         let owner = bucket_of(lock.txn(), self.txns.room());

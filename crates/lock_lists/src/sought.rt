@@ -7,6 +7,7 @@ ghost use Rattle.lock_lists.specs.Places.{sum_of, holds_at};
 
 use crate::kept::{KeptLock, sum_of};
 use inno_types::{Lock, Spot};
+use lock_rules::locks_gap;
 
 /// The locks that are looked for.
 #[derive(Clone, Copy)]
@@ -21,6 +22,8 @@ pub enum Sought<'a> {
     Same(&'a Lock),
     /// Those on this spot.
     At(&'a Spot),
+    /// Those of the transaction, of the gap before this spot.
+    OwnGap(u64, &'a Spot),
 }
 
 impl Sought<'_> {
@@ -34,6 +37,9 @@ impl Sought<'_> {
             Sought::CoveringOne(asked) => lock.covers_lock(asked),
             Sought::Same(other) => lock.is_same(other),
             Sought::At(spot) => lock.is_at(spot),
+            Sought::OwnGap(txn, spot) => {
+                lock.txn() == txn && lock.is_at(spot) && locks_gap(lock.kind())
+            }
         }
     }
 
@@ -54,7 +60,7 @@ impl Sought<'_> {
         match self {
             Sought::Blocking(asked) | Sought::Covering(asked) => asked.sum(),
             Sought::CoveringOne(asked) | Sought::Same(asked) => sum_of(&asked.spot),
-            Sought::At(spot) => sum_of(spot),
+            Sought::At(spot) | Sought::OwnGap(_, spot) => sum_of(spot),
         }
     }
 }

@@ -4,11 +4,24 @@ use Rattle.std.proofs.lemmas.List.{get_or_read}
 use Rattle.lock_lists.specs.Last.{IsLast}
 use Rattle.lock_lists.specs.Looking.{passes, spot_of}
 use Rattle.lock_lists.specs.Places.{holds_at, sum_of}
-use Rattle.lock_lists.proofs.Found.{seen_on, seen_here}
+use Rattle.lock_lists.proofs.Found.{seen_first, seen_on, seen_here}
 use Rattle.lock_lists.proofs.Seen.{IsSeen}
 use Rattle.lock_lists.proofs.Sums.{passes_here}
 use Rattle.lock_lists.proofs.granted.GrantedLocks.next.Goals as goal
 use Rattle.lock_lists.proofs.granted.GrantedLocks.next.Goals.{then-stands_at, else-stands_at}
+
+pub loop-end-init : goal.loop-end-init
+loop-end-init c =
+    let places = c.self.inside.places.items in
+    let spots = c.self.inside.spots in
+    let sum = sum_of (spot_of c.args.sought) in
+    let bucket : c.bucket_of-bucket.result ≡ sum % spots.room =
+    c.bucket_of-bucket.ensures.same ∙ ap (λ n. n % c.room.result) c.sum.ensures ∙ ap (λ n. sum % n) c.room.ensures in
+    let long : c.len.result ≡ length places = omega (arith, c.len.ensures, c.self.inside.places.ok.0) in
+    let end = c.last_before-end.result in
+    let last : IsLast (sum % spots.room) spots.marks c.len.result end = subst (λ b. IsLast b spots.marks c.len.result end) bucket c.last_before-end.ensures in
+    seen_first places spots c.self.inside.txns c.self.invariant.chained (passes c.args.sought) sum (passes_here c.args.sought) c.args.from end
+    (subst (λ n. IsLast (sum % spots.room) spots.marks n end) long last)
 
 pub loop-end-preserved : goal.loop-end-preserved
 loop-end-preserved c =

@@ -40,3 +40,13 @@ invariant_of-self c =
       holds = omega (arith, kept.holds, c.push_reserved.ensures.capacity);
       fits = kept.fits;
     }
+
+pub returns-clause-locks : goal.returns-clause-locks
+returns-clause-locks c =
+    let places = c.self.inside.places.items in
+    ap locks_of c.push_reserved.ensures.items ∙ locks_append places (Some c.args.lock ∷ []) ∙ ap (λ (g : Granted). locks_of g.places ++ c.args.lock ∷ []) c.self.view_is
+
+pub returns-clause-longer : goal.returns-clause-longer
+returns-clause-longer c =
+    let places = c.self.inside.places.items in
+    omega (arith, ap length c.push_reserved.ensures.items, length-append places (Some c.args.lock ∷ []), ap (λ (g : Granted). length g.places) c.self.view_is)
