@@ -1,1 +1,4 @@
 pub mod Last
+pub mod Keys
+pub mod Places
+pub mod Looking

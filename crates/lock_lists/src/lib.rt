@@ -1,9 +1,13 @@
-//! Places of a list by bucket, each linked to the next older one of its bucket: so those of one bucket are walked without the others.
-//! Made for the granted locks of a lock table, whose buckets are those of their spots. No crate uses it yet.
+//! Granted locks in order of grant, found by their spots and by their transactions, without a walk of the others.
+//! Made for a lock table, which keeps its granted locks so from the next step on. No crate uses it yet.
 #![tactic(auto)]
 
 mod chains;
-mod laws;
+mod granted;
+mod kept;
+mod sought;
 
 pub use chains::Chains;
-pub use laws::no_place_lies_between;
+pub use granted::GrantedLocks;
+pub use kept::KeptLock;
+pub use sought::Sought;
